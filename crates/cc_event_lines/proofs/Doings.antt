@@ -3,13 +3,15 @@ use Rattle.std.specs.Prelude.{◌≡◌, ℕ, ◌||◌, List, refl}
 use Rattle.std.specs.declared.option.Option.{Option}
 use Rattle.std.specs.declared.option.Option.TheVariants.{Some, None}
 use Rattle.std.specs.Option.{option_map}
+use Rattle.std.proofs.Common.{sym}
+use Rattle.std.proofs.lemmas.Option.{same_Some}
 use Rattle.cc_entry.specs.Kinds.{is_map, is_pin, is_repin, is_read_chain, is_write_chain}
 use Rattle.cc_entry.specs.declared.call.Call.{Call}
 use Rattle.cc_entry.specs.declared.call.Call.TheVariants as call
 use Rattle.cc_script.specs.declared.script.Action.{Action}
 use Rattle.cc_script.specs.declared.script.Action.TheVariants as action
 use Rattle.cc_pieces.specs.Bindings.{Binding, hold_named}
-use Rattle.cc_pieces.specs.Events.{doing_of, held_read, on_hold}
+use Rattle.cc_pieces.specs.Events.{Doing, doing_of, held_read, on_hold}
 use Rattle.cc_event_lines.specs.Doing.{call_on_file, call_on_hold, call_on_range, called_on, doing_made, event_in, read_on, written_by}
 
 -- a call on a hold, and a read of mapped bytes or else of pinned ones
@@ -88,3 +90,12 @@ on-hold Q me bindings action.Scan none_first none_range none_file none_written =
 on-hold Q me bindings (action.CanWrite file bytes) none_first none_range none_file none_written = absurd (some-none _ none_file)
 on-hold Q me bindings (action.Defer file bytes retrying) none_first none_range none_file none_written = absurd (some-none _ none_first)
 on-hold Q me bindings action.Post none_first none_range none_file none_written = absurd (some-none _ none_first)
+
+-- a line whose bytes are copied is what was made of it with them
+pub written-as : (me : ℕ) (bindings : List Binding) (asked : Action) (it : Doing) → written_by me bindings asked ≡ Some it → it ≡ doing_of me bindings asked
+written-as me bindings (action.CopyWrite file at bytes) it is = sym (same_Some _ it is)
+written-as me bindings (action.PinnedWrite word at bytes) it is = sym (same_Some _ it is)
+written-as me bindings (action.MdlStore word at bytes) it is = sym (same_Some _ it is)
+written-as me bindings (action.NcStorePage file page bytes) it is = sym (same_Some _ it is)
+written-as me bindings (action.Append handle bytes) it is = sym (same_Some _ it is)
+written-as me bindings other it is = absurd (cc)

@@ -37,7 +37,7 @@ wrote-marked me s first size valid end old new is =
     }) in
     rw its at marked
 
-synced-marked : (me s first size valid : ℕ) (end : End) (old new : List Entry) → SyncedRecord me s first size valid end old new → Marked me (Recorded s size valid how.Good ∷ []) old new
+pub synced-marked : (me s first size valid : ℕ) (end : End) (old new : List Entry) → SyncedRecord me s first size valid end old new → Marked me (Recorded s size valid how.Good ∷ []) old new
 synced-marked me s first size valid end old new is =
     marked-then me (Recorded s size valid how.Good ∷ []) [] old is.written new
     (wrote-marked me s first size valid how.Good old is.written is.wrote)

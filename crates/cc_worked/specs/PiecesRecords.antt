@@ -49,18 +49,18 @@ settles_without = synced 1 ∷ flushed_behind two_full
 abbrev pub settles_first : List Entry
 settles_first = synced 1 ∷ done 1 2 (call.Flush a None) ∷ synced 1 ∷ recorded 8192 8192 how.Good ∷ tells two_full
 
--- another caller makes a byte valid behind the flush, which the record does not tell
-abbrev pub settles_less : List Entry
-settles_less =
+-- another caller makes a byte valid behind the flush, and the record tells so many bytes
+abbrev pub settles_beside : ℕ → List Entry
+settles_beside valid =
     synced 1
-    ∷ recorded 8192 4096 how.Good
+    ∷ recorded 8192 valid how.Good
     ∷ done 2 1 (call.CopyWrite a 4096 (171 ∷ []))
     ∷ entry.PageIn 2 (page 1) false
     ∷ flushed_behind one_page_valid
 
--- what a stream of 8192 bytes tells, of which 5001 are valid
-abbrev pub less_valid : FileState
-less_valid = record { sizes = sized 8192 5001; log = None }
+-- what a stream of 8192 bytes tells, of which so many are valid
+abbrev pub valid_up_to : ℕ → FileState
+valid_up_to valid = record { sizes = sized 8192 valid; log = None }
 
 -- the settling told this
 abbrev pub told_state : FileState → Answer

@@ -12,7 +12,8 @@ ghost use Rattle.cc_worked.specs.PiecesReads.{two_pages, first_resident, a_byte}
 ghost use Rattle.cc_worked.specs.PiecesShim.{logged, state_is_refused};
 ghost use Rattle.cc_worked.specs.PiecesRuns.{two_full};
 ghost use Rattle.cc_worked.specs.PiecesLocks.{LockLine, UnlockLine, ReadLine, WriteLine, UpdateLine, LastRead};
-ghost use Rattle.cc_worked.specs.PiecesLocks.{tells, tested_by, update_tested, read_behind, read_untested, written_behind, last_byte, uncut_test};
+ghost use Rattle.cc_worked.specs.PiecesLocks.{tells, tested_by, read_behind, read_untested};
+ghost use Rattle.cc_worked.specs.PiecesLocks.{update_tested, written_behind, last_byte, uncut_test};
 
 /// A line that makes or ends a lock leaves one entry, which is of its words and tells its answer; one that is refused for want of
 /// memory leaves none.

@@ -10,7 +10,7 @@ ghost use Rattle.cc_worked.specs.PiecesReads.{first_resident, one_valid};
 ghost use Rattle.cc_worked.specs.PiecesShim.{one_page_valid};
 ghost use Rattle.cc_worked.specs.PiecesRuns.{opens, two_full};
 ghost use Rattle.cc_worked.specs.PiecesRecords.{SettleLine, record_ends, settles_with, settles, settles_without, settles_first};
-ghost use Rattle.cc_worked.specs.PiecesRecords.{settles_less, less_valid, told_state};
+ghost use Rattle.cc_worked.specs.PiecesRecords.{settles_beside, valid_up_to, told_state};
 ghost use Rattle.cc_worked.specs.PiecesRecords.{first_versions, StoredStream, record_fails, opens_recorded, migrates};
 
 /// A line that settles a stream has its state, its flush, the write of its record and a sync, in this order; it is told what the
@@ -18,14 +18,15 @@ ghost use Rattle.cc_worked.specs.PiecesRecords.{first_versions, StoredStream, re
 /// written is told of the record's page.
 pub fn settling_leaves_its_record()
     ensures settled { Leaves SettleLine (told_state two_full) first_resident settles }
-    ensures lesser { Leaves SettleLine (told_state one_page_valid) one_valid settles_less }
+    ensures lesser { Leaves SettleLine (told_state one_page_valid) one_valid (settles_beside 4096) }
+    ensures not_more { Leaves SettleLine (told_state (valid_up_to 4097)) one_valid (settles_beside 4097) → ⊥ }
     ensures failed { Leaves SettleLine (answer.Refused (error.WriteFault 2251799813685248))
         first_resident (record_ends (recorded 8192 8192 how.Failed)) }
     ensures not_without_record { Leaves SettleLine (told_state two_full) first_resident settles_without → ⊥ }
     ensures not_before_flush { Leaves SettleLine (told_state two_full) first_resident settles_first → ⊥ }
     ensures not_unsynced { Leaves SettleLine (told_state two_full)
         first_resident (record_ends (recorded 8192 8192 how.Good)) → ⊥ }
-    ensures no_other_length { Leaves SettleLine (told_state less_valid) first_resident settles → ⊥ }
+    ensures no_other_length { Leaves SettleLine (told_state (valid_up_to 5001)) first_resident settles → ⊥ }
     ensures not_failed { Leaves SettleLine (told_state two_full)
         first_resident (settles_with (recorded 8192 8192 how.Failed)) → ⊥ }
     ensures no_other_page { Leaves SettleLine (answer.Refused (error.WriteFault 0))

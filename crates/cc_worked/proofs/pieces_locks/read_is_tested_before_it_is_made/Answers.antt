@@ -1,5 +1,5 @@
 -- The state, the test and the read, each by its end; a wrong read by what stands newest, or by what it shows.
-use Rattle.std.specs.Prelude.{◌≡◌, ℕ, true, false, List, [], ◌∷◌, ◌++◌, refl}
+use Rattle.std.specs.Prelude.{◌≡◌, ℕ, false, List, [], ◌∷◌, ◌++◌, refl}
 use Rattle.std.specs.declared.option.Option.TheVariants.{Some, None}
 use Rattle.std.proofs.Common.{ap, arith, inl, inr}
 use Rattle.cc_entry.specs.Place.{File, Range}
@@ -8,7 +8,6 @@ use Rattle.cc_entry.specs.declared.call.Call.TheVariants as call
 use Rattle.cc_entry.specs.declared.error.CcError.TheVariants as error
 use Rattle.cc_entry.specs.declared.reply.Outcome.TheVariants as outcome
 use Rattle.cc_entry.specs.declared.entry.Entry.{Entry}
-use Rattle.cc_entry.specs.declared.entry.Entry.TheVariants as entry
 use Rattle.cc_script.specs.declared.script.ReadPath.TheVariants.{Cached}
 use Rattle.cc_effects.proofs.Starts.{begins, ends_done, ends_refused}
 use Rattle.cc_pieces.specs.Locks.{tested_range}

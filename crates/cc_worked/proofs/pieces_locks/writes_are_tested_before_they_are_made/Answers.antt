@@ -1,5 +1,5 @@
 -- The state, the test and the write's calls, each by its end; a wrong write by its test, which stands newest.
-use Rattle.std.specs.Prelude.{◌≡◌, ℕ, true, false, List, [], ◌∷◌, ◌++◌, refl}
+use Rattle.std.specs.Prelude.{◌≡◌, ℕ, false, [], ◌∷◌, ◌++◌, refl}
 use Rattle.std.specs.declared.option.Option.TheVariants.{Some, None}
 use Rattle.std.proofs.Common.{ap, arith, inl, inr}
 use Rattle.cc_entry.specs.Place.{Range}

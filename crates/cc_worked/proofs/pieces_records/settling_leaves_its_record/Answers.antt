@@ -1,7 +1,8 @@
 -- The state, the flush, the record and the sync, each by its end; a wrong settling by what it shows, or by what stands newest.
-use Rattle.std.specs.Prelude.{◌≡◌, ℕ, ◌^◌, true, false, List, [], ◌∷◌, ◌++◌, refl}
+use Rattle.std.specs.Prelude.{◌≡◌, ℕ, zero, suc, ◌^◌, ◌≤◌, true, false, List, [], ◌∷◌, ◌++◌, length, take, drop, refl}
 use Rattle.std.specs.declared.option.Option.TheVariants.{Some, None}
-use Rattle.std.proofs.Common.{ap, arith, inl, inr}
+use Rattle.std.proofs.Common.{ap, append_assoc, arith, inl, inr, subst, sym, ◌∙◌}
+use Rattle.std.proofs.lemmas.List.{append_cancel_right}
 use Rattle.cc_entry.specs.declared.place.FileState.{FileState}
 use Rattle.cc_entry.specs.declared.call.Call.TheVariants as call
 use Rattle.cc_entry.specs.declared.error.CcError.TheVariants as error
@@ -10,6 +11,8 @@ use Rattle.cc_entry.specs.declared.reply.Outcome.TheVariants as outcome
 use Rattle.cc_entry.specs.declared.entry.End.TheVariants as how
 use Rattle.cc_entry.specs.declared.entry.Entry.{Entry}
 use Rattle.cc_entry.specs.declared.entry.Entry.TheVariants as entry
+use Rattle.cc_model.specs.History.{history}
+use Rattle.cc_model.specs.Touches.{valid_of}
 use Rattle.cc_effects.specs.Asked.{is_admitted}
 use Rattle.cc_effects.proofs.Starts.{done_by}
 use Rattle.cc_effects.proofs.Stretches.{idle-none, some-begin}
@@ -20,13 +23,23 @@ use Rattle.cc_worked.specs.PiecesReads.{first_resident, one_valid}
 use Rattle.cc_worked.specs.PiecesShim.{one_page_valid}
 use Rattle.cc_worked.specs.PiecesRuns.{two_full}
 use Rattle.cc_worked.specs.PiecesLocks.{tells}
-use Rattle.cc_worked.specs.PiecesRecords.{flushed_behind, record_ends, settles, settles_first, settles_less, settles_with, settles_without, less_valid}
+use Rattle.cc_worked.specs.PiecesRecords.{flushed_behind, record_ends, settles, settles_beside, settles_first, settles_with, settles_without, valid_up_to}
 use Rattle.cc_worked.proofs.PiecesOpened.{computed}
 use Rattle.cc_worked.proofs.LockMarks.{alone, newest}
-use Rattle.cc_worked.proofs.Marks.{Ended, Mark, marked-call, marked-idle, marked-then, marks, shows}
-use Rattle.cc_worked.proofs.RecordMarks.{settle-marked, settle_marks}
+use Rattle.cc_worked.proofs.Marks.{Ended, Mark, Recorded, marked-call, marked-idle, marked-then, marks, shows}
+use Rattle.cc_worked.proofs.RecordMarks.{settle-marked, settle_marks, synced-marked}
 use Rattle.cc_worked.proofs.StateAsked.{state-told}
 use Rattle.cc_worked.proofs.pieces_records.settling_leaves_its_record.Goals as goal
+
+-- marks of the calls of a settling
+abbrev told : FileState → Mark
+told state = Ended (call.State a) (outcome.Done (reply.State state))
+
+abbrev flush_mark : Mark
+flush_mark = Ended (call.Flush a None) (outcome.Done reply.Unit)
+
+abbrev fails : Mark
+fails = Ended (call.Flush a None) (outcome.Failed (error.WriteFault 0))
 
 -- a stream without dirty pages is flushed behind its state
 flushed_full : HasFlushed setup 1 a two_full (tells two_full ++ first_resident) first_resident (flushed_behind two_full ++ first_resident)
@@ -92,6 +105,43 @@ returns-clause-lesser c =
       log = refl;
     }
 
+-- a stretch is parted where so many entries of it end
+split-take : (later earlier : List Entry) → take (length later) (later ++ earlier) ≡ later
+split-take [] earlier = refl
+split-take (e ∷ later) earlier = ap (λ (l : List Entry). e ∷ l) (split-take later earlier)
+
+split-drop : (later earlier : List Entry) → drop (length later) (later ++ earlier) ≡ earlier
+split-drop [] earlier = refl
+split-drop (e ∷ later) earlier = split-drop later earlier
+
+-- where the flush is still to come, no more bytes are valid than at first
+few-valid : (n : ℕ) (rest : List Mark) → marks 1 (take n (settles_beside 4097)) ≡ flush_mark ∷ rest → valid_of (history (drop n (settles_beside 4097) ++ one_valid) 0) ≤ 4096
+unfolding computed
+few-valid zero rest same = absurd (cc)
+few-valid (suc zero) rest same = absurd (cc)
+few-valid (suc (suc zero)) rest same = absurd (cc)
+few-valid (suc (suc (suc zero))) rest same = absurd (cc)
+few-valid (suc (suc (suc (suc zero)))) rest same = absurd (cc)
+few-valid (suc (suc (suc (suc (suc zero))))) rest same = omega arith
+few-valid (suc (suc (suc (suc (suc (suc zero)))))) rest same = omega arith
+few-valid (suc (suc (suc (suc (suc (suc (suc zero))))))) rest same = omega arith
+few-valid (suc (suc (suc (suc (suc (suc (suc (suc n)))))))) rest same = omega arith
+
+pub returns-clause-not_more : goal.returns-clause-not_more
+returns-clause-not_more c left =
+    let new = settles_beside 4097 ++ one_valid in
+    let rest = Recorded 0 8192 4097 how.Good ∷ [] in
+    let behind = marked-then 1 (flush_mark ∷ []) rest left.begun left.flushed new (marked-call setup 1 (call.Flush a None) (outcome.Done reply.Unit) left.begun left.flushed left.has_flushed.flush refl) (synced-marked 1 0 _ 8192 4097 how.Good left.flushed new left.recorded) in
+    let before = marked-then 1 (told left.told ∷ []) [] one_valid left.has_flushed.stated left.begun (marked-call setup 1 (call.State a) (outcome.Done (reply.State left.told)) one_valid left.has_flushed.stated left.has_flushed.state refl) (marked-idle 1 left.has_flushed.stated left.begun left.has_flushed.idle) in
+    let split : settles_beside 4097 ≡ behind.during ++ before.during =
+    append_cancel_right (settles_beside 4097) (behind.during ++ before.during) one_valid (behind.grew ∙ (ap (λ (l : List Entry). behind.during ++ l) before.grew ∙ sym (append_assoc behind.during before.during one_valid))) in
+    let taken : take (length behind.during) (settles_beside 4097) ≡ behind.during = ap (take (length behind.during)) split ∙ split-take behind.during before.during in
+    let dropped : drop (length behind.during) (settles_beside 4097) ≡ before.during = ap (drop (length behind.during)) split ∙ split-drop behind.during before.during in
+    let few = few-valid (length behind.during) rest (ap (marks 1) taken ∙ behind.same) in
+    let begun : drop (length behind.during) (settles_beside 4097) ++ one_valid ≡ left.begun = ap (λ (l : List Entry). l ++ one_valid) dropped ∙ sym before.grew in
+    let valid : valid_of (history left.begun 0) ≤ 4096 = subst (λ (past : List Entry). valid_of (history past 0) ≤ 4096) begun few in
+    omega (arith, left.recorded.wrote.its_valid, valid)
+
 pub returns-clause-failed : goal.returns-clause-failed
 unfolding computed
 returns-clause-failed c =
@@ -136,10 +186,10 @@ returns-clause-not_unsynced c left =
 
 pub returns-clause-no_other_length : goal.returns-clause-no_other_length
 returns-clause-no_other_length c left =
-    let its = settle-marked setup 1 a less_valid first_resident (settles ++ first_resident) left in
-    other its.0 (shows 1 (settle_marks a its.0 less_valid) settles first_resident its.1)
+    let its = settle-marked setup 1 a (valid_up_to 5001) first_resident (settles ++ first_resident) left in
+    other its.0 (shows 1 (settle_marks a its.0 (valid_up_to 5001)) settles first_resident its.1)
   where
-    other : (told : FileState) → marks 1 settles ≡ settle_marks a told less_valid → ⊥
+    other : (told : FileState) → marks 1 settles ≡ settle_marks a told (valid_up_to 5001) → ⊥
     other told same = let valid : ◌≡◌ {A = ℕ} 8192 5001 = cc in omega (arith, valid)
 
 pub returns-clause-not_failed : goal.returns-clause-not_failed
@@ -149,12 +199,6 @@ returns-clause-not_failed c left =
   where
     other : (told : FileState) → marks 1 (settles_with (recorded 8192 8192 how.Failed)) ≡ settle_marks a told two_full → ⊥
     other told same = absurd (cc)
-
-abbrev told : FileState → Mark
-told state = Ended (call.State a) (outcome.Done (reply.State state))
-
-abbrev fails : Mark
-fails = Ended (call.Flush a None) (outcome.Failed (error.WriteFault 0))
 
 -- the record that fails to be written, behind the state and the flush
 unwritten : List Entry

@@ -1,5 +1,5 @@
 -- The read of the record, which leaves nothing, and the calls behind it, by their ends.
-use Rattle.std.specs.Prelude.{◌≡◌, ℕ, ◌^◌, ◌||◌, true, false, List, [], ◌∷◌, ◌++◌, Ok, Err, refl, ◌⊎◌}
+use Rattle.std.specs.Prelude.{◌≡◌, ℕ, ◌^◌, true, false, List, [], ◌∷◌, ◌++◌, Ok, refl}
 use Rattle.std.specs.List.{list_any}
 use Rattle.std.specs.declared.option.Option.{Option}
 use Rattle.std.specs.declared.option.Option.TheVariants.{Some, None}
@@ -23,11 +23,11 @@ use Rattle.cc_effects.specs.Asked.{is_admitted}
 use Rattle.cc_effects.specs.Calls.{CallLeft}
 use Rattle.cc_effects.proofs.Starts.{begins, done_by, ends_done}
 use Rattle.cc_effects.proofs.Stretches.{idle-none, some-begin}
-use Rattle.cc_records.specs.Left.{LoadLeft, SettleLeft}
-use Rattle.cc_pieces.specs.Openings.{IsLoaded, IsReadAtFirst, RecordedOpening, StreamOpening, first_object_of, is_record_of, recorded_call}
-use Rattle.cc_worked.specs.Values.{a, setup, sized, synced, answers, done, unit}
+use Rattle.cc_records.specs.Left.{SettleLeft}
+use Rattle.cc_pieces.specs.Openings.{IsReadAtFirst, RecordedOpening, StreamOpening, first_object_of, is_record_of, recorded_call}
+use Rattle.cc_worked.specs.Values.{a, setup, sized, synced, answers, unit}
 use Rattle.cc_worked.specs.PiecesRuns.{initialises, opens, two_full}
-use Rattle.cc_worked.specs.PiecesRecords.{first_versions, migrates, opens_and_flushes, opens_recorded, record_fails, stored}
+use Rattle.cc_worked.specs.PiecesRecords.{first_versions, migrates, opens_and_flushes, record_fails, stored}
 use Rattle.cc_worked.proofs.PiecesOpened.{computed}
 use Rattle.cc_worked.proofs.Marks.{Ended, Mark, Marked, marked-call, marked-idle, marked-then, marks, shows}
 use Rattle.cc_worked.proofs.RecordMarks.{first-marked, settle_marks}
@@ -122,14 +122,14 @@ opening-shown None old new left = ([], marked-call setup 0 (recorded_call 0 stor
 pub returns-clause-not_unread : goal.returns-clause-not_unread
 returns-clause-not_unread c left = by left.opened
   where
+    other : (read : Option StreamRecord) (more : List Mark) → marks 0 record_fails ≡ initialised read ∷ more → ⊥
+    other read more same = absurd (cc)
+
     by : StreamOpening setup 0 stored true unit [] record_fails → ⊥
     by (inl refused) = given_not_refused refused.0 refused.1
     by (inr is) =
         let its = opening-shown is.read is.loaded record_fails is.opened in
         other is.read its.0 (shows 0 (initialised is.read ∷ its.0) record_fails [] (marked-then 0 [] (initialised is.read ∷ its.0) [] is.loaded record_fails (marked-idle 0 [] is.loaded is.load) its.1))
-
-    other : (read : Option StreamRecord) (more : List Mark) → marks 0 record_fails ≡ initialised read ∷ more → ⊥
-    other read more same = absurd (cc)
 
 -- no record stands in any end of a stretch that is one call
 unrecorded : (during loaded : List Entry) → opens ≡ during ++ loaded → list_any (is_record_of 0) loaded ≡ false
