@@ -3,10 +3,10 @@ use Rattle.cc_lines.proofs.AsyncLines.{completed-answered, completed-full, compl
 use Rattle.cc_lines.proofs.async_lines.complete_read.Goals as goal
 
 pub returns-clause-answered : goal.returns-clause-answered
-returns-clause-answered g c = completed-answered _ _ c.async_step.result c.async_step.ensures.ends.left
+returns-clause-answered g c = completed-answered (g.T.Turns.standing c.args.turns.now) (g.T.Turns.standing c.async_step.new.turns) c.async_step.result c.async_step.ensures.ends.left
 
 pub returns-clause-full : goal.returns-clause-full
-returns-clause-full g c = completed-full _ _ c.async_step.result c.async_step.ensures.ends.left
+returns-clause-full g c = completed-full (g.T.Turns.standing c.args.turns.now) (g.T.Turns.standing c.async_step.new.turns) c.async_step.result c.async_step.ensures.ends.left
 
 pub returns-clause-goes_on : goal.returns-clause-goes_on
 returns-clause-goes_on g c = c.async_step.ensures.ends.goes_on

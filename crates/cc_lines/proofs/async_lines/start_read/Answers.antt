@@ -7,7 +7,7 @@ pub returns-clause-answered : goal.returns-clause-answered
 returns-clause-answered g c = rw c.started.ensures (start-answered _ _ c.args.file c.args.at c.args.len c.async_read.result _ _ c.async_read.ensures.ends.left)
 
 pub returns-clause-full : goal.returns-clause-full
-returns-clause-full g c = rw c.started.ensures (start-full c.args.file c.args.at c.args.len _ _ c.async_read.result c.async_read.ensures.ends.full)
+returns-clause-full g c = rw c.started.ensures (start-full c.args.file c.args.at c.args.len (g.T.Turns.standing c.args.turns.now) (g.T.Turns.standing c.async_read.new.turns) c.async_read.result c.async_read.ensures.ends.full)
 
 pub returns-clause-goes_on : goal.returns-clause-goes_on
 returns-clause-goes_on g c = went-on _ _ c.async_read.ensures.ends.goes_on
