@@ -1,5 +1,5 @@
 -- The lines of the shim, and the question for levels: what their calls left explains them, and the words stand on.
-use Rattle.std.specs.Prelude.{ℕ, Bool, List, Err, refl}
+use Rattle.std.specs.Prelude.{ℕ, Bool, List, refl}
 use Rattle.std.specs.declared.option.Option.TheVariants.{None}
 use Rattle.std.proofs.Common.{arith, inl, inr}
 use Rattle.cc_entry.specs.Place.{File, Range}
@@ -21,13 +21,12 @@ use Rattle.cc_pieces.specs.Locks.{LockAnswered, LockedReadAnswered, LockedUpdate
 use Rattle.cc_vacb.specs.Levels.{levels_of}
 use Rattle.cc_turns.specs.Standing.{Standing}
 use Rattle.cc_calls.specs.Pages.{WentOn}
-use Rattle.cc_writes.specs.Ways.{IsFull}
 use Rattle.cc_shim.specs.Ends.{WasFullError}
 use Rattle.cc_lines.specs.Holds.{NamesState, held_of}
 use Rattle.cc_lines.specs.Line.{IsFullTold, LineServed, StandFor, WasFullTold}
 use Rattle.cc_lines.proofs.KeptByShim.{Keeps, read-keeps, update-keeps, write-keeps}
 use Rattle.cc_lines.proofs.KeptWords.{stand-kept}
-use Rattle.cc_lines.proofs.WordLines.{full-told, has-at, so_far, stand-now, stand-on}
+use Rattle.cc_lines.proofs.WordLines.{has-at, so_far, stand-now, stand-on}
 
 -- where there was no room for two places, there was none for three
 pub full-three : (old new : Standing) (e : CcError) → WasFullError 2 old new e → WasFullTold old new (answer.Refused e)
@@ -81,10 +80,6 @@ module _ (old new : Standing) (told : Answer) (names : NamesState) (full : WasFu
     room = refl;
     placed = refl;
   }
-
--- what a call for a lock answers, or for the end of one, tells of a full journal
-pub lock-told : {A : Type 0} (old new : Standing) (e : CcError) → IsFull {A = A} 1 new (Err e) → IsFullTold new (answer.Refused e)
-lock-told old new e full = full-told 1 new e (omega arith) full
 
 -- a lock, the end of one, and a question for levels
 module _ (old new : Standing) (told : Answer) (names : NamesState) (full : IsFullTold new told) (went : WentOn old new) (good : IsGood old.setup new.seen) where

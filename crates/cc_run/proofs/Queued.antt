@@ -1,16 +1,23 @@
 -- What the passes have at the one queue of read-ahead of a run: what each did there, from the first entry to the last.
-use Rattle.std.specs.Prelude.{◌≡◌, ◌≢◌, ℕ, zero, suc, ◌+◌, ◌-◌, ◌<◌, ◌≤◌, ◌==◌, ◌⊎◌, Bool, true, false, List, [], ◌∷◌, ◌++◌, length, map, drop, slice_get, refl, if◌then◌else◌}
+use Rattle.std.specs.Prelude.{◌≡◌, ◌≢◌, ℕ, zero, suc, ◌+◌, ◌-◌, ◌<◌, ◌≤◌, ◌==◌, ◌⊎◌, Bool, true, false, List, [], ◌∷◌, ◌++◌, length, map, drop, slice_get, Result, Ok, Err, refl, if◌then◌else◌}
 use Rattle.std.specs.declared.option.Option.{Option}
 use Rattle.std.specs.declared.option.Option.TheVariants.{Some, None}
 use Rattle.std.specs.List.{AllByRecursion}
 use Rattle.std.proofs.Common.{ap, sym, subst, ◌∙◌, arith, inl, inr}
 use Rattle.std.proofs.lemmas.Bool.{ne_eqb}
-use Rattle.std.proofs.lemmas.List.{length-append, length-map}
+use Rattle.std.proofs.lemmas.List.{append-nil, length-append, length-map}
 use Rattle.std.proofs.lemmas.Nat.{mul-le}
 use Rattle.cc_entry.specs.declared.answer.Answer.{Answer}
 use Rattle.cc_entry.specs.declared.answer.Answer.TheVariants as answer
 use Rattle.cc_entry.specs.declared.answer.LineReply.{LineReply}
 use Rattle.cc_entry.specs.declared.entry.Entry.{Entry}
+use Rattle.cc_entry.specs.declared.entry.Entry.TheVariants as entry
+use Rattle.cc_entry.specs.declared.error.CcError.{CcError}
+use Rattle.cc_entry.specs.declared.error.CcError.TheVariants as error
+use Rattle.cc_entry.specs.declared.place.FileSizes.{FileSizes}
+use Rattle.cc_format.specs.declared.record.StreamRecord.{StreamRecord}
+use Rattle.cc_format.specs.declared.record.StreamRecord.TheVariants.{V1, V2}
+use Rattle.cc_records.specs.Left.{LoadLeft}
 use Rattle.cc_entry.specs.declared.place.Request.{Request}
 use Rattle.cc_entry.specs.declared.reply.Reply.TheVariants as reply
 use Rattle.cc_script.specs.declared.script.Action.{Action}
@@ -26,7 +33,7 @@ use Rattle.cc_lines.specs.Holds.{NamesState}
 use Rattle.cc_lines.specs.Queues.{PlaceWent, hand_of, new_places}
 use Rattle.cc_lines.specs.declared.queues.Queues.{Queues}
 use Rattle.cc_pieces.specs.Explained.{Answered, Given}
-use Rattle.cc_pieces.specs.Openings.{LoggedOpening, Opens, first_object_of}
+use Rattle.cc_pieces.specs.Openings.{LoggedOpening, MigrationLeft, Opens, RecordedOpening, StreamOpening, first_object_of, opening_sizes, opening_with, said_sizes}
 use Rattle.cc_pieces.specs.Phases.{TicksRan, is_of_phase, lazy_writer, read_ahead_worker}
 use Rattle.cc_pieces.specs.Queue.{PlaceRan, QueuePlace, answers_to, is_ask, is_step, lines_told, steps_told}
 use Rattle.cc_pieces.specs.Rooms.{is_alone, room_limit}
@@ -83,20 +90,80 @@ lazy-placed u ticks aheads (suc n) lines replies ticked stepped taken place old 
     place-then lazy_writer [] [] place place place old left.10 new (lazy-placed u ticks aheads n left.0 left.2 left.4 left.6 left.8 place old left.10 left.16)
     (ticks-placed u 32 (suc n) left.5 place left.10 new left.19.ran)
 
--- the lines of the streams
-opens-placed : (u : Setup) (s : ℕ) (stream : StreamLine) (told : Answer) (place : QueuePlace) (old new : List Entry) → Opens u s stream told old new → PlaceRan 0 [] place place old new
-opens-placed u s stream told place old new opens = by stream.log opens.opened
+-- ---- the lines of the streams
+
+logged-placed : (u : Setup) (s : ℕ) (stream : StreamLine) (sizes : FileSizes) (log : Option ℕ) (told : Answer) (place : QueuePlace) (old new : List Entry) → LoggedOpening u s (opening_with s stream sizes) log told old new → PlaceRan 0 [] place place old new
+logged-placed u s stream sizes log told place old new opened = by log opened
   where
     opening : Action
-    opening =
-        action.Initialise (first_object_of s) (record { allocation = stream.size; size = stream.size; valid = stream.valid }) stream.quota stream.temporary
+    opening = action.Initialise (first_object_of s) sizes stream.quota stream.temporary
 
-    by : (log : Option ℕ) → LoggedOpening u s stream log told old new → PlaceRan 0 [] place place old new
+    by : (log : Option ℕ) → LoggedOpening u s (opening_with s stream sizes) log told old new → PlaceRan 0 [] place place old new
     by None left = placed-line u 0 opening told place old new refl refl left
     by (Some handle) (inl failed) = placed-line u 0 opening (answer.Refused failed.0) place old new refl refl failed.2
     by (Some handle) (inr done) =
         place-then 0 [] [] place place place old done.0 new (placed-line u 0 opening (answer.Given reply.Unit) place old done.0 refl refl done.1)
         (placed-line u 0 (action.SetLog (first_object_of s) handle) told place done.0 new refl refl done.2)
+
+-- the entry of a read of a record that failed
+placed-unread : (s : ℕ) (place : QueuePlace) (old : List Entry) → PlaceRan 0 [] place place old (entry.RecordFailed 0 s ∷ old)
+placed-unread s place old = record {
+  during = entry.RecordFailed 0 s ∷ [];
+  grew = refl;
+  pushed = sym (append-nil place.pushed);
+  taken = [];
+  took = sym (append-nil place.taken);
+  counted = refl;
+  served = tt;
+  empties = refl;
+  fulls = refl;
+}
+
+load-placed : {A : Type 0} (s : ℕ) (answered : Result A CcError) (place : QueuePlace) (old new : List Entry) → LoadLeft 0 s answered old new → PlaceRan 0 [] place place old new
+load-placed s (Ok told) place old new left = place-idle 0 place old new left
+load-placed s (Err (error.ReadFault page)) place old new left =
+    let failed = left.1 in
+    let before : IsIdle 0 old (failed.earlier ++ old) = record { during = failed.earlier; grew = refl; others = failed.quiet_before } in
+    let after : IsIdle 0 (entry.RecordFailed 0 s ∷ (failed.earlier ++ old)) new =
+    record { during = failed.later; grew = failed.grew; others = failed.quiet_after } in
+    place-then 0 [] [] place place place old (failed.earlier ++ old) new (place-idle 0 place old (failed.earlier ++ old) before)
+    (place-then 0 [] [] place place place (failed.earlier ++ old) (entry.RecordFailed 0 s ∷ (failed.earlier ++ old)) new
+    (placed-unread s place (failed.earlier ++ old)) (place-idle 0 place (entry.RecordFailed 0 s ∷ (failed.earlier ++ old)) new after))
+load-placed s (Err (error.JournalFull entries)) place old new left = place-idle 0 place old new left
+load-placed s (Err error.NoMemory) place old new left = place-idle 0 place old new left
+load-placed s (Err other) place old new left = absurd left
+
+migration-placed : (u : Setup) (s : ℕ) (told : Answer) (place : QueuePlace) (old new : List Entry) → MigrationLeft u s told old new → PlaceRan 0 [] place place old new
+migration-placed u s (answer.Given reply.Unit) place old new left =
+    placed-line u 0 (action.Settle (first_object_of s)) (answer.Given (reply.State left.0)) place old new refl refl left.1
+migration-placed u s (answer.Refused e) place old new left =
+    placed-line u 0 (action.Settle (first_object_of s)) (answer.Refused e) place old new refl refl left
+migration-placed u s other place old new left = absurd left
+
+recorded-placed : (u : Setup) (s : ℕ) (stream : StreamLine) (read : Option StreamRecord) (told : Answer) (place : QueuePlace) (old new : List Entry) → RecordedOpening u s stream read told old new → PlaceRan 0 [] place place old new
+recorded-placed u s stream None told place old new opened =
+    logged-placed u s stream (opening_sizes stream None) stream.log told place old new opened
+recorded-placed u s stream (Some (V2 size valid)) told place old new opened =
+    logged-placed u s stream (opening_sizes stream (Some (V2 size valid))) stream.log told place old new opened
+recorded-placed u s stream (Some (V1 size)) told place old new (inl refused) =
+    logged-placed u s stream (opening_sizes stream (Some (V1 size))) stream.log told place old new refused.2
+recorded-placed u s stream (Some (V1 size)) told place old new (inr done) =
+    place-then 0 [] [] place place place old done.0 new
+    (logged-placed u s stream (opening_sizes stream (Some (V1 size))) stream.log (answer.Given reply.Unit) place old done.0 done.1)
+    (migration-placed u s told place done.0 new done.2)
+
+opening-placed : (u : Setup) (s : ℕ) (stream : StreamLine) (stored : Bool) (told : Answer) (place : QueuePlace) (old new : List Entry) → StreamOpening u s stream stored told old new → PlaceRan 0 [] place place old new
+opening-placed u s stream false told place old new opened =
+    logged-placed u s stream (said_sizes stream) stream.log told place old new opened
+opening-placed u s stream true told place old new (inl unread) =
+    load-placed {A = Option StreamRecord} s (Err unread.0) place old new unread.2
+opening-placed u s stream true told place old new (inr is) =
+    place-then 0 [] [] place place place old is.loaded new
+    (load-placed {A = Option StreamRecord} s (Ok is.read) place old is.loaded is.load)
+    (recorded-placed u s stream is.read told place is.loaded new is.opened)
+
+opens-placed : (u : Setup) (s : ℕ) (stream : StreamLine) (told : Answer) (place : QueuePlace) (old new : List Entry) → Opens u s stream told old new → PlaceRan 0 [] place place old new
+opens-placed u s stream told place old new opens = opening-placed u s stream stream.stored told place old new opens.opened
 
 streams-placed : (u : Setup) (s : ℕ) (streams : List StreamLine) (replies : List LineReply) (place : QueuePlace) (old new : List Entry) → StreamsLeft u s streams replies old new → PlaceRan 0 [] place place old new
 streams-placed u s [] [] place old new left =

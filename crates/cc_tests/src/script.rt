@@ -16,7 +16,7 @@ fn wrong_line(answer: Result<Script, ScriptFault>) -> Option<u32> {
 }
 
 /// Scripts, each with its first wrong line.
-const SCRIPTS: [(&str, u32); 118] = [
+const SCRIPTS: [(&str, u32); 121] = [
     ("", 0),
     ("# a comment\n\n  \n\r\n  stream   a  8192 8192  \r", 0),
     (" # no comment", 1),
@@ -196,10 +196,16 @@ const SCRIPTS: [(&str, u32); 118] = [
     ("stream a 1 1 stored log 0", 1),
     ("stream a 1 1 stored temporary", 1),
     ("stream a 1 stored 1", 1),
+    (
+        "stream a 1 1\nlock a:15 0 18446744073709551615 excl\nt3 lock a 5 5\nunlock a 1\nunlock a:2 18446744073709551615\nlock a 0 1 exclusive",
+        6,
+    ),
+    ("stream a 1 1\nlock a 0", 2),
+    ("stream a 1 1\nunlock a", 2),
 ];
 
 /// Scripts of steps, each with its first wrong line.
-const STEPS: [(&str, u32); 39] = [
+const STEPS: [(&str, u32); 41] = [
     (
         "stream a 8192 8192\nfill a 0\nt16 fill a 2251799813685247\nout a 0\nt2 begin a 1\nend a 1\nt3 sync a\nt2 scan\nscan",
         0,
@@ -256,6 +262,8 @@ const STEPS: [(&str, u32); 39] = [
     ("stream a 1 1\nlevels a", 2),
     ("stream a 1 1\nsettle a", 2),
     ("stream a 1 1 stored", 1),
+    ("stream a 1 1\nlock a 0 1", 2),
+    ("stream a 1 1\nunlock a 1", 2),
     ("stream a 1 1\nfail read a cached 0 1", 2),
 ];
 

@@ -1,4 +1,0 @@
--- What is answered is what the call answered.
-use Rattle.cc_lines.proofs.ShimServed.{lock-told}
-use Rattle.cc_lines.proofs.WordLines.{went-on}
-use Rattle.cc_lines.proofs.shim_lines.unlock.Goals as goal
