@@ -130,6 +130,7 @@ run-copied u v script before between replies kept ticked stepped took start begu
         subst (λ p. AsyncRan (suc n) (asked_by (suc n) script.lines served.answers) p (copies_of b.0.places.copies)) (fresh-at queues was n a.0 fresh a.1) went in
         let told = same-ran (suc n) (asked_of own script.lines (drop (length script.streams) kept)) (asked_by (suc n) script.lines served.answers) untouched (copies_of b.0.places.copies)
         (part-same own script.lines served.answers (drop (length script.streams) kept) part) ran in
-        let few = few-asked own script.lines (drop (length script.streams) kept) in
+        let few : length (lines_told (given_of script) (run_answered kept ticked stepped) (suc n)) ≤ length script.lines =
+        few-asked own script.lines (drop (length script.streams) kept) in
         subst (λ p. HasQueued (given_of script) (run_answered kept ticked stepped) (suc n) (copies_of p)) (copied-at now n b.0 place b.1 at)
         (has-queued (given_of script) (run_answered kept ticked stepped) (suc n) (copies_of b.0.places.copies) told (omega (arith, few, within.few_lines)))
