@@ -86,10 +86,10 @@ settle-gives m streams ws in_mode a e =
     subst (IsPlain m streams) end.1
     (record { file = file-gives streams f.word file.0.0 f.reads; moved = omega arith; numbered = λ n. refl; in_mode = in_mode })
 
-pub checkpoint-gives : (m : Mode) (streams : List StreamLine) (ws : List (List ℕ)) → stands RunAlone m ≡ true → (a : Action) → checkpoint_of ws ≡ Some a → IsPlain m streams a
+pub checkpoint-gives : (m : Mode) (streams : List StreamLine) (ws : List (List ℕ)) → stands RunAlone m ≡ true → (a : Action) → checkpoint_of streams ws ≡ Some a → IsPlain m streams a
 unfolding checkpoint_of
 checkpoint-gives m streams ws in_mode a e =
     let log = then-gives (next (number_between 0 3) ws) _ a e in
     let end = ended-gives _ _ a log.2 in
     subst (IsPlain m streams) end.1
-    (record { file = tt; moved = omega arith; numbered = λ n. refl; in_mode = in_mode })
+    (record { file = refl; moved = omega arith; numbered = λ n. refl; in_mode = in_mode })

@@ -7,7 +7,7 @@ use Rattle.cc_script.specs.declared.script.ActionLine.{ActionLine}
 use Rattle.cc_script.specs.declared.phase_lines.PhaseLines.{PhaseLines}
 
 abbrev pub is_checkpoint : Action → Bool
-is_checkpoint (action.Checkpoint _) = true
+is_checkpoint (action.Checkpoint _ _) = true
 is_checkpoint other = false
 
 -- a phase that has no line

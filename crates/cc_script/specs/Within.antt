@@ -28,7 +28,7 @@ pub record IsFilePageWithin (streams : List StreamLine) (file : File) (page : �
   pub in_file : IsFileWithin streams file
   pub number : page < 2 ^ 51
 
--- an action names such a file or page, or none; a page is stored whole
+-- an action names such a file or page, or none; a page is stored whole, and a checkpoint is over all streams of the script
 abbrev pub IsActionWithin : List StreamLine → Action → Type 0
 IsActionWithin streams (action.Initialise file _ _ _) = IsFileWithin streams file
 IsActionWithin streams (action.Uninitialise file _) = IsFileWithin streams file
@@ -65,7 +65,7 @@ IsActionWithin streams (action.Lock file _ _) = IsFileWithin streams file
 IsActionWithin streams (action.Unlock file _) = IsFileWithin streams file
 IsActionWithin streams (action.Levels file) = IsFileWithin streams file
 IsActionWithin streams (action.Settle file) = IsFileWithin streams file
-IsActionWithin streams (action.Checkpoint _) = Unit {0}
+IsActionWithin streams (action.Checkpoint count _) = count ≡ length streams
 IsActionWithin streams action.IsDirtyData = Unit {0}
 IsActionWithin streams (action.DirtyPages _) = Unit {0}
 IsActionWithin streams (action.LsnForFile file) = IsFileWithin streams file

@@ -332,7 +332,7 @@ pub(crate) fn action(
         Verb::Unlock => unlock(streams, words).ok_or(LineFault::Syntax),
         Verb::Levels => levels(streams, words).ok_or(LineFault::Syntax),
         Verb::Settle => settle(streams, words).ok_or(LineFault::Syntax),
-        Verb::Checkpoint => checkpoint(words).ok_or(LineFault::Syntax),
+        Verb::Checkpoint => checkpoint(streams, words).ok_or(LineFault::Syntax),
         Verb::IsDirtyData => is_dirty_data(words).ok_or(LineFault::Syntax),
         Verb::DirtyPages => dirty_pages(words).ok_or(LineFault::Syntax),
         Verb::LsnForFile => lsn_for_file(streams, words).ok_or(LineFault::Syntax),

@@ -377,8 +377,9 @@ pub enum Action {
     Settle {
         file: FileId,
     },
-    /// The dirty page table of a log is appended to it, behind a sync of its streams, so that a restart begins there.
+    /// The dirty page table of a log is appended to it, behind a sync of those of the script's streams, so many, that have it.
     Checkpoint {
+        streams: u8,
         handle: u8,
     },
     IsDirtyData,

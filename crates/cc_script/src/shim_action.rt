@@ -122,12 +122,15 @@ pub(crate) fn settle(streams: &StreamLines, words: &mut Words) -> Option<Action>
 }
 
 #[tactic(auto, unfolding(crate::specs::ShimActions::checkpoint_of))]
-pub(crate) fn checkpoint(words: &mut Words) -> Option<Action>
-    ensures { result ≡ checkpoint_of words.old }
+pub(crate) fn checkpoint(streams: &StreamLines, words: &mut Words) -> Option<Action>
+    ensures { result ≡ checkpoint_of streams.now words.old }
 {
     let handle = words.handle()?;
     if words.is_empty() {
-        Some(Action::Checkpoint { handle })
+        Some(Action::Checkpoint {
+            streams: streams.len() as u8,
+            handle,
+        })
     } else {
         None
     }
