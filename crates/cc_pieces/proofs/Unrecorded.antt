@@ -63,6 +63,9 @@ keeps-unrecorded u t me = record {
   appended = λ handle lsn bytes past. refl;
   flushed = λ handle to past. refl;
   log_failed = λ handle past low. refl;
+  locked = λ file range exclusive granted id past. refl;
+  unlocked = λ file id gone past. refl;
+  tested = λ file range write conflict past. refl;
   deferred = λ id file pages retrying past. refl;
 }
 
