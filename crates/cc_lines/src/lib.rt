@@ -6,13 +6,15 @@
 //! or nothing where none was made or a line has ended it.
 //!
 //! `line` serves an action, `held_lines` one on a hold, `noncached_lines` a noncached one, `shim_lines` one of the file
-//! system shim, `throttle_lines` a deferral and posts, `tick_line` a tick, `ahead_lines` one of read-ahead, `settle_line` the
-//! settling of a stream, `openings` opens a stream, and `holds` keeps what the words of a caller name. The phases of a run stand
-//! above (`cc_run`); below are the calls (`cc_calls`, `cc_ranges`), those on records of streams (`cc_stored`), the shim over the
-//! calls (`cc_shim`), and how the journal explains answers (`cc_pieces`).
+//! system shim, `checkpoint_line` a checkpoint, `throttle_lines` a deferral and posts, `tick_line` a tick,
+//! `ahead_lines` one of read-ahead, `settle_line` the settling of a stream, `openings` opens a stream, and `holds`
+//! keeps what the words of a caller name. The phases of a run stand above (`cc_run`); below are the calls (`cc_calls`,
+//! `cc_ranges`), those on records of streams (`cc_stored`), the shim over the calls (`cc_shim`), and how the journal
+//! explains answers (`cc_pieces`).
 #![tactic(auto)]
 
 mod ahead_lines;
+mod checkpoint_line;
 mod held_lines;
 mod holds;
 mod line;

@@ -1,6 +1,6 @@
 -- A checkpoint of a log: the dirty page table is asked, the streams of the log are synced, and the rows are appended to the
 -- log and flushed there.
-use Rattle.std.specs.Prelude.{◌≡◌, ◌≢◌, ℕ, zero, suc, ◌<◌, Bool, false, ◌==◌, List, [], ◌∷◌, ◌++◌, map, Result, Ok, Err, ◌⊎◌, if◌then◌else◌}
+use Rattle.std.specs.Prelude.{◌≡◌, ◌≢◌, ℕ, zero, suc, ◌<◌, ◌≤◌, Bool, false, ◌==◌, List, [], ◌∷◌, ◌++◌, map, Result, Ok, Err, ◌⊎◌, if◌then◌else◌}
 use Rattle.std.specs.declared.option.Option.{Option}
 use Rattle.std.specs.declared.option.Option.TheVariants.{Some, None}
 use Rattle.cc_entry.specs.Place.{File}
@@ -13,6 +13,8 @@ use Rattle.cc_entry.specs.declared.error.CcError.TheVariants as error
 use Rattle.cc_entry.specs.declared.reply.Reply.TheVariants as reply
 use Rattle.cc_entry.specs.declared.reply.Outcome.TheVariants as outcome
 use Rattle.cc_entry.specs.declared.entry.Entry.{Entry}
+use Rattle.cc_entry.specs.declared.answer.Answer.{Answer}
+use Rattle.cc_entry.specs.declared.answer.Answer.TheVariants as answer
 use Rattle.cc_model.specs.Setup.{Setup}
 use Rattle.cc_format.specs.declared.log.OldestRow.{OldestRow}
 use Rattle.cc_format.specs.LogRecords.{checkpoint_record}
@@ -71,9 +73,10 @@ pub record StateRefused (u : Setup) (me handle streams : ℕ) (e : CcError) (old
   pub refused : CallLeft u me (call.State (first_object n)) (outcome.Failed e) between new
 
 -- memory was wanting behind some that were asked
-pub record AskingStopped (u : Setup) (me handle : ℕ) (e : CcError) (old new : List Entry) : Type 0 where
+pub record AskingStopped (u : Setup) (me handle streams : ℕ) (e : CcError) (old new : List Entry) : Type 0 where
   pub n : ℕ
   pub found : List ℕ
+  pub within : n ≤ streams
   pub wanting : e ≡ error.NoMemory
   pub asked : StatesAsked u me handle n found old new
 
@@ -105,7 +108,7 @@ SyncedLogged u me handle found spelled answered old new =
 -- a checkpoint by these rows: the states of all streams are asked first
 abbrev pub RowsLogged : Setup → ℕ → ℕ → ℕ → List DirtyRow → Result ℕ CcError → Between
 RowsLogged u me streams handle rows answered old new =
-    ((e : CcError) × (answered ≡ Err e) × (AskingStopped u me handle e old new ⊎ StateRefused u me handle streams e old new))
+    ((e : CcError) × (answered ≡ Err e) × (AskingStopped u me handle streams e old new ⊎ StateRefused u me handle streams e old new))
     ⊎ ((between : List Entry)
     × (found : List ℕ)
     × StatesAsked u me handle streams found old between
@@ -119,3 +122,9 @@ CheckpointLeft u me streams handle answered old new =
     × (rows : List DirtyRow)
     × CallLeft u me (call.DirtyPages handle) (outcome.Done (reply.Rows rows)) old between
     × RowsLogged u me streams handle rows answered between new)
+
+-- a line that makes one
+abbrev pub CheckpointAnswered : Setup → ℕ → ℕ → ℕ → Answer → Between
+CheckpointAnswered u me streams handle (answer.NewLsn lsn) old new = CheckpointLeft u me streams handle (Ok lsn) old new
+CheckpointAnswered u me streams handle (answer.Refused e) old new = CheckpointLeft u me streams handle (Err e) old new
+CheckpointAnswered u me streams handle other old new = ⊥
