@@ -1,7 +1,11 @@
 -- What the restarts of a script leave of disks and logs, before its desk is made.
-use Rattle.std.specs.Prelude.{◌≡◌, ℕ, suc, ◌+◌, ◌<◌, ◌≤◌, ◌^◌, ◌==◌, Bool, true, false, ◌&&◌, List, [], ◌∷◌, length, slice_get, slice_set, Result, Ok, Err, ◌⊎◌}
+use Rattle.std.specs.Prelude.{◌≡◌, ℕ, suc, ◌+◌, ◌<◌, ◌≤◌, ◌^◌, ◌==◌, Bool, true, false, ◌&&◌, List, [], ◌∷◌, length, map, slice_get, slice_set, All, IfOk, Result, Ok, Err, ◌⊎◌}
 use Rattle.std.specs.declared.option.Option.{Option}
 use Rattle.std.specs.declared.option.Option.TheVariants.{Some, None}
+use Rattle.cc_entry.specs.declared.answer.Answer.{Answer}
+use Rattle.cc_entry.specs.declared.answer.Answer.TheVariants as answer
+use Rattle.cc_entry.specs.declared.answer.LineReply.{LineReply}
+use Rattle.cc_entry.specs.declared.entry.Entry.{Entry}
 use Rattle.cc_entry.specs.declared.error.CcError.{CcError}
 use Rattle.cc_entry.specs.declared.error.CcError.TheVariants as error
 use Rattle.cc_traits.specs.Told.{IfTold}
@@ -11,7 +15,11 @@ use Rattle.cc_format.specs.Spelling.{IsReadAs}
 use Rattle.cc_format.specs.declared.record.StreamRecord.{StreamRecord}
 use Rattle.cc_script.specs.declared.script.StreamLine.{StreamLine}
 use Rattle.cc_script.specs.declared.script.RestartLine.{RestartLine}
+use Rattle.cc_model.specs.Setup.{Setup}
+use Rattle.cc_effects.specs.LogCalls.{LogFlushLeft}
+use Rattle.cc_effects.specs.Moments.{Between, IsIdle}
 use Rattle.cc_pieces.specs.Openings.{opening_sizes}
+use Rattle.cc_pieces.specs.Restarts.{LastFlushed}
 use Rattle.cc_redo.specs.declared.redo.Redo.{Redo}
 use Rattle.cc_redo.specs.declared.streams.Restarted.{Restarted}
 use Rattle.cc_redo.specs.Disks.{record_number}
@@ -128,3 +136,32 @@ LogsRestarted {D} {L} told faults log_told log_count streams (restart ∷ restar
     × LogRestarted told faults log_told log_count restart.handle streams ended.ended old between was now
     × LogsRestarted told faults log_told log_count streams restarts more between new (slice_set logs restart.handle now) logs_after
 LogsRestarted told faults log_told log_count streams restarts ended old new logs logs_after = ⊥
+
+-- the last LSN that a restart read is none, or one that an entry may have
+abbrev pub HasLast : LogRestart → Type 0
+HasLast ended = IfOk ended.ended (λ numbers. numbers.last ≤ 2 ^ 62)
+
+-- the restarts of these lines ended so
+abbrev pub AreEnded : List RestartLine → List LogRestart → Type 0
+AreEnded restarts ended =
+    (map (λ restart. restart.line) ended ≡ map (λ restart. restart.line) restarts)
+    × (map (λ restart. restart.handle) ended ≡ map (λ restart. restart.handle) restarts) × All HasLast ended
+
+-- the log is flushed up to its last LSN, where there is one
+abbrev pub EndTold : Setup → ℕ → ℕ → ℕ → Answer → Between
+EndTold u handle last updates (answer.Restarted n) old new = (n ≡ updates) × LastFlushed u handle last old new
+EndTold u handle last updates (answer.Refused e) old new = LogFlushLeft {T = Unit {0}} u 0 handle last (Err e) old new
+EndTold u handle last updates other old new = ⊥
+
+-- what a restart answered before its log was flushed is told, or the flush's refusal is
+abbrev pub TellsEnd : Setup → ℕ → Result Numbers CcError → Answer → Between
+TellsEnd u handle (Ok numbers) told old new = EndTold u handle numbers.last numbers.updates told old new
+TellsEnd u handle (Err e) told old new = (told ≡ answer.Refused e) × IsIdle 0 old new
+
+-- The restarts were ended one after the other, and each line was answered so.
+abbrev pub RestartsEnded : Setup → List LogRestart → List LineReply → Between
+RestartsEnded u [] [] old new = IsIdle 0 old new
+RestartsEnded u (restart ∷ restarts) (reply ∷ replies) old new =
+    (between : List Entry) × (reply.line ≡ restart.line) × TellsEnd u restart.handle restart.ended reply.answer old between
+    × RestartsEnded u restarts replies between new
+RestartsEnded u restarts replies old new = ⊥

@@ -38,6 +38,7 @@ mod once;
 mod openings;
 mod output;
 mod phases;
+mod restarts;
 mod posts;
 mod row;
 mod run;

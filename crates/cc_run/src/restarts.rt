@@ -1,13 +1,18 @@
 //! The restarts of a script: before the desk is made, the streams that are stored are redone on their disks from their logs.
 
-ghost use Rattle.std.specs.Prelude.{◌≡◌, ◌+◌, ◌<◌, ◌≤◌, All, IfOk, IfErr, length, vec_capacity, vec_len};
-ghost use Rattle.cc_run.specs.Restarting.{GivenTo, LogRestarted, LogsRestarted, RecordFailed, TellTheSame, CountTheSame, is_restarted, with_handle};
+ghost use Rattle.std.specs.Prelude.{◌≡◌, ◌≢◌, ℕ, ◌+◌, ◌<◌, ◌≤◌, All, IfOk, IfErr, length, vec_capacity, vec_len};
+ghost use Rattle.cc_effects.specs.Moments.{IsIdle};
+ghost use Rattle.cc_turns.specs.Desk.{standing_of};
+ghost use Rattle.cc_run.specs.Desks.{IsReady, IsSameRun};
+ghost use Rattle.cc_run.specs.Restarting.{GivenTo, HasLast, LogRestarted, LogsRestarted, RestartsEnded, TellTheSame, CountTheSame, is_restarted, with_handle};
 
-use cc_entry::{CcError, NoMemory};
+use cc_entry::{Answer, CcError, LineReply};
 use cc_format::StreamRecord;
+use cc_lines::end_restart;
 use cc_redo::{Redo, restart, stored_record};
 use cc_script::{RestartLine, StreamLine};
-use cc_traits::{LogFile, PageDisk};
+use cc_traits::{LogFile, PageDisk, PostRoutine};
+use cc_turns::Desk;
 use std::alloc::Global;
 
 /// The greatest size of a stream, and one more: 2^63.
@@ -145,5 +150,37 @@ fn redo_of(number: u8, stream: &StreamLine, read: Option<StreamRecord>) -> Optio
         })
     } else {
         None
+    }
+}
+
+/// Ends the restarts as pass 0, each by a flush of its log, and puts the answer of each line behind the replies.
+pub(crate) fn end_restarts<D: PageDisk, L: LogFile, Q: PostRoutine>(
+    desk: &mut Desk<D, L, Q>,
+    ended: &[LogRestart],
+    replies: &mut Vec<LineReply>,
+)
+    requires first { desk.old.pass ≡ 0 }
+    requires begins { desk.old.since ≡ desk.old.last.entries }
+    requires ready { IsReady (standing_of D.told D.faults L.told L.faults desk.old) }
+    requires none { vec_len replies.old ≡ 0 }
+    requires room { length ended.now ≤ vec_capacity replies.old }
+    requires in_range { All HasLast ended.now }
+    ensures ended { RestartsEnded (standing_of D.told D.faults L.told L.faults desk.old).setup ended.now
+        replies.new.items desk.old.last.entries desk.new.last.entries }
+    ensures alone { (me : ℕ) → me ≢ 0 → IsIdle me desk.old.last.entries desk.new.last.entries }
+    ensures run { IsSameRun (standing_of D.told D.faults L.told L.faults desk.old)
+        (standing_of D.told D.faults L.told L.faults desk.new) }
+    ensures ready { IsReady (standing_of D.told D.faults L.told L.faults desk.new) }
+    ensures capacity { vec_capacity replies.new ≡ vec_capacity replies.old }
+{
+    for restart in ended {
+        let answer = match restart.ended {
+            Ok(numbers) => end_restart(desk, restart.handle, numbers.last, numbers.updates),
+            Err(error) => Answer::Refused(error),
+        };
+        replies.push_reserved(LineReply {
+            line: restart.line,
+            answer,
+        });
     }
 }
