@@ -1,6 +1,6 @@
 -- A checkpoint of a log: the dirty page table is asked, the streams of the log are synced, and the rows are appended to the
 -- log and flushed there.
-use Rattle.std.specs.Prelude.{◌≡◌, ◌≢◌, ℕ, zero, suc, ◌<◌, Bool, false, ◌==◌, List, [], ◌∷◌, ◌++◌, map, Result, Ok, Err, ◌⊎◌, if◌then◌else◌}
+use Rattle.std.specs.Prelude.{◌≡◌, ◌≢◌, ℕ, zero, suc, ◌<◌, ◌≤◌, Bool, false, ◌==◌, List, [], ◌∷◌, ◌++◌, map, Result, Ok, Err, ◌⊎◌, if◌then◌else◌}
 use Rattle.std.specs.declared.option.Option.{Option}
 use Rattle.std.specs.declared.option.Option.TheVariants.{Some, None}
 use Rattle.cc_entry.specs.Place.{File}
@@ -67,13 +67,14 @@ pub record StateRefused (u : Setup) (me handle streams : ℕ) (e : CcError) (old
   pub between : List Entry
   pub below : n < streams
   pub asked : StatesAsked u me handle n found old between
-  pub open : e ≢ error.NotCached
+  pub other : e ≢ error.NotCached
   pub refused : CallLeft u me (call.State (first_object n)) (outcome.Failed e) between new
 
 -- memory was wanting behind some that were asked
-pub record AskingStopped (u : Setup) (me handle : ℕ) (e : CcError) (old new : List Entry) : Type 0 where
+pub record AskingStopped (u : Setup) (me handle streams : ℕ) (e : CcError) (old new : List Entry) : Type 0 where
   pub n : ℕ
   pub found : List ℕ
+  pub within : n ≤ streams
   pub wanting : e ≡ error.NoMemory
   pub asked : StatesAsked u me handle n found old new
 
@@ -105,7 +106,7 @@ SyncedLogged u me handle found spelled answered old new =
 -- a checkpoint by these rows: the states of all streams are asked first
 abbrev pub RowsLogged : Setup → ℕ → ℕ → ℕ → List DirtyRow → Result ℕ CcError → Between
 RowsLogged u me streams handle rows answered old new =
-    ((e : CcError) × (answered ≡ Err e) × (AskingStopped u me handle e old new ⊎ StateRefused u me handle streams e old new))
+    ((e : CcError) × (answered ≡ Err e) × (AskingStopped u me handle streams e old new ⊎ StateRefused u me handle streams e old new))
     ⊎ ((between : List Entry)
     × (found : List ℕ)
     × StatesAsked u me handle streams found old between
