@@ -1,7 +1,7 @@
 -- The streams so far and the next are one more; one that was refused ends it.
 use Rattle.std.specs.Prelude.{◌≡◌, ◌<◌, ◌≤◌, length, take, refl}
 use Rattle.std.proofs.Common.{arith}
-use Rattle.std.proofs.lemmas.List.{take-all}
+use Rattle.std.proofs.lemmas.List.{take_all}
 use Rattle.cc_shim.proofs.Checkpointing.{synced-all, synced-more, synced-refused}
 use Rattle.cc_shim.proofs.checkpoints.sync_all.Goals as goal
 
@@ -24,5 +24,5 @@ returns g c =
     let w = g.T.Turns.standing c.args.turns.now in
     let v = g.T.Turns.standing c.loop-stream.turns in
     let past = c.loop-stream-test.false in
-    let all : take c.loop-stream.stream-index c.args.found.now ≡ c.args.found.now = take-all c.loop-stream.stream-index c.args.found.now past in
+    let all : take c.loop-stream.stream-index c.args.found.now ≡ c.args.found.now = take_all c.loop-stream.stream-index c.args.found.now past in
     record { ends = synced-all w v c.args.found.now c.loop-stream.stream-index c.loop-stream.invariant all }
