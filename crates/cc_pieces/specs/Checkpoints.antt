@@ -69,7 +69,7 @@ pub record StateRefused (u : Setup) (me handle streams : ℕ) (e : CcError) (old
   pub between : List Entry
   pub below : n < streams
   pub asked : StatesAsked u me handle n found old between
-  pub open : e ≢ error.NotCached
+  pub other : e ≢ error.NotCached
   pub refused : CallLeft u me (call.State (first_object n)) (outcome.Failed e) between new
 
 -- memory was wanting behind some that were asked

@@ -218,7 +218,8 @@ has-one false one other none e = either one (none refl) e
     either true f g = absurd (cc)
 
 stands-apart : (phases : ℕ) (phase : PhaseLines) (last line : ActionLine) → last.phase ≡ phases → is_kept_apart (phase_with last.caller last.action phase) ≡ true → IsInPhase phases phase line → StandApart line last
-stands-apart phases phase last line now kept is same one =
+stands-apart phases phase last line now kept is =
+    λ same one.
     let here : line.phase ≡ phases = same ∙ now in
     let checkpoint = has-one phase.checkpoint (is_checkpoint line.action) (is_checkpoint last.action) (is.checkpoint here) one in
     let few = one-caller (phase.many || is_other phase.caller last.caller) (phase.checkpoint || is_checkpoint last.action) kept checkpoint in

@@ -1,12 +1,13 @@
 -- The calls of a checkpoint, put together.
-use Rattle.std.specs.Prelude.{◌≡◌, ◌≢◌, ℕ, suc, ◌+◌, ◌<◌, ◌≤◌, Bool, true, false, List, [], ◌∷◌, ◌++◌, All, length, map, take, drop, get_or, Result, Ok, Err, Vec, if◌then◌else◌, refl}
+use Rattle.std.specs.Prelude.{◌≡◌, ◌≢◌, ℕ, zero, suc, ◌+◌, ◌<◌, ◌≤◌, Bool, true, false, List, [], ◌∷◌, ◌++◌, All, length, map, take, drop, get_or, Result, Ok, Err, Vec, OnOk, if◌then◌else◌, refl}
+use Rattle.std.specs.Global.{Global}
 use Rattle.std.specs.declared.option.Option.{Option}
 use Rattle.std.specs.declared.option.Option.TheVariants.{Some, None}
-use Rattle.std.proofs.Common.{ap, sym, ◌∙◌, subst, inl, inr, append-nil, arith}
+use Rattle.std.proofs.Common.{ap, sym, ◌∙◌, subst, inl, inr, append-nil, append_assoc, arith}
 use Rattle.std.proofs.Math.Seq.{drop-cons}
 use Rattle.std.proofs.lemmas.List.{map-append, take-append-drop, take_more}
-use Rattle.std.proofs.lemmas.List.Elements.{All-append}
-use Rattle.cc_entry.specs.Place.{File}
+use Rattle.std.proofs.lemmas.List.Elements.{All-append, All-from_get_or, All-weaker}
+use Rattle.cc_entry.specs.Place.{File, Range}
 use Rattle.cc_entry.specs.declared.call.Call.{Call}
 use Rattle.cc_entry.specs.declared.call.Call.TheVariants as call
 use Rattle.cc_entry.specs.declared.entry.Entry.{Entry}
@@ -16,7 +17,12 @@ use Rattle.cc_entry.specs.declared.place.DirtyRow.{DirtyRow}
 use Rattle.cc_entry.specs.declared.place.FileState.{FileState}
 use Rattle.cc_entry.specs.declared.reply.Outcome.TheVariants as outcome
 use Rattle.cc_entry.specs.declared.reply.Reply.TheVariants as reply
+use Rattle.cc_model.specs.Records.{little_endian}
 use Rattle.cc_model.specs.Setup.{Setup}
+use Rattle.cc_format.specs.declared.log.OldestRow.{OldestRow}
+use Rattle.cc_format.specs.LogRecords.{spelled_rows}
+use Rattle.std.specs.Int.{bytes_low_first}
+use Rattle.cc_shim.proofs.Recording.{low-first}
 use Rattle.cc_effects.specs.Calls.{CallLeft}
 use Rattle.cc_effects.specs.LogCalls.{AppendLeft, LogFlushLeft}
 use Rattle.cc_effects.specs.Moments.{Between}
@@ -30,7 +36,7 @@ use Rattle.cc_calls.specs.Logs.{LogEnds}
 use Rattle.cc_calls.specs.Pages.{WentOn}
 use Rattle.cc_calls.proofs.Paging.{writing-within}
 use Rattle.cc_pieces.specs.Shim.{CallsLeft}
-use Rattle.cc_pieces.specs.Checkpoints.{AskingStopped, CheckpointLeft, RecordFlushed, RecordLogged, RowsLogged, StateAsked, StatesAsked, StateRefused, SyncedLogged, first_object, has_log, record_of_rows, sync_call, with_stream}
+use Rattle.cc_pieces.specs.Checkpoints.{AskingStopped, CheckpointLeft, RecordFlushed, RecordLogged, RowsLogged, StateAsked, StatesAsked, StateRefused, SyncedLogged, first_object, has_log, oldest_row, record_of_rows, sync_call, with_stream}
 use Rattle.cc_shim.specs.Checkpoints.{LogAsked, LogsAsked, SyncLeft}
 use Rattle.cc_shim.specs.Ends.{FirstLeft, ListEnds}
 use Rattle.cc_shim.proofs.Going.{HasGone, ends-after, ends-here, full-now, gone-append, gone-ends, gone-list, gone-none, gone-then, moved, on-went}
@@ -53,6 +59,10 @@ ends-refused w v Left More e ends leads = record { left = leads ends.left; full 
 pub same-file : (file : File) (stream : ℕ) → file.stream ≡ stream → file.object ≡ 0 → file ≡ first_object stream
 same-file file stream is first =
     ap (λ (n : ℕ). record { stream = n; object = file.object }) is ∙ ap (λ (n : ℕ). record { stream = stream; object = n }) first
+
+pub same-range : (range : Range) (from to : ℕ) → range.from ≡ from → range.to ≡ to → range ≡ record { from = from; to = to }
+same-range range from to begins ends =
+    ap (λ (n : ℕ). record { from = n; to = range.to }) begins ∙ ap (λ (n : ℕ). record { from = from; to = n }) ends
 
 -- ---- the state of a stream
 
@@ -84,6 +94,9 @@ module _ (w v : Standing) (handle stream : ℕ) (file : File) (is : file ≡ fir
 
 -- ---- the states of the first streams
 
+none-below : All (λ stream. stream < 0) []
+none-below = All-from_get_or (λ stream. stream < 0) [] 0 (λ i low. absurd (omega (arith, low)))
+
 -- the first n were asked
 pub record HasAsked (w v : Standing) (handle n : ℕ) (found : List ℕ) : Type 0 where
   pub gone : HasGone w v
@@ -91,11 +104,17 @@ pub record HasAsked (w v : Standing) (handle n : ℕ) (found : List ℕ) : Type 
   pub below : All (λ stream. stream < n) found
 
 pub asked-none : (w : Standing) (handle : ℕ) → HasAsked w w handle 0 []
-asked-none w handle = record { gone = gone-none w; asked = (refl, idle-none w.number w.seen); below = tt }
+asked-none w handle = record { gone = gone-none w; asked = (refl, idle-none w.number w.seen); below = none-below }
 
 all-more : (n : ℕ) (found : List ℕ) → All (λ stream. stream < n) found → All (λ stream. stream < suc n) found
-all-more n [] all = tt
-all-more n (s ∷ found) all = let low = all.0 in (omega (arith, low), all-more n found all.1)
+all-more n found all = All-weaker (λ stream. stream < n) (λ stream. stream < suc n) (λ stream low. omega (arith, low)) found all
+
+one-below : (n : ℕ) → All (λ stream. stream < suc n) (n ∷ [])
+one-below n = All-from_get_or (λ stream. stream < suc n) (n ∷ []) 0 at
+  where
+    at : (i : ℕ) → i < length (n ∷ []) → get_or (n ∷ []) i 0 < suc n
+    at zero low = omega arith
+    at (suc i) low = absurd (omega (arith, low))
 
 module _ (w v x : Standing) (handle n : ℕ) (found : List ℕ) (was : HasAsked w v handle n found) where
   here : (Left : Setup → ℕ → Type 0) → Left v.setup v.number → Left w.setup w.number
@@ -115,26 +134,26 @@ module _ (w v x : Standing) (handle n : ℕ) (found : List ℕ) (was : HasAsked 
       })
     where
       both : (t : Bool) → All (λ stream. stream < suc n) (if t then found ++ n ∷ [] else found)
-      both true = All-append (λ stream. stream < suc n) found (n ∷ []) (all-more n found was.below) (omega arith, tt)
+      both true = All-append (λ stream. stream < suc n) found (n ∷ []) (all-more n found was.below) (one-below n)
       both false = all-more n found was.below
 
   -- one was refused
   pub asked-refused : (streams : ℕ) (e : CcError) → n < streams → ListEnds v x (LogAsked v.setup v.number handle n) (Err e) → ListEnds w x (LogsAsked w.setup w.number handle streams) (Err e)
   asked-refused streams e low ends =
       let rest = ends-refused v x (LogAsked v.setup v.number handle n) (λ answered old new. LogAsked v.setup v.number handle n (Err e) old new) e ends (λ left. left) in
-      ends-after {A = Vec ℕ} w v x (LogsAsked w.setup w.number handle streams) (λ answered old new. LogAsked v.setup v.number handle n (Err e) old new) (Err e) was.gone rest
+      ends-after {A = Vec ℕ Global} w v x (LogsAsked w.setup w.number handle streams) (λ answered old new. LogAsked v.setup v.number handle n (Err e) old new) (Err e) was.gone rest
       (λ left.
       let left = here (λ u me. LogAsked u me handle n (Err e) v.seen x.seen) left in
-      inr (record { n = n; found = found; between = v.seen; below = low; asked = was.asked; open = left.0; refused = left.1 }))
+      inr (record { n = n; found = found; between = v.seen; below = low; asked = was.asked; other = left.0; refused = left.1 }))
 
 -- memory was wanting
-pub asked-stopped : (w v : Standing) (handle n streams : ℕ) (found : List ℕ) → HasAsked w v handle n found → ListEnds w v (LogsAsked w.setup w.number handle streams) (Err error.NoMemory)
-asked-stopped w v handle n streams found was =
+pub asked-stopped : (w v : Standing) (handle n streams : ℕ) (found : List ℕ) → n ≤ streams → HasAsked w v handle n found → ListEnds w v (LogsAsked w.setup w.number handle streams) (Err error.NoMemory)
+asked-stopped w v handle n streams found low was =
     ends-here w v (LogsAsked w.setup w.number handle streams) (Err error.NoMemory) was.gone tt
-    (inl (record { n = n; found = found; wanting = refl; asked = was.asked }))
+    (inl (record { n = n; found = found; within = low; wanting = refl; asked = was.asked }))
 
 -- all were asked
-pub asked-all : (w v : Standing) (handle n streams : ℕ) (found : Vec ℕ) → HasAsked w v handle n found.items → n ≡ streams → ListEnds w v (LogsAsked w.setup w.number handle streams) (Ok found)
+pub asked-all : (w v : Standing) (handle n streams : ℕ) (found : Vec ℕ Global) → HasAsked w v handle n found.items → n ≡ streams → ListEnds w v (LogsAsked w.setup w.number handle streams) (Ok found)
 asked-all w v handle n streams found was all =
     ends-here w v (LogsAsked w.setup w.number handle streams) (Ok found) was.gone tt
     (subst (λ (n : ℕ). StatesAsked w.setup w.number handle n found.items w.seen v.seen) all was.asked)
@@ -161,9 +180,9 @@ pub record HasSynced (w v : Standing) (found : List ℕ) (k : ℕ) : Type 0 wher
 pub synced-none : (w : Standing) (found : List ℕ) → HasSynced w w found 0
 synced-none w found = record { gone = gone-none w; first = first-none w.setup w.number w.seen }
 
-module _ (w v x : Standing) (found : List ℕ) (k d : ℕ) (low : k < length found) (was : HasSynced w v found k) where
-  abbrev one : ℕ
-  one = get_or found k d
+module _ (w v x : Standing) (found : List ℕ) (k d one : ℕ) (is : get_or found k d ≡ one) (low : k < length found) (was : HasSynced w v found k) where
+  more-is : take (k + 1) found ≡ take k found ++ one ∷ []
+  more-is = take_more found k d low ∙ ap (λ (s : ℕ). take k found ++ s ∷ []) is
 
   -- one more
   pub synced-more : ListEnds v x (SyncLeft v.setup v.number one) (Ok tt) → HasSynced w x found (k + 1)
@@ -171,7 +190,7 @@ module _ (w v x : Standing) (found : List ℕ) (k d : ℕ) (low : k < length fou
     gone = gone-then w v x was.gone (gone-list v x (SyncLeft v.setup v.number one) (Ok tt) ends);
     first =
         subst (λ (l : List Call). FirstLeft w.setup w.number l (Ok tt) w.seen x.seen)
-        (sym (ap (map sync_call) (take_more found k d low) ∙ map-append sync_call (take k found) (one ∷ [])))
+        (sym (ap (map sync_call) more-is ∙ map-append sync_call (take k found) (one ∷ [])))
         (first-more w.setup w.number (map sync_call (take k found)) (sync_call one) w.seen v.seen x.seen was.first
         (moved w v was.gone.on (λ u me. SyncLeft u me one (Ok tt) v.seen x.seen) ends.left));
   }
@@ -182,7 +201,7 @@ module _ (w v x : Standing) (found : List ℕ) (k d : ℕ) (low : k < length fou
       ends-after w v x (CallsLeft w.setup w.number (map sync_call found)) (SyncLeft v.setup v.number one) (Err e) was.gone ends
       (λ left.
       let split : found ≡ take k found ++ one ∷ drop (suc k) found =
-      sym (take-append-drop k found) ∙ ap (λ l. take k found ++ l) (drop-cons found k d low) in
+      sym (take-append-drop k found) ∙ (ap (λ l. take k found ++ l) (drop-cons found k d low) ∙ ap (λ (s : ℕ). take k found ++ s ∷ drop (suc k) found) is) in
       let whole : map sync_call found ≡ map sync_call (take k found) ++ sync_call one ∷ map sync_call (drop (suc k) found) =
       ap (map sync_call) split ∙ map-append sync_call (take k found) (one ∷ drop (suc k) found) in
       subst (λ (l : List Call). CallsLeft w.setup w.number l (Err e) w.seen x.seen) (sym whole)
@@ -199,17 +218,17 @@ synced-all w v found k was all =
 
 -- ---- the record
 
-gone-log_flush : (w v : Standing) (handle lsn : ℕ) (answer : Result (Unit {0}) CcError) → LogEnds w v (LogFlushLeft w.setup w.number handle lsn) answer → HasGone w v
+gone-log_flush : (w v : Standing) (handle lsn : ℕ) (answer : Result (Unit {0}) CcError) → LogEnds w v (LogFlushLeft {T = Unit {0}} w.setup w.number handle lsn) answer → HasGone w v
 gone-log_flush w v handle lsn answer ends =
     let kept = log_flush-unchanged w.setup w.number 0 handle lsn answer w.seen v.seen ends.left in
     record { on = on-went w v ends.goes_on; grew = record { later = kept.during; grew = kept.grew }; good = ends.good }
 
 -- the log was flushed, or not
-pub record-flushed : (w v : Standing) (handle lsn : ℕ) → LogEnds w v (LogFlushLeft w.setup w.number handle lsn) (Ok tt) → ListEnds w v (RecordFlushed w.setup w.number handle lsn) (Ok lsn)
+pub record-flushed : (w v : Standing) (handle lsn : ℕ) → LogEnds {A = Unit {0}} w v (LogFlushLeft {T = Unit {0}} w.setup w.number handle lsn) (Ok tt) → ListEnds w v (RecordFlushed w.setup w.number handle lsn) (Ok lsn)
 record-flushed w v handle lsn ends =
     ends-here w v (RecordFlushed w.setup w.number handle lsn) (Ok lsn) (gone-log_flush w v handle lsn (Ok tt) ends) tt (refl, ends.left)
 
-pub record-unflushed : (w v : Standing) (handle lsn : ℕ) (e : CcError) → v.others ≤ v.most_others → LogEnds w v (LogFlushLeft w.setup w.number handle lsn) (Err e) → ListEnds w v (RecordFlushed w.setup w.number handle lsn) (Err e)
+pub record-unflushed : (w v : Standing) (handle lsn : ℕ) (e : CcError) → v.others ≤ v.most_others → LogEnds {A = Unit {0}} w v (LogFlushLeft {T = Unit {0}} w.setup w.number handle lsn) (Err e) → ListEnds w v (RecordFlushed w.setup w.number handle lsn) (Err e)
 record-unflushed w v handle lsn e few ends =
     let gone = gone-log_flush w v handle lsn (Err e) ends in
     ends-here w v (RecordFlushed w.setup w.number handle lsn) (Err e) gone (full-now {A = Unit {0}} w v 1 (Err e) gone few (omega arith) ends.full) ends.left
@@ -242,7 +261,7 @@ module _ (w v : Standing) (handle : ℕ) (found spelled : List ℕ) where
 
 -- the states were asked, or not
 module _ (w v : Standing) (streams handle : ℕ) (rows : List DirtyRow) where
-  pub all-asked : (x : Standing) (found : Vec ℕ) (spelled : List ℕ) (answer : Result ℕ CcError) → spelled ≡ record_of_rows rows → ListEnds w v (LogsAsked w.setup w.number handle streams) (Ok found) → ListEnds v x (SyncedLogged v.setup v.number handle found.items spelled) answer → ListEnds w x (RowsLogged w.setup w.number streams handle rows) answer
+  pub all-asked : (x : Standing) (found : Vec ℕ Global) (spelled : List ℕ) (answer : Result ℕ CcError) → spelled ≡ record_of_rows rows → ListEnds w v (LogsAsked w.setup w.number handle streams) (Ok found) → ListEnds v x (SyncedLogged v.setup v.number handle found.items spelled) answer → ListEnds w x (RowsLogged w.setup w.number streams handle rows) answer
   all-asked x found spelled answer is first rest =
       let gone = gone-list w v (LogsAsked w.setup w.number handle streams) (Ok found) first in
       ends-after w v x (RowsLogged w.setup w.number streams handle rows) (SyncedLogged v.setup v.number handle found.items spelled) answer gone rest
@@ -256,7 +275,7 @@ module _ (w v : Standing) (streams handle : ℕ) (rows : List DirtyRow) where
 -- no memory for the record
 pub not-spelled : (w : Standing) (streams handle : ℕ) (rows : List DirtyRow) → ListEnds w w (RowsLogged w.setup w.number streams handle rows) (Err error.NoMemory)
 not-spelled w streams handle rows =
-    let stopped : AskingStopped w.setup w.number handle error.NoMemory w.seen w.seen = record { n = 0; found = []; wanting = refl; asked = (refl, idle-none w.number w.seen) } in
+    let stopped : AskingStopped w.setup w.number handle streams error.NoMemory w.seen w.seen = record { n = 0; found = []; within = omega arith; wanting = refl; asked = (refl, idle-none w.number w.seen) } in
     ends-here w w (RowsLogged w.setup w.number streams handle rows) (Err error.NoMemory) (gone-none w) tt (inl (error.NoMemory, refl, inl stopped))
 
 -- the table was told, or not
@@ -272,3 +291,36 @@ module _ (w v : Standing) (streams handle : ℕ) where
       let gone = gone-ends rows_outcome w v (call.DirtyPages handle) (Err e) ends in
       ends-here w v (CheckpointLeft w.setup w.number streams handle) (Err e) gone (full-now {A = List DirtyRow} w v 1 (Err e) gone few (omega arith) ends.full)
       (inl (e, refl, ends.left))
+
+-- ---- the record's bytes
+
+-- rows behind rows
+pub rows-append : (first second : List OldestRow) → spelled_rows (first ++ second) ≡ spelled_rows first ++ spelled_rows second
+rows-append [] second = refl
+rows-append (row ∷ first) second =
+    ap (λ l. row.stream ∷ (little_endian 8 row.page ++ (little_endian 8 row.oldest ++ l))) (rows-append first second)
+    ∙ sym (ap (λ l. row.stream ∷ l) (append_assoc (little_endian 8 row.page) (little_endian 8 row.oldest ++ spelled_rows first) (spelled_rows second) ∙ ap (λ l. little_endian 8 row.page ++ l) (append_assoc (little_endian 8 row.oldest) (spelled_rows first) (spelled_rows second))))
+
+-- one row more
+pub rows-more : (rows : List DirtyRow) (k : ℕ) (row : DirtyRow) (out before after : List ℕ) → k < length rows → row ≡ get_or rows k row → before ≡ out ++ spelled_rows (map oldest_row (take k rows)) → after ≡ before ++ spelled_rows (oldest_row row ∷ []) → after ≡ out ++ spelled_rows (map oldest_row (take (k + 1) rows))
+rows-more rows k row out before after low is so_far more =
+    let taken : take (k + 1) rows ≡ take k rows ++ row ∷ [] = take_more rows k row low ∙ ap (λ (r : DirtyRow). take k rows ++ r ∷ []) (sym is) in
+    let spelled : spelled_rows (map oldest_row (take (k + 1) rows)) ≡ spelled_rows (map oldest_row (take k rows)) ++ spelled_rows (oldest_row row ∷ []) =
+    ap (λ l. spelled_rows (map oldest_row l)) taken ∙ (ap spelled_rows (map-append oldest_row (take k rows) (row ∷ [])) ∙ rows-append (map oldest_row (take k rows)) (oldest_row row ∷ [])) in
+    more
+    ∙ (ap (λ l. l ++ spelled_rows (oldest_row row ∷ [])) so_far
+    ∙ (append_assoc out (spelled_rows (map oldest_row (take k rows))) (spelled_rows (oldest_row row ∷ [])) ∙ ap (λ l. out ++ l) (sym spelled)))
+
+-- the numbers of one row behind what there is
+pub row-spelled : {E : Type 0} (row : OldestRow) (out one two three : List ℕ) (r : Result (Unit {0}) E) → one ≡ out ++ (row.stream ∷ []) → two ≡ one ++ bytes_low_first 0 8 row.page → OnOk r (three ≡ two ++ bytes_low_first 0 8 row.oldest) → OnOk r (three ≡ out ++ spelled_rows (row ∷ []))
+row-spelled row out one two three (Err e) first second last = tt
+row-spelled row out one two three (Ok done) first second last =
+    let pages = low-first 8 row.page in
+    let oldest = low-first 8 row.oldest in
+    last
+    ∙ (ap (λ l. l ++ bytes_low_first 0 8 row.oldest) (second ∙ ap (λ l. l ++ bytes_low_first 0 8 row.page) first)
+    ∙ (append_assoc (out ++ (row.stream ∷ [])) (bytes_low_first 0 8 row.page) (bytes_low_first 0 8 row.oldest)
+    ∙ (append_assoc out (row.stream ∷ []) (bytes_low_first 0 8 row.page ++ bytes_low_first 0 8 row.oldest)
+    ∙ (ap (λ l. out ++ (row.stream ∷ (l ++ bytes_low_first 0 8 row.oldest))) pages
+    ∙ (ap (λ l. out ++ (row.stream ∷ (little_endian 8 row.page ++ l))) oldest
+    ∙ sym (ap (λ l. out ++ (row.stream ∷ (little_endian 8 row.page ++ l))) (append-nil (little_endian 8 row.oldest))))))))

@@ -1,5 +1,6 @@
 -- What the questions of a checkpoint leave, which streams have the log, and its syncs.
 use Rattle.std.specs.Prelude.{◌≡◌, ◌≢◌, ℕ, Bool, Result, Ok, Err, ◌⊎◌, Vec}
+use Rattle.std.specs.Global.{Global}
 use Rattle.std.specs.declared.option.Option.{Option}
 use Rattle.cc_entry.specs.declared.place.FileState.{FileState}
 use Rattle.cc_entry.specs.declared.call.Call.TheVariants as call
@@ -19,9 +20,9 @@ LogAsked u me handle stream (Err e) old new =
     (e ≢ error.NotCached) × CallLeft u me (call.State (first_object stream)) (outcome.Failed e) old new
 
 -- which of the first streams have it
-abbrev pub LogsAsked : Setup → ℕ → ℕ → ℕ → Result (Vec ℕ) CcError → Between
+abbrev pub LogsAsked : Setup → ℕ → ℕ → ℕ → Result (Vec ℕ Global) CcError → Between
 LogsAsked u me handle streams (Ok found) old new = StatesAsked u me handle streams found.items old new
-LogsAsked u me handle streams (Err e) old new = AskingStopped u me handle e old new ⊎ StateRefused u me handle streams e old new
+LogsAsked u me handle streams (Err e) old new = AskingStopped u me handle streams e old new ⊎ StateRefused u me handle streams e old new
 
 -- the disk of a stream was synced
 abbrev pub SyncLeft : Setup → ℕ → ℕ → Result (Unit {0}) CcError → Between

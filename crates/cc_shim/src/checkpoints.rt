@@ -1,6 +1,6 @@
 //! A checkpoint of a log, from which a restart begins.
 
-ghost use Rattle.std.specs.Prelude.{◌≡◌, ◌++◌, ◌∷◌, ◌<◌, ◌≤◌, All, IfOk, OnOk, length, map, if◌then◌else◌};
+ghost use Rattle.std.specs.Prelude.{◌≡◌, ◌++◌, ◌∷◌, [], ◌<◌, ◌≤◌, All, IfOk, OnOk, length, map, if◌then◌else◌};
 ghost use Rattle.cc_calls.specs.Answers.{CanCall, IsFree};
 ghost use Rattle.cc_pieces.specs.Checkpoints.{CheckpointLeft, RecordFlushed, RecordLogged, RowsLogged, SyncedLogged, record_of_rows, sync_call};
 ghost use Rattle.cc_pieces.specs.Shim.{CallsLeft};

@@ -1,6 +1,6 @@
 //! The record of a checkpoint, as a log has it.
 
-ghost use Rattle.std.specs.Prelude.{◌≡◌, ◌++◌, ◌∷◌, IfOk, OnOk, map};
+ghost use Rattle.std.specs.Prelude.{◌≡◌, ◌++◌, ◌∷◌, [], IfOk, OnOk, map};
 ghost use Rattle.cc_format.specs.LogRecords.{spelled_rows};
 ghost use Rattle.cc_model.specs.Records.{little_endian};
 ghost use Rattle.cc_pieces.specs.Checkpoints.{oldest_row, record_of_rows};
