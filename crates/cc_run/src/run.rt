@@ -19,7 +19,7 @@ ghost use Rattle.cc_run.specs.Places.{AreQueued, taken_at};
 ghost use Rattle.cc_queue.specs.Places.{new_place};
 ghost use Rattle.cc_turns.specs.Places.{IsRoomFor};
 ghost use Rattle.std.specs.List.{AllByRecursion};
-ghost use Rattle.cc_run.specs.Runs.{HasRun};
+ghost use Rattle.cc_run.specs.Runs.{HasRunBehind};
 ghost use Rattle.cc_run.specs.Restarting.{AreEnded};
 
 use crate::aheads::Aheads;
@@ -66,7 +66,7 @@ pub(crate) fn run_script<
     requires of_mode { IsOfMode mode.Run script.now }
     requires enough { has_devices (length disks.items) (length logs.items) (length posts.items) script.now ≡ true }
     requires posts { All (λ routine. Q.posted routine ≡ false) posts.items }
-    ensures ran { IfOk result (HasRun (tells_of D.told D.faults L.told L.faults Q.posted) mode.Run script.now
+    ensures ran { IfOk result (HasRunBehind (tells_of D.told D.faults L.told L.faults Q.posted) mode.Run script.now
         disks.items logs.items posts.items) }
     ensures kept { IfErr result (λ back. back.0.items ≡ disks.items) }
     ensures logs_kept { IfErr result (λ back. back.1.items ≡ logs.items) }
