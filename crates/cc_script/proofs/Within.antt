@@ -178,11 +178,11 @@ same-as (Some last) first caller is e = either (last == caller) refl e
 
 phase-kept : (phases : ℕ) (phase : PhaseLines) (caller : ℕ) (a : Action) (line : ActionLine) → IsInPhase phases phase line → IsInPhase phases (phase_with caller a phase) line
 phase-kept phases phase caller a line is = record {
-    caller = λ here few.
+  caller = λ here few.
       let one = neither phase.many (is_other phase.caller caller) few in
       ap Some (sym (same-as phase.caller line.caller caller (is.caller here one.0) one.1));
-    checkpoint = λ here none. is.checkpoint here (neither phase.checkpoint (is_checkpoint a) none).0;
-  }
+  checkpoint = λ here none. is.checkpoint here (neither phase.checkpoint (is_checkpoint a) none).0;
+}
 
 phase-kept-all : (phases : ℕ) (phase : PhaseLines) (caller : ℕ) (a : Action) (lines : List ActionLine) → AllByRecursion (IsInPhase phases phase) lines → AllByRecursion (IsInPhase phases (phase_with caller a phase)) lines
 phase-kept-all phases phase caller a lines all =
@@ -190,9 +190,9 @@ phase-kept-all phases phase caller a lines all =
 
 phase-has : (phases : ℕ) (phase : PhaseLines) (line : ActionLine) → IsInPhase phases (phase_with line.caller line.action phase) line
 phase-has phases phase line = record {
-    caller = λ here few. refl;
-    checkpoint = λ here none. (neither phase.checkpoint (is_checkpoint line.action) none).1;
-  }
+  caller = λ here few. refl;
+  checkpoint = λ here none. (neither phase.checkpoint (is_checkpoint line.action) none).1;
+}
 
 -- a phase has no line before its first
 phase-begun : (streams : List StreamLine) (phases : ℕ) (line : ActionLine) → IsLineWithin streams phases line → IsInPhase (phases + 1) no_lines_yet line

@@ -46,6 +46,6 @@ pub use laws::{
 pub use name::Name;
 pub use read::read_script;
 pub use script::{
-    Action, ActionLine, ActionLines, Mode, ReadPath, RestartLine, RestartLines, Script, ScriptFault,
-    StreamLine, StreamLines,
+    Action, ActionLine, ActionLines, Mode, ReadPath, RestartLine, RestartLines, Script,
+    ScriptFault, StreamLine, StreamLines,
 };

@@ -1,7 +1,6 @@
 -- The calls of a checkpoint, put together.
 use Rattle.std.specs.Prelude.{◌≡◌, ◌≢◌, ℕ, zero, suc, ◌+◌, ◌<◌, ◌≤◌, Bool, true, false, List, [], ◌∷◌, ◌++◌, All, length, map, take, drop, get_or, Result, Ok, Err, Vec, OnOk, if◌then◌else◌, refl}
 use Rattle.std.specs.Global.{Global}
-use Rattle.std.specs.declared.option.Option.{Option}
 use Rattle.std.specs.declared.option.Option.TheVariants.{Some, None}
 use Rattle.std.proofs.Common.{ap, sym, ◌∙◌, subst, inl, inr, append-nil, append_assoc, arith}
 use Rattle.std.proofs.Math.Seq.{drop-cons}
@@ -10,7 +9,6 @@ use Rattle.std.proofs.lemmas.List.Elements.{All-append, All-from_get_or, All-wea
 use Rattle.cc_entry.specs.Place.{File, Range}
 use Rattle.cc_entry.specs.declared.call.Call.{Call}
 use Rattle.cc_entry.specs.declared.call.Call.TheVariants as call
-use Rattle.cc_entry.specs.declared.entry.Entry.{Entry}
 use Rattle.cc_entry.specs.declared.error.CcError.{CcError}
 use Rattle.cc_entry.specs.declared.error.CcError.TheVariants as error
 use Rattle.cc_entry.specs.declared.place.DirtyRow.{DirtyRow}
@@ -23,7 +21,6 @@ use Rattle.cc_format.specs.declared.log.OldestRow.{OldestRow}
 use Rattle.cc_format.specs.LogRecords.{spelled_rows}
 use Rattle.std.specs.Int.{bytes_low_first}
 use Rattle.cc_shim.proofs.Recording.{low-first}
-use Rattle.cc_effects.specs.Calls.{CallLeft}
 use Rattle.cc_effects.specs.LogCalls.{AppendLeft, LogFlushLeft}
 use Rattle.cc_effects.specs.Moments.{Between}
 use Rattle.cc_effects.proofs.Stretches.{idle-none}
@@ -36,7 +33,7 @@ use Rattle.cc_calls.specs.Logs.{LogEnds}
 use Rattle.cc_calls.specs.Pages.{WentOn}
 use Rattle.cc_calls.proofs.Paging.{writing-within}
 use Rattle.cc_pieces.specs.Shim.{CallsLeft}
-use Rattle.cc_pieces.specs.Checkpoints.{AskingStopped, CheckpointLeft, RecordFlushed, RecordLogged, RowsLogged, StateAsked, StatesAsked, StateRefused, SyncedLogged, first_object, has_log, oldest_row, record_of_rows, sync_call, with_stream}
+use Rattle.cc_pieces.specs.Checkpoints.{AskingStopped, CheckpointLeft, RecordFlushed, RecordLogged, RowsLogged, StatesAsked, SyncedLogged, first_object, has_log, oldest_row, record_of_rows, sync_call}
 use Rattle.cc_shim.specs.Checkpoints.{LogAsked, LogsAsked, SyncLeft}
 use Rattle.cc_shim.specs.Ends.{FirstLeft, ListEnds}
 use Rattle.cc_shim.proofs.Going.{HasGone, ends-after, ends-here, full-now, gone-append, gone-ends, gone-list, gone-none, gone-then, moved, on-went}

@@ -141,12 +141,7 @@ fn keep(found: &mut Vec<u8>, stream: u8, has: bool) -> Result<(), NoMemory>
 }
 
 // Whether a stream has the log; one that is not open has not.
-fn has_log<T: Turns>(
-    alloc: Global,
-    turns: &mut T,
-    stream: u8,
-    handle: u8,
-) -> Result<bool, CcError>
+fn has_log<T: Turns>(alloc: Global, turns: &mut T, stream: u8, handle: u8) -> Result<bool, CcError>
     requires can { CanCall (T.standing turns.old) stream }
     requires few { stream < 16 }
     ensures ends { ListEnds (T.standing turns.old) (T.standing turns.new)

@@ -1,6 +1,6 @@
 -- The state was told, or the stream is not open, or the call was refused.
-use Rattle.std.specs.Prelude.{◌≡◌, ◌==◌, ◌≢◌, refl}
-use Rattle.std.proofs.Common.{ap, sym, ◌∙◌, rules}
+use Rattle.std.specs.Prelude.{◌≡◌, ◌≢◌}
+use Rattle.std.proofs.Common.{ap, sym, rules}
 use Rattle.cc_entry.specs.declared.error.CcError.TheVariants as error
 use Rattle.cc_pieces.specs.Checkpoints.{first_object, is_log}
 use Rattle.cc_shim.proofs.Checkpointing.{log-not_open, log-told, log-untold, same-file}

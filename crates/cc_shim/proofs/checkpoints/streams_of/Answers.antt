@@ -1,5 +1,5 @@
 -- The streams so far and the next are one more; one whose state was refused ends it, and so does want of memory.
-use Rattle.std.specs.Prelude.{◌≤◌, ◌+◌, refl}
+use Rattle.std.specs.Prelude.{◌+◌, refl}
 use Rattle.std.proofs.Common.{arith}
 use Rattle.cc_shim.proofs.Checkpointing.{asked-more, asked-refused, asked-stopped}
 use Rattle.cc_shim.proofs.checkpoints.streams_of.Goals as goal

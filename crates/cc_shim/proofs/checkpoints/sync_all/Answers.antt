@@ -1,6 +1,5 @@
 -- The streams so far and the next are one more; one that was refused ends it.
-use Rattle.std.specs.Prelude.{◌≡◌, ◌<◌, ◌≤◌, length, take, refl}
-use Rattle.std.proofs.Common.{arith}
+use Rattle.std.specs.Prelude.{◌≡◌, take, refl}
 use Rattle.std.proofs.lemmas.List.{take_all}
 use Rattle.cc_shim.proofs.Checkpointing.{synced-all, synced-more, synced-refused}
 use Rattle.cc_shim.proofs.checkpoints.sync_all.Goals as goal
