@@ -28,7 +28,9 @@ fn has_logs(streams: &[StreamLine], logs: usize) -> bool
 fn has_restarted(restarts: &[RestartLine], logs: usize) -> bool
     ensures { result ≡ list_all (λ restart. nat_lt restart.handle logs) restarts.now }
 {
-    restarts.iter().all(|restart| usize::from(restart.handle) < logs)
+    restarts
+        .iter()
+        .all(|restart| usize::from(restart.handle) < logs)
 }
 
 /// Whether a log is one of so many, where one is named.
