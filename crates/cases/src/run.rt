@@ -4,6 +4,7 @@ ghost use Rattle.std.specs.Prelude.{◌≡◌, false, All, IfOk};
 
 use crate::case::{Case, DiskPlan, LogPlan};
 use crate::devices::{Calls, CaseDisk, CaseLog, CaseSink, CaseSource, Routine};
+use crate::records::MayTell;
 use crate::stage::Stage;
 use crate::trouble::Device;
 use cc_entry::{End, Entry, Request};
@@ -32,6 +33,8 @@ pub struct Left<'a> {
     pub places: Vec<(u64, u64)>,
     /// How many calls passed the gate and told it their end.
     pub passed: u64,
+    /// What the journal says of the record page of each disk.
+    pub records: Vec<MayTell>,
     pub source: CaseSource<'a>,
     pub sink: CaseSink<'a>,
     pub disks: Vec<CaseDisk<'a>>,
@@ -116,6 +119,7 @@ pub fn run_once<'a, R: Threads + Wait + Sync>(
         aheads: aheads.len(),
         places: found(alloc, &places)?,
         passed: stage.moments.passed(),
+        records: records(alloc, &journal, disks.len())?,
         source,
         sink,
         disks,
@@ -131,6 +135,15 @@ fn found(alloc: Global, places: &[QueuePlace<Request>]) -> Result<Vec<(u64, u64)
         found.push((place.empties(), place.fulls()))?;
     }
     Ok(found)
+}
+
+/// What a journal says of the record page of each of so many disks.
+fn records(alloc: Global, journal: &[Entry], many: usize) -> Result<Vec<MayTell>, AllocError> {
+    let mut records = Vec::new(alloc);
+    for stream in 0..many.min(16) as u8 {
+        records.push(MayTell::of_entries(alloc, journal, stream)?)?;
+    }
+    Ok(records)
 }
 
 /// Whether an entry says that a device failed.
