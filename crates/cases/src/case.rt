@@ -129,6 +129,10 @@ pub enum Count {
     /// How often a pass found the queue empty, and full.
     Empties(u64),
     Fulls(u64),
+    /// The same of the queue of copied reads.
+    AsyncPlaces,
+    AsyncEmpties(u64),
+    AsyncFulls(u64),
     /// Calls that failed, on everything that was handed in.
     Faults,
     /// Calls of the callers that passed the gate and told it their end.
@@ -150,6 +154,9 @@ impl Count {
             Count::Places => "places",
             Count::Empties(_) => "empties",
             Count::Fulls(_) => "fulls",
+            Count::AsyncPlaces => "async_places",
+            Count::AsyncEmpties(_) => "async_empties",
+            Count::AsyncFulls(_) => "async_fulls",
             Count::Faults => "faults",
             Count::Passed => "passed",
             Count::Made(..) => "made",

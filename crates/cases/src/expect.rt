@@ -202,8 +202,11 @@ fn count_of(count: Count, left: &Left) -> u64 {
         Count::Ticks => left.ticks as u64,
         Count::Aheads => left.aheads as u64,
         Count::Places => left.places.len() as u64,
-        Count::Empties(pass) => place_of(pass, left).0,
-        Count::Fulls(pass) => place_of(pass, left).1,
+        Count::Empties(pass) => place_of(pass, &left.places).0,
+        Count::Fulls(pass) => place_of(pass, &left.places).1,
+        Count::AsyncPlaces => left.async_places.len() as u64,
+        Count::AsyncEmpties(pass) => place_of(pass, &left.async_places).0,
+        Count::AsyncFulls(pass) => place_of(pass, &left.async_places).1,
         Count::Faults => faults(left),
         Count::Passed => left.passed,
         Count::Made(device, kind) => match left.calls(device) {
@@ -213,9 +216,9 @@ fn count_of(count: Count, left: &Left) -> u64 {
     }
 }
 
-/// How often a pass found the queue of read-ahead empty, and full; never where it has no place.
-fn place_of(pass: u64, left: &Left) -> (u64, u64) {
-    match left.places.get(pass.wrapping_sub(1) as usize) {
+/// How often a pass found a queue empty, and full, by its place among these; never where it has none.
+fn place_of(pass: u64, places: &[(u64, u64)]) -> (u64, u64) {
+    match places.get(pass.wrapping_sub(1) as usize) {
         Some(found) => *found,
         None => (0, 0),
     }

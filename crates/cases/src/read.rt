@@ -353,10 +353,13 @@ fn read_want(alloc: Global, case: &mut Case, first: &str, words: &mut Words) -> 
             match words.word()? {
                 "empties" => Count::Empties(pass),
                 "fulls" => Count::Fulls(pass),
+                "async_empties" => Count::AsyncEmpties(pass),
+                "async_fulls" => Count::AsyncFulls(pass),
                 word => bail!("`{word}` is no count of a pass"),
             }
         }
         "places" => Count::Places,
+        "async_places" => Count::AsyncPlaces,
         "status" => Count::Status,
         "lines" => Count::Lines,
         "replies" => Count::Replies,

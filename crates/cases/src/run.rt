@@ -6,6 +6,7 @@ use crate::case::{Case, DiskPlan, LogPlan};
 use crate::devices::{Calls, CaseDisk, CaseLog, CaseSink, CaseSource, Routine};
 use crate::stage::Stage;
 use crate::trouble::Device;
+use cc_async::AsyncPass;
 use cc_entry::{End, Entry, Request};
 use cc_memdev::{DiskFails, LogFails, MemDisk, MemLog, MemSource};
 use cc_queue::QueuePlace;
@@ -30,6 +31,8 @@ pub struct Left<'a> {
     pub aheads: usize,
     /// How often each pass, from 1 on, found the queue of read-ahead empty, and full.
     pub places: Vec<(u64, u64)>,
+    /// The same of the queue of copied reads.
+    pub async_places: Vec<(u64, u64)>,
     /// How many calls passed the gate and told it their end.
     pub passed: u64,
     pub source: CaseSource<'a>,
@@ -90,6 +93,7 @@ pub fn run_once<'a, R: Threads + Wait + Sync>(
         ticks,
         aheads,
         places,
+        async_places,
         journal,
         disks,
         logs,
@@ -115,6 +119,7 @@ pub fn run_once<'a, R: Threads + Wait + Sync>(
         ticks: ticks.len(),
         aheads: aheads.len(),
         places: found(alloc, &places)?,
+        async_places: found_async(alloc, &async_places)?,
         passed: stage.moments.passed(),
         source,
         sink,
@@ -124,8 +129,17 @@ pub fn run_once<'a, R: Threads + Wait + Sync>(
     })
 }
 
-/// How often each pass found the queue empty, and full.
+/// How often each pass found the queue of read-ahead empty, and full.
 fn found(alloc: Global, places: &[QueuePlace<Request>]) -> Result<Vec<(u64, u64)>, AllocError> {
+    let mut found = Vec::new(alloc);
+    for place in places {
+        found.push((place.empties(), place.fulls()))?;
+    }
+    Ok(found)
+}
+
+/// The same of the queue of copied reads.
+fn found_async(alloc: Global, places: &[AsyncPass]) -> Result<Vec<(u64, u64)>, AllocError> {
     let mut found = Vec::new(alloc);
     for place in places {
         found.push((place.empties(), place.fulls()))?;

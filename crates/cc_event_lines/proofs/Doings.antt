@@ -61,6 +61,8 @@ on-hold Q me bindings (action.Levels file) none_first none_range none_file none_
 on-hold Q me bindings (action.Settle file) none_first none_range none_file none_written = refl
 on-hold Q me bindings (action.AskAhead file at len) none_first none_range none_file none_written = refl
 on-hold Q me bindings action.AheadStep none_first none_range none_file none_written = refl
+on-hold Q me bindings (action.AsyncRead file at len) none_first none_range none_file none_written = refl
+on-hold Q me bindings action.Complete none_first none_range none_file none_written = refl
 on-hold Q me bindings action.Tick none_first none_range none_file none_written = refl
 on-hold Q me bindings (action.SetSizes file allocation size) none_first none_range none_file none_written = absurd (some-none _ none_file)
 on-hold Q me bindings (action.State file) none_first none_range none_file none_written = absurd (some-none _ none_file)

@@ -1,5 +1,5 @@
--- The lines of read-ahead: where one is told of a full journal it found it so, what it leaves explains it, at the journal and at the
--- queue, and the words stand on.
+-- The lines of read-ahead, and those of no queue: where one is told of a full journal it found it so, what it leaves explains it,
+-- in the journal and at the queues, and the words stand on.
 use Rattle.std.specs.Prelude.{◌≡◌, ℕ, ◌≤◌, Bool, true, false, Result, Ok, Err, List, [], ◌∷◌, refl}
 use Rattle.std.specs.declared.option.Option.{Option}
 use Rattle.std.specs.declared.option.Option.TheVariants.{Some, None}
@@ -23,8 +23,11 @@ use Rattle.cc_effects.specs.ReadAhead.{AheadLeft}
 use Rattle.cc_own.specs.Own.{IsUnchanged}
 use Rattle.cc_own.proofs.VerbsKeep.{ahead-unchanged}
 use Rattle.cc_pieces.specs.Answered.{AheadAnswered, CallAnswered}
-use Rattle.cc_pieces.specs.Queue.{AskPlaced, PlaceRan, StepPlaced, is_queue_action}
+use Rattle.cc_pieces.specs.Queue.{AskPlaced, StepPlaced, is_queue_action}
+use Rattle.cc_pieces.specs.AsyncQueue.{is_async}
+use Rattle.cc_pieces.proofs.AsyncPlaces.{async-other}
 use Rattle.cc_pieces.proofs.PlaceSteps.{place-asked, place-other, place-stepped}
+use Rattle.cc_async.specs.declared.queue.QueuedRead.{QueuedRead}
 use Rattle.cc_queue.specs.Places.{PlaceState, PopLeft}
 use Rattle.cc_calls.specs.Ahead.{AskedAt, IsFullStep, StepEnds, ahead_outcome}
 use Rattle.cc_calls.specs.Pages.{WentOn}
@@ -32,7 +35,9 @@ use Rattle.cc_calls.proofs.Paging.{full-within}
 use Rattle.cc_turns.specs.Standing.{Standing}
 use Rattle.cc_writes.specs.Ways.{IsFull}
 use Rattle.cc_lines.specs.Holds.{NamesState}
-use Rattle.cc_lines.specs.Line.{AnyServed, CanServe, IsFullTold, LineServed, StandFor, StepAt, ask_told, hand_of, step_told}
+use Rattle.cc_lines.specs.Line.{AnyServed, CanServe, IsFullTold, LineServed, StandFor, StepAt, ask_told, step_told}
+use Rattle.cc_lines.specs.Queues.{CopiesWent, PlaceWent, PlacesWent, copies_of, hand_of}
+use Rattle.cc_lines.specs.declared.queues.Places.{Places}
 use Rattle.cc_lines.proofs.WordLines.{answered-unchanged, full-told, stand-on}
 
 -- ---- a read that is announced
@@ -89,8 +94,16 @@ stepped-unchanged u me id taken (answer.Stepped step) old new left = ahead-uncha
 stepped-unchanged u me id taken (answer.Refused e) old new left = ahead-unchanged u me id taken (Err e) old new left
 stepped-unchanged u me id taken other old new left = absurd left
 
-module _ (old new : Standing) (told : Answer) (was now : NamesState) (full : IsFullTold new told) (went : WentOn old new) (good : IsGood old.setup new.seen) (rest : now ≡ record was { place = now.place }) where
-  pub ask-line : (file : File) (at len : ℕ) → CallAnswered old.setup old.number (call.AskAhead file at len) told old.seen new.seen → AskPlaced told (hand_of was.place) (hand_of now.place) → now.place.queue ≡ was.place.queue → AnyServed old new (action.AskAhead file at len) told was now
+module _ (old new : Standing) (told : Answer) (was now : NamesState) (full : IsFullTold new told) (went : WentOn old new) (good : IsGood old.setup new.seen) (rest : now ≡ record was { places = record was.places { ahead = now.places.ahead } }) where
+  placed-at : (asked : Action) → is_async asked ≡ false → PlaceWent old.number ((asked, told) ∷ []) was.places.ahead now.places.ahead old.seen new.seen → PlacesWent old.number ((asked, told) ∷ []) was.places now.places old.seen new.seen
+  placed-at asked apart went = record {
+    ahead = went;
+    copies =
+        subst (λ (p : PlaceState QueuedRead). CopiesWent old.number ((asked, told) ∷ []) was.places.copies p) (sym (ap (λ n. n.places.copies) rest))
+        (record { ran = async-other old.number asked told (copies_of was.places.copies) apart; queue_is = refl });
+  }
+
+  pub ask-line : (file : File) (at len : ℕ) → CallAnswered old.setup old.number (call.AskAhead file at len) told old.seen new.seen → AskPlaced told (hand_of was.places.ahead) (hand_of now.places.ahead) → now.places.ahead.queue ≡ was.places.ahead.queue → AnyServed old new (action.AskAhead file at len) told was now
   ask-line file at len left placed queue = record {
     served = λ bounds bindings stand right. (
       left,
@@ -102,13 +115,13 @@ module _ (old new : Standing) (told : Answer) (was now : NamesState) (full : IsF
     goes_on = went;
     good = good;
     room = ap (λ n. n.room) rest;
-    placed = record {
-      ran = place-asked old.setup old.number file at len (hand_of was.place) (hand_of now.place) old.seen new.seen told left placed;
+    placed = placed-at (action.AskAhead file at len) refl (record {
+      ran = place-asked old.setup old.number file at len (hand_of was.places.ahead) (hand_of now.places.ahead) old.seen new.seen told left placed;
       queue_is = queue;
-    };
+    });
   }
 
-  pub step-line : StepAt old new told was.place now.place → AnyServed old new action.AheadStep told was now
+  pub step-line : StepAt old new told was.places.ahead now.places.ahead → AnyServed old new action.AheadStep told was now
   step-line at = record {
     served = λ bounds bindings stand right. (
       (at.taken, at.answered),
@@ -120,34 +133,43 @@ module _ (old new : Standing) (told : Answer) (was now : NamesState) (full : IsF
     goes_on = went;
     good = good;
     room = ap (λ n. n.room) rest;
-    placed = record {
-      ran = place-stepped old.setup old.number (hand_of was.place) (hand_of now.place) old.seen new.seen at.taken told at.answered at.placed;
+    placed = placed-at action.AheadStep refl (record {
+      ran = place-stepped old.setup old.number (hand_of was.places.ahead) (hand_of now.places.ahead) old.seen new.seen at.taken told at.answered at.placed;
       queue_is = at.queue_is;
-    };
+    });
   }
 
--- a line that is none of the queue, which leaves the place as it is
-pub other-line : (old new : Standing) (asked : Action) (told : Answer) (was now : NamesState) → CanServe old asked was → is_queue_action asked ≡ false → LineServed old new asked told was now → AnyServed old new asked told was now
-other-line old new asked told was now can plain line = record {
+-- a line that is none of the queues, which leaves the places as they are
+pub other-line : (old new : Standing) (asked : Action) (told : Answer) (was now : NamesState) → CanServe old asked was → is_queue_action asked ≡ false → is_async asked ≡ false → LineServed old new asked told was now → AnyServed old new asked told was now
+other-line old new asked told was now can plain apart line = record {
   served = line.served;
   full = line.full;
   goes_on = line.goes_on;
   good = line.good;
   room = line.room;
-  placed = record {
-    ran =
-        subst (λ (p : PlaceState Request). PlaceRan old.number ((asked, told) ∷ []) (hand_of was.place) (hand_of p) old.seen new.seen) (sym line.placed)
-        (place-other old.setup old.number can.bindings asked told (hand_of was.place) old.seen new.seen plain
-        (line.served can.bounds can.bindings can.stand can.right).0);
-    queue_is = ap (λ p. p.queue) line.placed;
-  };
+  placed =
+      subst (λ (p : Places). PlacesWent old.number ((asked, told) ∷ []) was.places p old.seen new.seen) (sym line.placed)
+      (record {
+        ahead = record {
+          ran =
+              place-other old.setup old.number can.bindings asked told (hand_of was.places.ahead) old.seen new.seen plain
+              (line.served can.bounds can.bindings can.stand can.right).0;
+          queue_is = refl;
+        };
+        copies = record { ran = async-other old.number asked told (copies_of was.places.copies) apart; queue_is = refl };
+      });
 }
 
--- an action that is neither of the two
+-- an action that is neither of the two of a queue
 pub not-queue : (asked : Action) → ((file : File) (at len : ℕ) → asked ≡ action.AskAhead file at len → ⊥) → (asked ≡ action.AheadStep → ⊥) → is_queue_action asked ≡ false
 not-queue (action.AskAhead file at len) never no_step = absurd (never file at len refl)
 not-queue action.AheadStep never no_step = absurd (no_step refl)
 not-queue other never no_step = refl
+
+pub not-async : (asked : Action) → ((file : File) (at len : ℕ) → asked ≡ action.AsyncRead file at len → ⊥) → (asked ≡ action.Complete → ⊥) → is_async asked ≡ false
+not-async (action.AsyncRead file at len) never not_over = absurd (never file at len refl)
+not-async action.Complete never not_over = absurd (not_over refl)
+not-async other never not_over = refl
 
 -- the action is the one that was served
 pub any-as : (old new : Standing) (asked plain : Action) (told : Answer) (was now : NamesState) → asked ≡ plain → AnyServed old new plain told was now → AnyServed old new asked told was now

@@ -57,7 +57,7 @@ module _ (old new : Standing) (names now : NamesState) (word : ℕ) (taken : now
     goes_on = went;
     good = good;
     room = ap (λ m. m.room) taken;
-    placed = ap (λ m. m.place) taken;
+    placed = ap (λ m. m.places) taken;
   }
 
   -- it ends the hold

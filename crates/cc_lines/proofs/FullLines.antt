@@ -1,11 +1,12 @@
 -- A line that found the journal full left what was there before it, so the end of the line is one of its moments.
-use Rattle.std.specs.Prelude.{◌≡◌, ℕ, ◌≤◌, Bool, true, false, ◌||◌, Err, List, [], ◌∷◌, ◌++◌, refl}
+use Rattle.std.specs.Prelude.{◌≡◌, ℕ, ◌≤◌, Bool, true, false, ◌||◌, Result, Ok, Err, List, [], ◌∷◌, ◌++◌, refl}
 use Rattle.std.specs.declared.option.Option.{Option}
 use Rattle.std.specs.declared.option.Option.TheVariants.{Some, None}
 use Rattle.std.proofs.Common.{ap, sym, ◌∙◌, append_assoc, arith, subst, inl, inr}
 use Rattle.cc_entry.specs.Kinds.{is_map, is_pin, is_repin, is_read_chain, is_write_chain}
 use Rattle.cc_entry.specs.declared.answer.Answer.{Answer}
 use Rattle.cc_entry.specs.declared.answer.Answer.TheVariants as answer
+use Rattle.cc_entry.specs.declared.answer.AsyncDone.{AsyncDone}
 use Rattle.cc_entry.specs.declared.call.Call.{Call}
 use Rattle.cc_entry.specs.declared.call.Call.TheVariants as call
 use Rattle.cc_entry.specs.declared.entry.Entry.{Entry}
@@ -22,8 +23,9 @@ use Rattle.cc_model.specs.Setup.{Setup}
 use Rattle.cc_effects.specs.Moments.{Between}
 use Rattle.cc_effects.specs.Repins.{UnpinLeft}
 use Rattle.cc_effects.proofs.Stretches.{grew-after}
+use Rattle.cc_own.proofs.Unchanged.{unchanged-call}
 use Rattle.cc_own.proofs.VerbsKeep.{ahead-unchanged, nc_read-unchanged, nc_write-unchanged, tick-unchanged}
-use Rattle.cc_pieces.specs.Answered.{AppendAnswered, CallAnswered, LogFlushAnswered, PostsRefused}
+use Rattle.cc_pieces.specs.Answered.{AppendAnswered, CallAnswered, LogFlushAnswered, PostsRefused, bytes_outcome}
 use Rattle.cc_pieces.specs.Bindings.{Binding, OnHold, hold_named}
 use Rattle.cc_pieces.specs.HoldLines.{HeldReadBy, HoldLine, UnpinAnswered}
 use Rattle.cc_pieces.specs.Served.{Served}
@@ -31,7 +33,7 @@ use Rattle.cc_turns.specs.Standing.{Standing}
 use Rattle.cc_calls.specs.Pages.{WentOn}
 use Rattle.cc_writes.specs.Ways.{IsFullError}
 use Rattle.cc_shim.specs.Ends.{WasFullError}
-use Rattle.cc_lines.specs.Line.{IsFullLine, WasFullTold}
+use Rattle.cc_lines.specs.Line.{IsFullIn, IsFullLine, WasFullIn, WasFullTold}
 use Rattle.cc_lines.proofs.KeptByShim.{read-keeps, update-keeps, write-keeps}
 use Rattle.cc_lines.proofs.SettleServed.{settled-unchanged}
 
@@ -137,6 +139,7 @@ module _ (u : Setup) (me entries : ℕ) (old new : List Entry) where
   grew-served bindings action.Post left = grew-posts left.0 old left.1
   grew-served bindings action.Tick left =
       let kept = tick-unchanged me 0 (Err (error.JournalFull entries)) old new left in record { during = kept.during; grew = kept.grew }
+  grew-served bindings (action.AsyncRead file at len) left = record { during = left.during; grew = left.grew }
   grew-served bindings (action.AskAhead file at len) left = grew-call (call.AskAhead file at len) left
   grew-served bindings action.AheadStep left =
       let kept = ahead-unchanged u me 0 left.0 (Err (error.JournalFull entries)) old new left.1 in record { during = kept.during; grew = kept.grew }
@@ -215,6 +218,44 @@ module _ (u : Setup) (me done : ℕ) (cause : CcError) (old new : List Entry) wh
   grew-cut_off bindings action.AheadStep left = absurd left.1
   grew-cut_off bindings other left = absurd left
 
+-- and where a line tells what a queued read was completed with, which is the completion of one alone
+module _ (u : Setup) (me : ℕ) (done : AsyncDone) (old new : List Entry) where
+  abbrev over : Answer
+  over = answer.Completed (Some done)
+
+  never-over : (o : Option ℕ) (Left : ℕ → Answer → Between) → ((id : ℕ) → Left id over old new → ⊥) → OnHold me o Left over old new → ⊥
+  never-over None Left never left = absurd (cc (left.0))
+  never-over (Some id) Left never left = never id left
+
+  never-made : (bindings : List Binding) (word : ℕ) (of_kind : HoldKind → Bool) (call_on : ℕ → Call) → HoldLine u me bindings word of_kind call_on over old new → ⊥
+  never-made bindings word of_kind call_on left = never-over (hold_named bindings word of_kind) (λ id. CallAnswered u me (call_on id)) (λ id is. is) left
+
+  never-got : (bindings : List Binding) (word at len : ℕ) (o : Option ℕ) → HeldReadBy u me bindings word at len o over old new → ⊥
+  never-got bindings word at len (Some id) left = left
+  never-got bindings word at len None left = never-made bindings word is_pin (λ id. call.PinnedRead id at len) left
+
+  grew-over : (bindings : List Binding) (asked : Action) → Served u me bindings asked over old new → Grew old new
+  grew-over bindings action.Complete left =
+      let kept = unchanged-call u me 0 (call.CopyRead done.file done.at done.len true) (bytes_outcome done.answer) old new left refl in
+      record { during = kept.during; grew = kept.grew }
+  grew-over bindings (action.PinMapped word exclusive) left = absurd (never-made bindings word is_map (λ id. call.PinMapped id exclusive) left)
+  grew-over bindings (action.HeldRead word at len) left = absurd (never-got bindings word at len (hold_named bindings word is_map) left)
+  grew-over bindings (action.PinnedWrite word at bytes) left = absurd (never-made bindings word is_pin (λ id. call.PinnedWrite id at bytes) left)
+  grew-over bindings (action.SetDirty word lsn) left = absurd (never-made bindings word is_pin (λ id. call.SetDirty id lsn) left)
+  grew-over bindings (action.Unpin word) left =
+      absurd (never-made bindings word (λ its_kind. is_map its_kind || is_pin its_kind) (λ id. call.EndHold id) left)
+  grew-over bindings (action.Repin word made) left = absurd (never-made bindings word is_pin (λ id. call.Repin id) left)
+  grew-over bindings (action.UnpinRepinned word through) left =
+      absurd (never-over (hold_named bindings word is_repin) (UnpinAnswered u me through) (λ id is. is) left)
+  grew-over bindings (action.MdlBytes word at len) left = absurd (never-made bindings word is_read_chain (λ id. call.MdlBytes id at len) left)
+  grew-over bindings (action.MdlStore word at bytes) left = absurd (never-made bindings word is_write_chain (λ id. call.MdlStore id at bytes) left)
+  grew-over bindings (action.MdlDone word) left =
+      absurd (never-made bindings word (λ its_kind. is_read_chain its_kind || is_write_chain its_kind) (λ id. call.EndHold id) left)
+  grew-over bindings (action.MdlAbort word) left = absurd (never-made bindings word is_write_chain (λ id. call.EndHold id) left)
+  grew-over bindings (action.Flush file span) left = absurd left.left
+  grew-over bindings action.AheadStep left = absurd left.1
+  grew-over bindings other left = absurd left
+
 -- ---- at the end of a line others had no more under way than they ever have
 
 module _ (old new : Standing) (went : WentOn old new) (few : new.others ≤ new.most_others) where
@@ -244,4 +285,10 @@ module _ (old new : Standing) (went : WentOn old new) (few : new.others ≤ new.
       full-end 3 e (λ entries is. grew-served old.setup old.number entries old.seen new.seen bindings asked (subst (λ x. Served old.setup old.number bindings asked (answer.Refused x) old.seen new.seen) is left)) full
   full-line bindings asked (answer.NcRefused done cause) left (inl (inl full)) = inl (full-end 2 cause (cut bindings asked done cause left) full)
   full-line bindings asked (answer.NcRefused done cause) left (inl (inr full)) = inr (full.0, full-end 4 cause (cut bindings asked done cause left) full.1)
+  full-line bindings asked (answer.Completed (Some done)) left (inl full) =
+      by done.answer (grew-over old.setup old.number done old.seen new.seen bindings asked left) full
+    where
+      by : (o : Result (List ℕ) CcError) → Grew old.seen new.seen → IsFullIn new o → WasFullIn old new o
+      by (Ok bytes) grew full = tt
+      by (Err e) grew full = full-end 3 e (λ entries is. grew) full
   full-line bindings asked other left (inl _) = tt

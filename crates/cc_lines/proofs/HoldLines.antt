@@ -60,7 +60,7 @@ module _ (old new : Standing) (names now : NamesState) (file : File) (at len : �
     goes_on = ends.pages.goes_on;
     good = ends.pages.good good;
     room = ap (λ n. n.room) grew;
-    placed = ap (λ n. n.place) grew;
+    placed = ap (λ n. n.places) grew;
   }
 
 pub map-ends : (old new : Standing) (names now : NamesState) (file : File) (at len : ℕ) (made : Result Named CcError) → CanServe old (action.Map file at len (length names.named)) names → MakingEnds old new is_map file at len (call.Map file at len) (held_answer made) → IfOk made (λ one. (kind_of one ≡ kind.Map) × (test_of one ≡ is_map)) → now ≡ record names { named = names.named ++ bound_named made ∷ [] } → LineServed old new (action.Map file at len (length names.named)) (made_told made) names now

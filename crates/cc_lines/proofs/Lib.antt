@@ -21,3 +21,4 @@ pub mod TickLines
 pub mod HeldReads
 pub mod ServeLines
 pub mod AheadLines
+pub mod AsyncLines

@@ -63,7 +63,7 @@ module _ (old new : Standing) (names now : NamesState) (word : ℕ) (exclusive :
     goes_on = went;
     good = ends.good can.good;
     room = ap (λ m. m.room) put;
-    placed = ap (λ m. m.place) put;
+    placed = ap (λ m. m.places) put;
   }
     where
       went : WentOn old new
@@ -81,7 +81,7 @@ module _ (old new : Standing) (names now : NamesState) (word : ℕ) (exclusive :
     goes_on = went;
     good = ends.good can.good;
     room = ap (λ m. m.room) put;
-    placed = ap (λ m. m.place) put;
+    placed = ap (λ m. m.places) put;
   }
     where
       went : WentOn old new
@@ -100,7 +100,7 @@ module _ (w : Standing) (names now : NamesState) (word : ℕ) (exclusive : Bool)
     goes_on = went-none w;
     good = can.good;
     room = ap (λ m. m.room) same;
-    placed = ap (λ m. m.place) same;
+    placed = ap (λ m. m.places) same;
   }
 
   inside : word < length names.named
@@ -127,7 +127,7 @@ module _ (old new : Standing) (names now : NamesState) (word : ℕ) (pinned : He
     goes_on = went;
     good = ends.call_ends.good can.good;
     room = ap (λ m. m.room) grew;
-    placed = ap (λ m. m.place) grew;
+    placed = ap (λ m. m.places) grew;
   }
     where
       went : WentOn old new
@@ -169,5 +169,5 @@ no-repin w names now word can none grew = record {
   goes_on = went-none w;
   good = can.good;
   room = ap (λ m. m.room) grew;
-  placed = ap (λ m. m.place) grew;
+  placed = ap (λ m. m.places) grew;
 }

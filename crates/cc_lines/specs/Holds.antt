@@ -6,7 +6,6 @@ use Rattle.std.specs.List.{find}
 use Rattle.cc_entry.specs.declared.answer.Answer.{Answer}
 use Rattle.cc_entry.specs.declared.answer.Answer.TheVariants as answer
 use Rattle.cc_entry.specs.declared.error.CcError.{CcError}
-use Rattle.cc_entry.specs.declared.place.Request.{Request}
 use Rattle.cc_entry.specs.declared.reply.Reply.TheVariants as reply
 use Rattle.cc_entry.specs.Kinds.{is_map, is_pin, is_repin, is_read_chain, is_write_chain}
 use Rattle.cc_entry.specs.declared.entry.Entry.{Entry}
@@ -16,18 +15,18 @@ use Rattle.cc_script.specs.HoldWords.{binds}
 use Rattle.cc_script.specs.declared.bound.Bound.{Bound}
 use Rattle.cc_script.specs.declared.script.Action.{Action}
 use Rattle.cc_pieces.specs.Bindings.{Binding}
-use Rattle.cc_queue.specs.Places.{PlaceState}
 use Rattle.cc_calls.specs.Held.{HoldsAfter}
 use Rattle.cc_calls.specs.declared.held.Held.{Held}
 use Rattle.cc_lines.specs.declared.holds.Named.{Named}
 use Rattle.cc_lines.specs.declared.holds.Named.TheVariants as named
+use Rattle.cc_lines.specs.declared.queues.Places.{Places}
 
 -- what the words of a caller name, in the order in which its lines bind them, and for how many words there is room; and the
--- caller's place at the read-ahead queue
+-- caller's places at the queues of a run
 pub record NamesState : Type 0 where
   pub named : List (Option Named)
   pub room : ℕ
-  pub place : PlaceState Request
+  pub places : Places
 
 -- what a word names, where it names anything
 abbrev pub or_nothing : Option (Option Named) → Option Named

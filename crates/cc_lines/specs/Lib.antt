@@ -1,3 +1,4 @@
 -- What the contracts cite.
+pub mod Queues
 pub mod Holds
 pub mod Line

@@ -1,11 +1,13 @@
 -- What a line of a script asks, and what it leaves.
 use Rattle.std.specs.Prelude.{◌≡◌, ℕ, Bool, ◌<◌, ◌⊎◌, List, [], ◌∷◌, length, Result, Ok, Err}
 use Rattle.std.specs.declared.option.Option.{Option}
+use Rattle.std.specs.declared.option.Option.TheVariants.{Some}
 use Rattle.cc_entry.specs.Place.{File, Page}
 use Rattle.cc_entry.specs.declared.place.Request.{Request}
 use Rattle.cc_entry.specs.declared.place.DirtyRow.{DirtyRow}
 use Rattle.cc_entry.specs.declared.place.FileState.{FileState}
 use Rattle.cc_entry.specs.declared.answer.AheadDone.{AheadDone}
+use Rattle.cc_entry.specs.declared.answer.AsyncStart.{AsyncStart}
 use Rattle.cc_entry.specs.declared.answer.Answer.{Answer}
 use Rattle.cc_entry.specs.declared.answer.Answer.TheVariants as answer
 use Rattle.cc_entry.specs.declared.entry.Entry.{Entry}
@@ -14,7 +16,7 @@ use Rattle.cc_entry.specs.declared.reply.Reply.TheVariants as reply
 use Rattle.cc_entry.specs.declared.call.Call.{Call}
 use Rattle.cc_entry.specs.declared.hold.HoldKind.{HoldKind}
 use Rattle.cc_pieces.specs.Answered.{AheadAnswered, CallAnswered}
-use Rattle.cc_pieces.specs.Queue.{PlaceRan, QueuePlace, StepPlaced}
+use Rattle.cc_pieces.specs.Queue.{StepPlaced}
 use Rattle.cc_script.specs.declared.script.Action.{Action}
 use Rattle.cc_script.specs.declared.script.Action.TheVariants as action
 use Rattle.cc_script.specs.HoldWords.{UsesRight, bound_after}
@@ -35,6 +37,7 @@ pub use Rattle.cc_shim.specs.Ends.{WasFullError}
 pub use Rattle.cc_calls.specs.Pages.{WentOn}
 pub use Rattle.cc_calls.specs.Answers.{IsFree}
 use Rattle.cc_lines.specs.Holds.{NamesState, NamesStand, HasRoom}
+use Rattle.cc_lines.specs.Queues.{PlacesWent, hand_of}
 
 -- An action of a run on one of so many streams, or on none; one on a hold names no stream. Those of `steps` alone are no
 -- actions of a run.
@@ -85,6 +88,8 @@ IsServable streams (action.SetAttributes file no_read_ahead no_write_behind) = f
 IsServable streams (action.SetThreshold file pages) = file.stream < streams
 IsServable streams (action.AskAhead file at len) = file.stream < streams
 IsServable streams action.AheadStep = Unit {0}
+IsServable streams (action.AsyncRead file at len) = file.stream < streams
+IsServable streams action.Complete = Unit {0}
 IsServable streams action.Tick = Unit {0}
 IsServable streams (action.NcReadPage file page) = ⊥
 IsServable streams (action.NcStorePage file page bytes) = ⊥
@@ -122,21 +127,32 @@ pub record IsStoring (w : Standing) : Type 0 where
   pub page : Page
   pub to_store : HasToStore w.setup file page w.seen
 
+-- What a queued read was completed with says that the journal is full only where it is; and only where it was so at a moment.
+abbrev pub IsFullIn : {A : Type 0} → Standing → Result A CcError → Type 0
+IsFullIn w (Ok value) = Unit {0}
+IsFullIn w (Err e) = IsFullError 3 w e
+
+abbrev pub WasFullIn : {A : Type 0} → Standing → Standing → Result A CcError → Type 0
+WasFullIn old new (Ok value) = Unit {0}
+WasFullIn old new (Err e) = WasFullError 3 old new e
+
 -- An answer says that the journal is full only where it is: with no room for so many places as a call asks at once, 3 at
 -- most; or, where it is a noncached one, 2, or the 4 of a store where a page is to be stored as it finds that.
 abbrev pub IsFullTold : Standing → Answer → Type 0
 IsFullTold w (answer.Refused e) = IsFullError 3 w e
 IsFullTold w (answer.NcRefused done cause) = IsFullError 2 w cause ⊎ (IsStoring w × IsFullError 4 w cause)
+IsFullTold w (answer.Completed (Some done)) = IsFullIn w done.answer
 IsFullTold w other = Unit {0}
 
 -- The same of a moment of the line, at which others had no more under way than they ever have.
 abbrev pub WasFullTold : Standing → Standing → Answer → Type 0
 WasFullTold old new (answer.Refused e) = WasFullError 3 old new e
 WasFullTold old new (answer.NcRefused done cause) = WasFullError 2 old new cause ⊎ (IsStoring new × WasFullError 4 old new cause)
+WasFullTold old new (answer.Completed (Some done)) = WasFullIn old new done.answer
 WasFullTold old new other = Unit {0}
 
 -- A line was served: it left what explains its answer, over what the caller's words name, and what is kept of them
--- stands for it then; of a journal that is told to be full this is so, and this of the pass's place at the read-ahead queue; the
+-- stands for it then; of a journal that is told to be full this is so, and this of the pass's places at the queues; the
 -- pass goes on as it stood and may call again; and what it has seen is good.
 pub record LineWith (Full Placed : Type 0) (old new : Standing) (asked : Action) (told : Answer) (was now : NamesState) : Type 0 where
   pub served : (bounds : List Bound) (bindings : List Binding) → StandFor old bounds bindings was → UsesRight bounds asked →
@@ -159,28 +175,19 @@ IsList other = ⊥
 abbrev pub IsFullLine : Standing → Standing → Action → Answer → Type 0
 IsFullLine old new asked told = IsFullTold new told ⊎ (IsList asked × WasFullTold old new told)
 
--- what a place at the queue says of itself
-abbrev pub hand_of : PlaceState Request → QueuePlace
-hand_of place = record { pushed = place.pushed; taken = place.taken; empties = place.empties; fulls = place.fulls }
-
--- Lines of a pass, each with its answer, did this at the pass's place, which is of the queue that it was of.
-pub record PlaceWent (me : ℕ) (lines : List (Action × Answer)) (was now : PlaceState Request) (old new : List Entry) : Type 0 where
-  pub ran : PlaceRan me lines (hand_of was) (hand_of now) old new
-  pub queue_is : now.queue ≡ was.queue
-
--- a line that was served which is none of the queue
+-- a line that was served which is none of the queues
 abbrev pub LineServed : Standing → Standing → Action → Answer → NamesState → NamesState → Type 0
-LineServed old new asked told was now = LineWith (IsFullLine old new asked told) (now.place ≡ was.place) old new asked told was now
+LineServed old new asked told was now = LineWith (IsFullLine old new asked told) (now.places ≡ was.places) old new asked told was now
 
 -- a line that was served
 abbrev pub AnyServed : Standing → Standing → Action → Answer → NamesState → NamesState → Type 0
 AnyServed old new asked told was now =
-    LineWith (IsFullLine old new asked told) (PlaceWent old.number ((asked, told) ∷ []) was.place now.place old.seen new.seen) old new asked told was now
+    LineWith (IsFullLine old new asked told) (PlacesWent old.number ((asked, told) ∷ []) was.places now.places old.seen new.seen) old new asked told was now
 
 -- the same, and of each line that tells of a full journal a moment at which it was so
 abbrev pub LineEnds : Standing → Standing → Action → Answer → NamesState → NamesState → Type 0
 LineEnds old new asked told was now =
-    LineWith (IsFullLine old new asked told × WasFullTold old new told) (PlaceWent old.number ((asked, told) ∷ []) was.place now.place old.seen new.seen)
+    LineWith (IsFullLine old new asked told × WasFullTold old new told) (PlacesWent old.number ((asked, told) ∷ []) was.places now.places old.seen new.seen)
     old new asked told was now
 
 -- a step of read-ahead, which took a request, or none
@@ -228,6 +235,11 @@ ask_told (Err e) = answer.Refused e
 abbrev pub step_told : Result (Option AheadDone) CcError → Answer
 step_told (Ok step) = answer.Stepped step
 step_told (Err e) = answer.Refused e
+
+-- the answer of a read that may be queued
+abbrev pub start_told : Result AsyncStart CcError → Answer
+start_told (Ok start) = answer.Started start
+start_told (Err e) = answer.Refused e
 
 -- the answer of a noncached line that was refused
 abbrev pub nc_refused : NcError → Answer

@@ -7,7 +7,8 @@ ghost use Rattle.cc_pieces.specs.Queue.{AskPlaced};
 ghost use Rattle.cc_turns.specs.Standing.{Standing};
 ghost use Rattle.cc_calls.specs.Answers.{CanCall, IsFree};
 ghost use Rattle.cc_calls.specs.Pages.{StaysGood, WentOn};
-ghost use Rattle.cc_lines.specs.Line.{IsFullTold, StepAt, ask_told, hand_of, step_told};
+ghost use Rattle.cc_lines.specs.Line.{IsFullTold, StepAt, ask_told, step_told};
+ghost use Rattle.cc_lines.specs.Queues.{hand_of};
 
 use cc_calls::{read_ahead_step, schedule_read_ahead};
 use cc_entry::{AheadDone, Answer, CcError, FileId, Reply, Request};

@@ -1,12 +1,12 @@
-//! The holds that the words of a caller name, and the caller's place at the read-ahead queue.
+//! The holds that the words of a caller name, and the caller's places at the queues of a run.
 
 ghost use Rattle.std.specs.Prelude.{◌≡◌, ◌<◌, ◌≤◌, ◌++◌, ◌∷◌, [], Option, Some, None, IfOk, length, slice_get, slice_set};
 ghost use Rattle.std.specs.Option.{option_copied};
 ghost use Rattle.cc_lines.specs.Holds.{named_at};
 
+use crate::queues::Places;
 use cc_calls::{Hold, Mapped, Pinned, ReadChain, Repinned, WriteChain};
-use cc_entry::{NoMemory, Request};
-use cc_queue::QueuePlace;
+use cc_entry::NoMemory;
 use cc_script::HoldWord;
 use std::alloc::Global;
 use std::marker::Model;
@@ -41,11 +41,11 @@ impl Named {
 }
 
 /// What the words of a caller name, in the order in which its lines bind them: nothing where the hold was not made, or
-/// was ended. Beside them goes what else is a caller's through all phases, its place at the read-ahead queue.
+/// was ended. Beside them goes what else is a caller's through all phases, its places at the queues.
 #[derive(Drop)]
 pub struct Names {
     named: Vec<Option<Named>>,
-    pub(crate) place: QueuePlace<Request>,
+    pub(crate) places: Places,
 }
 
 impl Model for Names {
@@ -54,30 +54,26 @@ impl Model for Names {
 
     ghost Value = { NamesState };
 
-    ghost view = { λ n. record { named = n.named.items; room = vec_capacity n.named; place = n.place } };
+    ghost view = { λ n. record { named = n.named.items; room = vec_capacity n.named; places = n.places } };
 }
 
 impl Names {
-    /// No words yet, with room for so many, and this place. Answers `NoMemory` where memory is wanting.
-    pub fn with_room(
-        alloc: Global,
-        words: usize,
-        place: QueuePlace<Request>,
-    ) -> Result<Names, NoMemory>
+    /// No words yet, with room for so many, and these places. Answers `NoMemory` where memory is wanting.
+    pub fn with_room(alloc: Global, words: usize, places: Places) -> Result<Names, NoMemory>
         ensures room { IfOk result (λ names. (names.named ≡ []) × (words ≤ names.room)) }
-        ensures place { IfOk result (λ names. names.place ≡ place) }
+        ensures places { IfOk result (λ names. names.places ≡ places) }
     {
         Ok(Names {
             named: Vec::with_capacity(alloc, words)?,
-            place,
+            places,
         })
     }
 
-    /// The place at the queue.
-    pub fn into_place(self) -> QueuePlace<Request>
-        ensures { result ≡ self.place }
+    /// The places at the queues.
+    pub fn into_places(self) -> Places
+        ensures { result ≡ self.places }
     {
-        self.place
+        self.places
     }
 
     /// Binds the next word to what was made, where anything was. There is room for it.

@@ -2,20 +2,24 @@
 
 ghost use Rattle.cc_entry.specs.declared.call.Call.TheVariants as call;
 ghost use Rattle.cc_pieces.specs.Answered.{AppendAnswered, CallAnswered};
+ghost use Rattle.cc_pieces.specs.AsyncQueue.{is_async};
 ghost use Rattle.cc_pieces.specs.Queue.{is_queue_action};
 ghost use Rattle.cc_turns.specs.Standing.{Standing};
 ghost use Rattle.cc_calls.specs.Answers.{CanCall, IsFree};
 ghost use Rattle.cc_calls.specs.Pages.{StaysGood, WentOn};
 ghost use Rattle.cc_lines.specs.Line.{AnyServed, CanServe, IsFullTold, LineEnds, LineServed, flag_told, lsns_told, rows_told, state_told, told_of};
+ghost use Rattle.cc_lines.specs.Queues.{queues_of};
 ghost use Rattle.std.specs.Prelude.{◌≡◌, false};
 
 use crate::ahead_lines::{ask_ahead, serve_step};
+use crate::async_lines::{complete_read, start_read};
 use crate::held_lines::{
     chain, chain_abort, chain_done, chain_read, chain_store, held_read, held_write, hold_again,
     map, pin, pin_map, prepare, release, release_repinned, stamp, write_chain,
 };
 use crate::holds::Names;
 use crate::noncached_lines::{read_noncached, write_noncached};
+use crate::queues::Queues;
 use crate::settle_line::settle_stream;
 use crate::shim_lines::{levels, lock, read_along, unlock, update_logged, write_extending};
 use crate::throttle_lines::{Fresh, defer_write, post_all};
@@ -25,8 +29,7 @@ use cc_calls::{
     is_dirty_data, log_append, log_flush, lsn_for_file, purge, set_attributes, set_file_sizes,
     set_granularity, set_log_handle, set_threshold, uninitialize, zero_data,
 };
-use cc_entry::{Answer, Bytes, BytesRoom, CcError, FileId, FileState, Lsn, Reply, Request, Rows};
-use cc_queue::Queue;
+use cc_entry::{Answer, Bytes, BytesRoom, CcError, FileId, FileState, Lsn, Reply, Rows};
 use cc_script::Action;
 use cc_traits::Gate;
 use cc_turns::Turns;
@@ -38,7 +41,7 @@ pub fn serve_at<R: Wait, T: Turns, P: Gate>(
     rt: &R,
     alloc: Global,
     turns: &mut T,
-    queue: &Queue<Request>,
+    queues: &Queues,
     action: &Action,
     gate: &P,
     number: u32,
@@ -47,48 +50,57 @@ pub fn serve_at<R: Wait, T: Turns, P: Gate>(
 where
     T::Post: Fresh,
     requires can { CanServe (T.standing turns.old) action.now names.old }
-    requires own { names.old.place.queue ≡ queue.now }
+    requires own { queues_of names.old.places ≡ queues.now }
     ensures { LineEnds (T.standing turns.old) (T.standing turns.new) action.now result names.old names.new }
 {
     let caller = turns.me();
     gate.before(caller, number);
-    let answer = serve_any(rt, alloc, turns, queue, action, names);
+    let answer = serve_any(rt, alloc, turns, queues, action, names);
     turns.note_others();
     gate.after(caller, number);
     answer
 }
 
-// Serves an action, at the queue of read-ahead or without it.
+// Serves an action, at the queue of read-ahead, at that of copied reads, or at none.
 fn serve_any<R: Wait, T: Turns>(
     rt: &R,
     alloc: Global,
     turns: &mut T,
-    queue: &Queue<Request>,
+    queues: &Queues,
     action: &Action,
     names: &mut Names,
 ) -> Answer
 where
     T::Post: Fresh,
     requires can { CanServe (T.standing turns.old) action.now names.old }
-    requires own { names.old.place.queue ≡ queue.now }
+    requires own { queues_of names.old.places ≡ queues.now }
     ensures { AnyServed (T.standing turns.old) (T.standing turns.new) action.now result names.old names.new }
 {
     match action {
         Action::AskAhead { file, at, len } => {
-            ask_ahead(rt, alloc, turns, queue, &mut names.place, *file, *at, *len)
+            let place = &mut names.places.ahead;
+            ask_ahead(rt, alloc, turns, &queues.ahead, place, *file, *at, *len)
         }
-        Action::AheadStep => serve_step(rt, alloc, turns, queue, &mut names.place),
+        Action::AheadStep => serve_step(rt, alloc, turns, &queues.ahead, &mut names.places.ahead),
+        Action::AsyncRead { file, at, len } => {
+            let place = &mut names.places.copies;
+            start_read(rt, alloc, turns, &queues.copies, place, *file, *at, *len)
+        }
+        Action::Complete => {
+            complete_read(rt, alloc, turns, &queues.copies, &mut names.places.copies)
+        }
         _ => serve(alloc, turns, action, names),
     }
 }
 
-// Serves an action that is none of the queue, and answers its line. Want of memory is an answer, of a call that was not done:
+// Serves an action that is none of the queues, and answers its line. Want of memory is an answer, of a call that was not done:
 // what the answer of one that was done takes is there before.
 fn serve<T: Turns>(alloc: Global, turns: &mut T, action: &Action, names: &mut Names) -> Answer
 where
     T::Post: Fresh,
     requires can { CanServe (T.standing turns.old) action.now names.old }
     requires plain { is_queue_action action.now ≡ false }
+    requires apart { is_async action.now ≡ false }
     ensures { LineServed (T.standing turns.old) (T.standing turns.new) action.now result names.old names.new }
 {
     match action {
@@ -196,9 +208,11 @@ where
         } => defer_write(turns, *file, *bytes, *retrying),
         Action::Post => post_all(alloc, turns),
         Action::Tick => serve_tick(alloc, turns),
-        // The lines of the queue, and those of `steps` alone, which are none of a run.
+        // The lines of the queues, and those of `steps` alone, which are none of a run.
         Action::AskAhead { .. }
         | Action::AheadStep
+        | Action::AsyncRead { .. }
+        | Action::Complete
         | Action::NcReadPage { .. }
         | Action::NcStorePage { .. }
         | Action::NcWritePage { .. }

@@ -1,5 +1,5 @@
 -- A line whose journal shows no failure is answered none.
-use Rattle.std.specs.Prelude.{◌≡◌, ℕ, zero, suc, ◌+◌, ◌*◌, ◌/◌, ◌%◌, Bool, true, false, cond, ◌==◌, ◌&&◌, ◌||◌, nat_lt, List, [], ◌∷◌, ◌++◌, length, take, drop, Err, refl, ◌⊎◌, if◌then◌else◌}
+use Rattle.std.specs.Prelude.{◌≡◌, ℕ, zero, suc, ◌+◌, ◌*◌, ◌/◌, ◌%◌, Bool, true, false, cond, ◌==◌, ◌&&◌, ◌||◌, nat_lt, List, [], ◌∷◌, ◌++◌, length, take, drop, Err, refl, ◌⊎◌, if◌then◌else◌, Result, Ok}
 use Rattle.std.specs.declared.option.Option.{Option}
 use Rattle.std.specs.declared.option.Option.TheVariants.{Some, None}
 use Rattle.std.specs.List.{AllByRecursion, count_by, list_any}
@@ -39,9 +39,9 @@ use Rattle.cc_model.specs.Passes.{HasSeen, is_mine, is_same_page}
 use Rattle.cc_script.specs.declared.script.ReadPath.{ReadPath}
 use Rattle.cc_vacb.specs.Levels.{levels_of}
 use Rattle.cc_records.specs.Left.{LoadLeft, RecordStopped, SettleLeft, SyncedSome, WroteSome}
-use Rattle.cc_pieces.specs.Answered.{AppendAnswered, CallAnswered, LevelsAnswered, LogFlushAnswered, DeferAnswered, PostsAnswered, PostsRefused, NcReadAnswered, NcWriteAnswered, SettleAnswered, TickAnswered, AheadAnswered}
+use Rattle.cc_pieces.specs.Answered.{AppendAnswered, CallAnswered, LevelsAnswered, LogFlushAnswered, DeferAnswered, PostsAnswered, PostsRefused, NcReadAnswered, NcWriteAnswered, SettleAnswered, TickAnswered, AheadAnswered, StartAnswered, CompletionAnswered, bytes_outcome}
 use Rattle.cc_pieces.specs.Bindings.{Binding, OnHold, hold_named}
-use Rattle.cc_pieces.specs.Faultless.{shows_fault, tells_fault}
+use Rattle.cc_pieces.specs.Faultless.{is_faulty, shows_fault, tells_fault}
 use Rattle.cc_pieces.specs.HoldLines.{HeldReadBy, HoldLine, UnpinAnswered, UnrepinLine}
 use Rattle.cc_pieces.specs.Served.{Served}
 use Rattle.cc_pieces.specs.Locks.{LockAnswered, LockedReadAnswered, LockedUpdateAnswered, LockedWriteAnswered, UnlockAnswered}
@@ -149,6 +149,22 @@ step-none u me taken (answer.Stepped step) old new left none = refl
 step-none u me None (answer.Refused e) old new left none = absurd left
 step-none u me (Some request) (answer.Refused e) old new left none = failed-tells-none u me (call.AheadStep request) e old new left none
 step-none u me taken other old new left none = absurd left
+
+started-none : (u : Setup) (me : ℕ) (file : File) (at len : ℕ) (told : Answer) (old new : List Entry) → StartAnswered u me file at len told old new → ShowsNone new → tells_fault told ≡ false
+started-none u me file at len (answer.Started start) old new left none = refl
+started-none u me file at len (answer.Refused error.QueueFull) old new left none = refl
+started-none u me file at len (answer.Refused (error.NotResident page)) old new left none = absurd left
+started-none u me file at len (answer.Refused e) old new left none = failed-tells-none u me (call.CopyRead file at len false) e old new left none
+started-none u me file at len other old new left none = absurd left
+
+completed-none : (u : Setup) (me : ℕ) (told : Answer) (old new : List Entry) → CompletionAnswered u me told old new → ShowsNone new → tells_fault told ≡ false
+completed-none u me (answer.Completed None) old new left none = refl
+completed-none u me (answer.Completed (Some done)) old new left none = by done.answer left
+  where
+    by : (o : Result (List ℕ) CcError) → CallLeft u me (call.CopyRead done.file done.at done.len true) (bytes_outcome o) old new → is_faulty o ≡ false
+    by (Ok bytes) left = refl
+    by (Err e) left = failed-tells-none u me (call.CopyRead done.file done.at done.len true) e old new left none
+completed-none u me other old new left none = absurd left
 
 append-none : (u : Setup) (me handle : ℕ) (bytes : List ℕ) (told : Answer) (old new : List Entry) → AppendAnswered u me handle bytes told old new → ShowsNone new → tells_fault told ≡ false
 append-none u me handle bytes (answer.NewLsn lsn) old new left none = refl
@@ -455,6 +471,8 @@ served-none u me bindings (action.Defer file bytes retrying) told old new left n
 served-none u me bindings action.Post told old new left none = posts-none u me told old new left
 served-none u me bindings (action.AskAhead file at len) told old new left none = answered-none u me (call.AskAhead file at len) told old new left none
 served-none u me bindings action.AheadStep told old new left none = step-none u me left.0 told old new left.1 none
+served-none u me bindings (action.AsyncRead file at len) told old new left none = started-none u me file at len told old new left none
+served-none u me bindings action.Complete told old new left none = completed-none u me told old new left none
 served-none u me bindings action.Tick told old new left none = tick-none me told old new left none
 served-none u me bindings other told old new left none = absurd left
 

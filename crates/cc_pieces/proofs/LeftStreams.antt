@@ -1,5 +1,5 @@
 -- What a line of a caller leaves is of the first streams, where its file is.
-use Rattle.std.specs.Prelude.{◌≡◌, ℕ, ◌<◌, true, ◌&&◌, List, [], ◌∷◌, ◌++◌, Result, Ok, Err, refl}
+use Rattle.std.specs.Prelude.{◌≡◌, ℕ, ◌<◌, true, false, ◌&&◌, List, [], ◌∷◌, ◌++◌, Result, Ok, Err, refl}
 use Rattle.std.specs.declared.option.Option.{Option}
 use Rattle.std.specs.declared.option.Option.TheVariants.{Some, None}
 use Rattle.std.proofs.Common.{sym, subst}
@@ -32,11 +32,11 @@ use Rattle.cc_effects.specs.Moments.{EachOwn, IsIdle}
 use Rattle.cc_effects.specs.Places.{MayPlace}
 use Rattle.cc_effects.proofs.Stretches.{each-implies}
 use Rattle.cc_records.specs.Left.{LoadLeft, SettleLeft}
-use Rattle.cc_pieces.specs.Answered.{AheadAnswered, CallAnswered, TickAnswered}
+use Rattle.cc_pieces.specs.Answered.{AheadAnswered, CallAnswered, TickAnswered, CompletionAnswered, bytes_outcome}
 use Rattle.cc_pieces.specs.Bindings.{Binding}
 use Rattle.cc_pieces.specs.Served.{Served}
 use Rattle.cc_pieces.proofs.Streams.{AllBelow, FitsBelow, IsBelow, IsFileBelow, call-below, done-fits, file-fits, hold-below, open-below, resident-below, sized-below}
-use Rattle.cc_pieces.proofs.Walks.{IsActionOn, Keeps, Walked, walk-answered, walk-call, walk-served, walk-settle, walk-tick, walked-idle, walked-only, walked-then}
+use Rattle.cc_pieces.proofs.Walks.{IsActionOn, Keeps, Walked, walk-answered, walk-call, walk-served, walk-settle, walk-tick, walked-idle, walked-only, walked-then, is_completion}
 
 -- a journal is legal, and allowed so far
 abbrev pub IsSound : Setup → List Entry → Type 0
@@ -82,6 +82,8 @@ reached-of n it page past is below = of-file n (file_of it) page (and_parts _ _ 
 reached-below : (n logs : ℕ) (it : Call) (page : Page) (past : List Entry) → AllBelow n logs past → reaches it page past ≡ true → FitsBelow n it → page.stream < n
 reached-below n logs (call.AheadStep request) page past all is below =
     sized-below n logs page.stream request.at request.len page.page past all (and_parts (is_of (Some request.file) page) _ is).1
+reached-below n logs (call.CopyRead file at len wait) page past all is below =
+    sized-below n logs page.stream at len page.page past all (and_parts (is_of (Some file) page) _ is).1
 reached-below n logs it page past all is below = reached-of n it page past is below
 
 synced-below : (n s : ℕ) (it : Call) → may_sync (Calls it) s ≡ true → FitsBelow n it → s < n
@@ -107,18 +109,20 @@ IsActionBelow n (action.Drop page) = page.stream < n
 IsActionBelow n (action.WriteBegin page) = page.stream < n
 IsActionBelow n (action.WriteEnd page) = page.stream < n
 IsActionBelow n (action.Sync stream) = stream < n
+IsActionBelow n action.Complete = Unit {0}
 IsActionBelow n other = IsActionOn (λ file. file.stream < n) other
 
-on-below : (n : ℕ) (asked : Action) → IsActionBelow n asked → IsActionOn (λ file. file.stream < n) asked
-on-below n (action.NcReadPage file page) below = tt
-on-below n (action.NcStorePage file page bytes) below = tt
-on-below n (action.NcWritePage file page) below = tt
-on-below n (action.Fill page) below = tt
-on-below n (action.Drop page) below = tt
-on-below n (action.WriteBegin page) below = tt
-on-below n (action.WriteEnd page) below = tt
-on-below n (action.Sync stream) below = tt
-on-below n other below = below
+on-below : (n : ℕ) (asked : Action) → is_completion asked ≡ false → IsActionBelow n asked → IsActionOn (λ file. file.stream < n) asked
+on-below n action.Complete apart below = absurd (cc apart)
+on-below n (action.NcReadPage file page) apart below = tt
+on-below n (action.NcStorePage file page bytes) apart below = tt
+on-below n (action.NcWritePage file page) apart below = tt
+on-below n (action.Fill page) apart below = tt
+on-below n (action.Drop page) apart below = tt
+on-below n (action.WriteBegin page) apart below = tt
+on-below n (action.WriteEnd page) apart below = tt
+on-below n (action.Sync stream) apart below = tt
+on-below n other apart below = below
 
 -- the file of a call that is under way is of the first streams; the writing of pages names none
 abbrev IsWorkBelow : ℕ → Work → Type 0
@@ -209,8 +213,16 @@ module _ (u : Setup) (n : ℕ) (handles : HasHandles u) where
   left-ahead me (Some request) (answer.Refused e) old new left = left-call me (call.AheadStep request) (outcome.Failed e) old new tt left
   left-ahead me taken other old new left = absurd left
 
+  -- a step that completes a queued read, whosever that is
+  left-completed : (me : ℕ) (told : Answer) (old new : List Entry) → CompletionAnswered u me told old new → IsLeft u n me old new
+  left-completed me (answer.Completed None) old new left = left-idle u n me old new left
+  left-completed me (answer.Completed (Some done)) old new left =
+      left-call me (call.CopyRead done.file done.at done.len true) (bytes_outcome done.answer) old new tt left
+  left-completed me other old new left = absurd left
+
   -- a line that names a file of the first streams, or none
   pub left-served : (me : ℕ) (bindings : List Binding) (asked : Action) (told : Answer) (old new : List Entry) → IsActionBelow n asked → Served u me bindings asked told old new → IsLeft u n me old new
   left-served me bindings (action.AskAhead file at len) told old new below left = left-answered me (call.AskAhead file at len) told old new below left
   left-served me bindings action.AheadStep told old new below left = left-ahead me left.0 told old new left.1
-  left-served me bindings asked told old new below left = walk-served u _ _ _ keeps-below me bindings asked told old new refl (on-below n asked below) left
+  left-served me bindings action.Complete told old new below left = left-completed me told old new left
+  left-served me bindings asked told old new below left = walk-served u _ _ _ keeps-below me bindings asked told old new refl (on-below n asked refl below) left

@@ -16,6 +16,7 @@ pub mod LeftStreams
 pub mod TickSteps
 pub mod AheadSteps
 pub mod PlaceSteps
+pub mod AsyncPlaces
 pub mod RunStreams
 pub mod Unrecorded
 pub mod Faultless

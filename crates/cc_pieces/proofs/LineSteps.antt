@@ -1,5 +1,5 @@
 -- Lines in longer stretches, one more line of a caller, and the lines that a caller has.
-use Rattle.std.specs.Prelude.{◌≡◌, ℕ, ◌<◌, ◌^◌, Bool, true, false, List, [], ◌∷◌, ◌++◌, ◌||◌, length, refl, if◌then◌else◌, Ok, Err}
+use Rattle.std.specs.Prelude.{◌≡◌, ℕ, ◌<◌, ◌^◌, Bool, true, false, List, [], ◌∷◌, ◌++◌, ◌||◌, length, refl, if◌then◌else◌, Result, Ok, Err}
 use Rattle.std.specs.declared.option.Option.{Option}
 use Rattle.std.specs.declared.option.Option.TheVariants.{Some, None}
 use Rattle.std.proofs.Common.{ap, arith}
@@ -8,10 +8,12 @@ use Rattle.cc_entry.specs.Kinds.{is_map, is_pin, is_repin, is_read_chain, is_wri
 use Rattle.cc_entry.specs.declared.hold.HoldKind.{HoldKind}
 use Rattle.cc_entry.specs.declared.call.Call.{Call}
 use Rattle.cc_entry.specs.declared.call.Call.TheVariants as call
+use Rattle.cc_entry.specs.declared.error.CcError.{CcError}
 use Rattle.cc_entry.specs.declared.error.CcError.TheVariants as error
 use Rattle.cc_entry.specs.declared.reply.Reply.TheVariants as reply
 use Rattle.cc_entry.specs.declared.reply.Outcome.{Outcome}
 use Rattle.cc_entry.specs.declared.reply.Outcome.TheVariants as outcome
+use Rattle.cc_entry.specs.declared.answer.AsyncStart.TheVariants as start
 use Rattle.cc_entry.specs.declared.answer.Answer.{Answer}
 use Rattle.cc_entry.specs.declared.answer.Answer.TheVariants as answer
 use Rattle.cc_entry.specs.declared.answer.LineReply.{LineReply}
@@ -30,10 +32,10 @@ use Rattle.cc_effects.proofs.NoncachedSteps.{nc-read-after, nc-read-before, nc-w
 use Rattle.cc_effects.proofs.PageSteps.{tick-after, tick-before}
 use Rattle.cc_effects.proofs.OtherSteps.{append-after, append-before, levels-after, levels-before, log-flush-after, log-flush-before}
 use Rattle.cc_pieces.specs.Bindings.{Binding, hold_named, OnHold}
-use Rattle.cc_pieces.specs.Answered.{CallAnswered, FlushAnswered, AppendAnswered, LevelsAnswered, LogFlushAnswered, NcReadAnswered, NcWriteAnswered, TickAnswered, AheadAnswered}
+use Rattle.cc_pieces.specs.Answered.{CallAnswered, FlushAnswered, AppendAnswered, LevelsAnswered, LogFlushAnswered, NcReadAnswered, NcWriteAnswered, TickAnswered, AheadAnswered, StartAnswered, CompletionAnswered, bytes_outcome}
 use Rattle.cc_pieces.specs.HoldLines.{HoldLine, HeldReadBy, UnpinAnswered, UnpinEnded, UnrepinLine}
 use Rattle.cc_pieces.specs.Served.{Served, bindings_after}
-use Rattle.cc_pieces.specs.Rooms.{WasFull, HadNoRoom}
+use Rattle.cc_pieces.specs.Rooms.{WasFull, HadNoRoom, ToldNoRoom}
 use Rattle.cc_pieces.specs.Runs.{Explains, Ran, bindings_of, asked_of}
 use Rattle.cc_vacb.specs.Levels.{levels_of}
 use Rattle.cc_pieces.proofs.ThrottleSteps.{deferred-after, deferred-before, posted-after, posted-before}
@@ -199,6 +201,35 @@ stepped-after u me (Some request) (answer.Stepped (Some done)) old new newer lef
 stepped-after u me (Some request) (answer.Refused e) old new newer left idle = left-after u me (call.AheadStep request) (outcome.Failed e) old new newer left idle
 stepped-after u me taken other old new newer left idle = absurd left
 
+-- nor to a read that may be queued, or to the step that completes one
+started-before : (u : Setup) (me : ℕ) (file : File) (at len : ℕ) (told : Answer) (older old new : List Entry) → IsIdle me older old → StartAnswered u me file at len told old new → StartAnswered u me file at len told older new
+started-before u me file at len (answer.Started (start.Ready bytes)) older old new idle left = left-before u me (call.CopyRead file at len false) (outcome.Done (reply.Read bytes)) older old new idle left
+started-before u me file at len (answer.Started (start.Queued id)) older old new idle left = (left.0, left-before u me (call.CopyRead file at len false) (outcome.Failed (error.NotResident left.0)) older old new idle left.1)
+started-before u me file at len (answer.Refused error.QueueFull) older old new idle left = (left.0, left-before u me (call.CopyRead file at len false) (outcome.Failed (error.NotResident left.0)) older old new idle left.1)
+started-before u me file at len (answer.Refused (error.NotResident page)) older old new idle left = absurd left
+started-before u me file at len (answer.Refused e) older old new idle left = left-before u me (call.CopyRead file at len false) (outcome.Failed e) older old new idle left
+started-before u me file at len other older old new idle left = absurd left
+
+started-after : (u : Setup) (me : ℕ) (file : File) (at len : ℕ) (told : Answer) (old new newer : List Entry) → StartAnswered u me file at len told old new → IsIdle me new newer → StartAnswered u me file at len told old newer
+started-after u me file at len (answer.Started (start.Ready bytes)) old new newer left idle = left-after u me (call.CopyRead file at len false) (outcome.Done (reply.Read bytes)) old new newer left idle
+started-after u me file at len (answer.Started (start.Queued id)) old new newer left idle = (left.0, left-after u me (call.CopyRead file at len false) (outcome.Failed (error.NotResident left.0)) old new newer left.1 idle)
+started-after u me file at len (answer.Refused error.QueueFull) old new newer left idle = (left.0, left-after u me (call.CopyRead file at len false) (outcome.Failed (error.NotResident left.0)) old new newer left.1 idle)
+started-after u me file at len (answer.Refused (error.NotResident page)) old new newer left idle = absurd left
+started-after u me file at len (answer.Refused e) old new newer left idle = left-after u me (call.CopyRead file at len false) (outcome.Failed e) old new newer left idle
+started-after u me file at len other old new newer left idle = absurd left
+
+completed-before : (u : Setup) (me : ℕ) (told : Answer) (older old new : List Entry) → IsIdle me older old → CompletionAnswered u me told old new → CompletionAnswered u me told older new
+completed-before u me (answer.Completed None) older old new idle left = idle-then me older old new idle left
+completed-before u me (answer.Completed (Some done)) older old new idle left =
+    left-before u me (call.CopyRead done.file done.at done.len true) (bytes_outcome done.answer) older old new idle left
+completed-before u me other older old new idle left = absurd left
+
+completed-after : (u : Setup) (me : ℕ) (told : Answer) (old new newer : List Entry) → CompletionAnswered u me told old new → IsIdle me new newer → CompletionAnswered u me told old newer
+completed-after u me (answer.Completed None) old new newer left idle = idle-then me old new newer left idle
+completed-after u me (answer.Completed (Some done)) old new newer left idle =
+    left-after u me (call.CopyRead done.file done.at done.len true) (bytes_outcome done.answer) old new newer left idle
+completed-after u me other old new newer left idle = absurd left
+
 served-before : (u : Setup) (me : ℕ) (bindings : List Binding) (asked : Action) (told : Answer) (older old new : List Entry) → IsIdle me older old → Served u me bindings asked told old new → Served u me bindings asked told older new
 served-before u me bindings (action.Initialise file sizes quota temporary) told older old new idle left =
     answered-before u me (call.Initialise file sizes quota temporary) told older old new idle left
@@ -258,6 +289,8 @@ served-before u me bindings (action.Defer file bytes retrying) told older old ne
 served-before u me bindings action.Post told older old new idle left = posted-before u me told older old new idle left
 served-before u me bindings (action.AskAhead file at len) told older old new idle left = answered-before u me (call.AskAhead file at len) told older old new idle left
 served-before u me bindings action.AheadStep told older old new idle left = (left.0, stepped-before u me left.0 told older old new idle left.1)
+served-before u me bindings (action.AsyncRead file at len) told older old new idle left = started-before u me file at len told older old new idle left
+served-before u me bindings action.Complete told older old new idle left = completed-before u me told older old new idle left
 served-before u me bindings action.Tick told older old new idle left = ticked-before me told older old new idle left
 served-before u me bindings other told older old new idle left = absurd left
 
@@ -320,6 +353,8 @@ served-after u me bindings (action.Defer file bytes retrying) told old new newer
 served-after u me bindings action.Post told old new newer left idle = posted-after u me told old new newer left idle
 served-after u me bindings (action.AskAhead file at len) told old new newer left idle = answered-after u me (call.AskAhead file at len) told old new newer left idle
 served-after u me bindings action.AheadStep told old new newer left idle = (left.0, stepped-after u me left.0 told old new newer left.1 idle)
+served-after u me bindings (action.AsyncRead file at len) told old new newer left idle = started-after u me file at len told old new newer left idle
+served-after u me bindings action.Complete told old new newer left idle = completed-after u me told old new newer left idle
 served-after u me bindings action.Tick told old new newer left idle = ticked-after me told old new newer left idle
 served-after u me bindings other told old new newer left idle = absurd left
 
@@ -334,11 +369,21 @@ full-after u limit entries me old new newer was idle =
 pub room-before : (u : Setup) (limit me : ℕ) (told : Answer) (older old new : List Entry) → IsIdle me older old → HadNoRoom u limit told old new → HadNoRoom u limit told older new
 room-before u limit me (answer.Refused (error.JournalFull entries)) older old new idle had = full-before u limit entries me older old new idle had
 room-before u limit me (answer.NcRefused done (error.JournalFull entries)) older old new idle had = full-before u limit entries me older old new idle had
+room-before u limit me (answer.Completed (Some done)) older old new idle had = by done.answer had
+  where
+    by : (o : Result (List ℕ) CcError) → ToldNoRoom u limit o old new → ToldNoRoom u limit o older new
+    by (Err (error.JournalFull entries)) had = full-before u limit entries me older old new idle had
+    by other had = tt
 room-before u limit me other older old new idle had = tt
 
 room-after : (u : Setup) (limit me : ℕ) (told : Answer) (old new newer : List Entry) → HadNoRoom u limit told old new → IsIdle me new newer → HadNoRoom u limit told old newer
 room-after u limit me (answer.Refused (error.JournalFull entries)) old new newer had idle = full-after u limit entries me old new newer had idle
 room-after u limit me (answer.NcRefused done (error.JournalFull entries)) old new newer had idle = full-after u limit entries me old new newer had idle
+room-after u limit me (answer.Completed (Some done)) old new newer had idle = by done.answer had
+  where
+    by : (o : Result (List ℕ) CcError) → ToldNoRoom u limit o old new → ToldNoRoom u limit o old newer
+    by (Err (error.JournalFull entries)) had = full-after u limit entries me old new newer had idle
+    by other had = tt
 room-after u limit me other old new newer had idle = tt
 
 -- others' entries before and after a piece belong to it as well

@@ -113,6 +113,8 @@ on-any (action.SetThreshold file pages) = tt
 on-any (action.CanWrite file bytes) = tt
 on-any (action.Defer file bytes retrying) = tt
 on-any (action.AskAhead file at len) = tt
+on-any (action.AsyncRead file at len) = tt
+on-any action.Complete = λ file. tt
 on-any other = tt
 
 -- the requests of a stretch behind another
@@ -219,7 +221,7 @@ risen-twice count a (suc b) =
     let next : suc b + a ≡ suc (b + a) = omega arith in
     ap (λ n. min (suc n) (2 ^ 64 - 1)) (risen-twice count a b) ∙ ap (risen_by count) (sym next)
 
-risen-sum : (first between last a b : ℕ) → between ≡ risen_by first a → last ≡ risen_by between b → last ≡ risen_by first (a + b)
+pub risen-sum : (first between last a b : ℕ) → between ≡ risen_by first a → last ≡ risen_by between b → last ≡ risen_by first (a + b)
 risen-sum first between last a b one two =
     let swapped : b + a ≡ a + b = omega arith in
     two ∙ (ap (λ n. risen_by n b) one ∙ (risen-twice first a b ∙ ap (risen_by first) swapped))
@@ -435,7 +437,7 @@ module _ (u : Setup) (me : ℕ) (before after : QueuePlace) (old new : List Entr
 -- ---- a whole run
 
 -- a count that does not reach its last value is how often it rose
-risen-exact : (times : ℕ) → times ≤ 2 ^ 64 - 1 → risen_by 0 times ≡ times
+pub risen-exact : (times : ℕ) → times ≤ 2 ^ 64 - 1 → risen_by 0 times ≡ times
 risen-exact zero low = refl
 risen-exact (suc times) low = rw (risen-exact times (omega (arith, low))) (grind (arith, low))
 

@@ -365,6 +365,8 @@ module _ (u : Setup) (n : ℕ) where
   doing-below me bindings (action.Settle file) below = tt
   doing-below me bindings (action.AskAhead file at len) below = tt
   doing-below me bindings action.AheadStep below = tt
+  doing-below me bindings (action.AsyncRead file at len) below = tt
+  doing-below me bindings action.Complete below = tt
   doing-below me bindings action.Tick below = tt
   doing-below me bindings action.IsDirtyData below = tt
   doing-below me bindings (action.DirtyPages handle) below = tt

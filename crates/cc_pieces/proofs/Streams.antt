@@ -33,9 +33,11 @@ abbrev pub IsFileBelow : ℕ → Option File → Type 0
 IsFileBelow n None = Unit {0}
 IsFileBelow n (Some file) = file.stream < n
 
--- A call that was done is of one of the first streams, and so is its file; but a read-ahead step may serve a request of any.
+-- A call that was done is of one of the first streams, and so is its file; but a read-ahead step may serve a request of any,
+-- and so may the copied read that completes a queued one.
 abbrev pub IsCallBelow : ℕ → ℕ → Call → Type 0
 IsCallBelow n s (call.AheadStep request) = Unit {0}
+IsCallBelow n s (call.CopyRead file at len wait) = Unit {0}
 IsCallBelow n s other = (s < n) × IsFileBelow n (file_of other)
 
 -- an entry is of one of the first streams, or of none, and a log that failed is one of so many; so is a done call
@@ -60,9 +62,10 @@ AllBelow n logs past = AllByRecursion (IsBelow n logs) past
 apart : (t n s : ℕ) → t < n → n ≤ s → (t == s) ≡ false
 apart t n s low high = ne_eqb t s (λ same. absurd (omega (arith, low, high, same)))
 
--- of a stream behind the first there may be read-ahead steps alone, which find it closed
+-- of a stream behind the first there may be read-ahead steps and copied reads alone, which leave it as it was
 abbrev IsQuietEffect : Effect → Type 0
 IsQuietEffect (Did pass (call.AheadStep request) r) = Unit {0}
+IsQuietEffect (Did pass (call.CopyRead file at len wait) r) = Unit {0}
 IsQuietEffect other = ⊥
 
 abbrev pub IsQuiet : List Effect → Type 0
@@ -76,30 +79,43 @@ quiet-residents (Did pass (call.AheadStep request) r ∷ h) quiet = by (is_mappe
     by : (b : Bool) → residents h ≡ [] → ◌≡◌ {A = List ℕ} (elim b [ true ↦ residents h | false ↦ [] ]) []
     by true none = none
     by false none = refl
+quiet-residents (Did pass (call.CopyRead file at len wait) r ∷ h) quiet = by (is_mapped (Did pass (call.CopyRead file at len wait) r ∷ h)) (quiet-residents h quiet.1)
+  where
+    by : (b : Bool) → residents h ≡ [] → ◌≡◌ {A = List ℕ} (elim b [ true ↦ residents h | false ↦ [] ]) []
+    by true none = none
+    by false none = refl
 quiet-residents (other ∷ h) quiet = absurd quiet.0
 
 quiet-open : (h : List Effect) → IsQuiet h → open_of h ≡ None
 unfolding open_of
 quiet-open [] quiet = refl
 quiet-open (Did pass (call.AheadStep request) r ∷ h) quiet = quiet-open h quiet.1
+quiet-open (Did pass (call.CopyRead file at len wait) r ∷ h) quiet = quiet-open h quiet.1
 quiet-open (other ∷ h) quiet = absurd quiet.0
 
 quiet-holds : (h : List Effect) → IsQuiet h → holds_of h ≡ []
 unfolding holds_of
 quiet-holds [] quiet = refl
 quiet-holds (Did pass (call.AheadStep request) r ∷ h) quiet = quiet-holds h quiet.1
+quiet-holds (Did pass (call.CopyRead file at len wait) r ∷ h) quiet = quiet-holds h quiet.1
 quiet-holds (other ∷ h) quiet = absurd quiet.0
 
 quiet-size : (h : List Effect) → IsQuiet h → (sizes h).size ≡ 0
 unfolding sizes
 quiet-size [] quiet = refl
 quiet-size (Did pass (call.AheadStep request) r ∷ h) quiet = quiet-size h quiet.1
+quiet-size (Did pass (call.CopyRead file at len wait) r ∷ h) quiet = quiet-size h quiet.1
 quiet-size (other ∷ h) quiet = absurd quiet.0
 
 called-quiet : (n t s pass : ℕ) (it : Call) (r : Reply) (h : List Effect) → n ≤ s → IsCallBelow n t it → IsQuiet h → IsQuiet (cons_option (if t == s then Some (Did pass it r) else None) h)
 called-quiet n t s pass (call.AheadStep request) r h high below quiet = by (t == s)
   where
     by : (b : Bool) → IsQuiet (cons_option (if b then Some (Did pass (call.AheadStep request) r) else None) h)
+    by true = (tt, quiet)
+    by false = quiet
+called-quiet n t s pass (call.CopyRead file at len wait) r h high below quiet = by (t == s)
+  where
+    by : (b : Bool) → IsQuiet (cons_option (if b then Some (Did pass (call.CopyRead file at len wait) r) else None) h)
     by true = (tt, quiet)
     by false = quiet
 called-quiet n t s pass it r h high below quiet = rw (apart t n s below.0 high) quiet
@@ -115,7 +131,7 @@ effect-none n logs s (entry.WriteEnd pass page how) high below h quiet = rw (apa
 effect-none n logs s (entry.Sync pass stream how) high below h quiet = rw (apart stream n s below high) quiet
 effect-none n logs s other high below h quiet = quiet
 
--- a stream behind the first has no history but such steps
+-- a stream behind the first has no history but such steps and reads
 pub blank : (n logs s : ℕ) (past : List Entry) → n ≤ s → AllBelow n logs past → IsQuiet (history past s)
 unfolding history
 blank n logs s [] high all = tt
@@ -202,6 +218,7 @@ held-below n pass other id holds below all = all
 
 done-below : (n s pass : ℕ) (it : Call) (id : ℕ) (holds : List Hold) → IsCallBelow n s it → FilesBelow n holds → FilesBelow n (held_after pass it id holds)
 done-below n s pass (call.AheadStep request) id holds below all = all
+done-below n s pass (call.CopyRead file at len wait) id holds below all = all
 done-below n s pass it id holds below all = held-below n pass it id holds below.1 all
 
 quiet-below : (n : ℕ) (h : List Effect) (effect : Effect) (b : Bool) → holds_of (effect ∷ h) ≡ holds_of h → FilesBelow n (holds_of h) → FilesBelow n (holds_of (cons_option (if b then Some effect else None) h))
@@ -259,17 +276,20 @@ filed-blank n me s (call.DirtyPages handle) filed below = absurd (cc filed)
 filed-blank n me s call.IsDirtyData filed below = absurd (cc filed)
 filed-blank n me s other filed below = some-below s _ n filed below
 
--- a call whose file is of one of the first streams, where it is no read-ahead step
+-- a call whose file is of one of the first streams, where it is no read-ahead step and no copied read
 abbrev pub FitsBelow : ℕ → Call → Type 0
 FitsBelow n (call.AheadStep request) = Unit {0}
+FitsBelow n (call.CopyRead file at len wait) = Unit {0}
 FitsBelow n other = IsFileBelow n (file_of other)
 
 pub file-fits : (n : ℕ) (it : Call) → IsFileBelow n (file_of it) → FitsBelow n it
 file-fits n (call.AheadStep request) below = tt
+file-fits n (call.CopyRead file at len wait) below = tt
 file-fits n it below = below
 
 pub done-fits : (n s : ℕ) (it : Call) → FitsBelow n it → (IsFileBelow n (file_of it) → s < n) → IsCallBelow n s it
 done-fits n s (call.AheadStep request) fits low = tt
+done-fits n s (call.CopyRead file at len wait) fits low = tt
 done-fits n s it fits low = (low fits, fits)
 
 -- the entry of a call of such a file, or on a hold, is of one of the first streams

@@ -8,6 +8,7 @@ use Rattle.cc_entry.specs.Place.{File, Page, Range}
 use Rattle.cc_entry.specs.declared.place.FileState.{FileState}
 use Rattle.cc_entry.specs.declared.answer.Answer.{Answer}
 use Rattle.cc_entry.specs.declared.answer.Answer.TheVariants as answer
+use Rattle.cc_entry.specs.declared.answer.AsyncStart.TheVariants as start
 use Rattle.cc_entry.specs.declared.call.Call.{Call}
 use Rattle.cc_entry.specs.declared.call.Call.TheVariants as call
 use Rattle.cc_entry.specs.declared.entry.End.{End}
@@ -40,7 +41,7 @@ use Rattle.cc_effects.specs.Repins.{UnpinLeft}
 use Rattle.cc_effects.specs.Throttle.{PostLeft}
 use Rattle.cc_effects.proofs.Stretches.{each-append, each-implies, each-others, grew-after}
 use Rattle.cc_records.specs.Left.{HasFlushed, IsUnflushed, RecordStopped, SettleLeft, SyncedRecord, SyncedSome, WroteRecord, WroteSome}
-use Rattle.cc_pieces.specs.Answered.{AppendAnswered, CallAnswered, LevelsAnswered, LogFlushAnswered, DeferAnswered, PostsAnswered, PostsLeft, PostsRefused, NcReadAnswered, NcWriteAnswered, SettleAnswered, TickAnswered}
+use Rattle.cc_pieces.specs.Answered.{AppendAnswered, CallAnswered, LevelsAnswered, LogFlushAnswered, DeferAnswered, PostsAnswered, PostsLeft, PostsRefused, NcReadAnswered, NcWriteAnswered, SettleAnswered, TickAnswered, StartAnswered, CompletionAnswered, bytes_outcome}
 use Rattle.cc_pieces.specs.Bindings.{Binding, OnHold, hold_named}
 use Rattle.cc_pieces.specs.HoldLines.{HeldReadBy, HoldLine, UnpinAnswered, UnrepinLine}
 use Rattle.cc_pieces.specs.Locks.{LockAnswered, UnlockAnswered}
@@ -104,7 +105,12 @@ pub record Keeps (u : Setup) (Stays : List Entry → Entry → Type 0) (Fits : L
   pub tested : (file : File) (range : Range) (write : Bool) (conflict : Option ℕ) (past : List Entry) → Stays past (entry.Tested me file range write conflict)
   pub deferred : (id : ℕ) (file : File) (pages : ℕ) (retrying : Bool) (past : List Entry) → Stays past (entry.Defer me id file pages retrying)
 
--- what is asked of the file of an action of a run, where it names one
+-- whether an action completes a queued read
+abbrev pub is_completion : Action → Bool
+is_completion action.Complete = true
+is_completion other = false
+
+-- what is asked of the file of an action of a run, where it names one, and of each file of the one that completes a queued read
 abbrev pub IsActionOn : (File → Type 0) → Action → Type 0
 IsActionOn On (action.Initialise file _ _ _) = On file
 IsActionOn On (action.Uninitialise file _) = On file
@@ -138,6 +144,8 @@ IsActionOn On (action.SetThreshold file _) = On file
 IsActionOn On (action.CanWrite file _) = On file
 IsActionOn On (action.Defer file _ _) = On file
 IsActionOn On (action.AskAhead file _ _) = On file
+IsActionOn On (action.AsyncRead file _ _) = On file
+IsActionOn On action.Complete = (file : File) → On file
 IsActionOn On other = Unit {0}
 
 module _ (u : Setup) (Stays : List Entry → Entry → Type 0) (Fits : List Entry → Call → Type 0) (On : File → Type 0) (keeps : (me : ℕ) → Keeps u Stays Fits On me) where
@@ -194,6 +202,22 @@ module _ (u : Setup) (Stays : List Entry → Entry → Type 0) (Fits : List Entr
   walk-answered me it (answer.Given r) old new fits left = walk-call me it (outcome.Done r) old new fits left
   walk-answered me it (answer.Refused e) old new fits left = walk-call me it (outcome.Failed e) old new fits left
   walk-answered me it other old new fits left = absurd left
+
+  -- a read that may be queued, and the step that completes one
+  walk-started : (me : ℕ) (file : File) (at len : ℕ) (told : Answer) (old new : List Entry) → Fits old (call.CopyRead file at len false) → StartAnswered u me file at len told old new → Walked Stays me old new
+  walk-started me file at len (answer.Started (start.Ready bytes)) old new fits left = walk-call me (call.CopyRead file at len false) (outcome.Done (reply.Read bytes)) old new fits left
+  walk-started me file at len (answer.Started (start.Queued id)) old new fits left = walk-call me (call.CopyRead file at len false) (outcome.Failed (error.NotResident left.0)) old new fits left.1
+  walk-started me file at len (answer.Refused error.QueueFull) old new fits left = walk-call me (call.CopyRead file at len false) (outcome.Failed (error.NotResident left.0)) old new fits left.1
+  walk-started me file at len (answer.Refused (error.NotResident page)) old new fits left = absurd left
+  walk-started me file at len (answer.Refused e) old new fits left = walk-call me (call.CopyRead file at len false) (outcome.Failed e) old new fits left
+  walk-started me file at len other old new fits left = absurd left
+
+  walk-completed : ((file : File) → On file) → (me : ℕ) (told : Answer) (old new : List Entry) → CompletionAnswered u me told old new → Walked Stays me old new
+  walk-completed on me (answer.Completed None) old new left = walked-idle Stays me old new left
+  walk-completed on me (answer.Completed (Some done)) old new left =
+      walk-call me (call.CopyRead done.file done.at done.len true) (bytes_outcome done.answer) old new
+      ((keeps me).on_file (call.CopyRead done.file done.at done.len true) done.file old (on done.file) refl refl) left
+  walk-completed on me other old new left = absurd left
 
   -- the end of a repin, and with write through a flush of its hold's file
   walk-unpin : (me id : ℕ) (through : Bool) (ended : Outcome) (old new : List Entry) → UnpinLeft u me id through ended old new → Walked Stays me old new
@@ -596,4 +620,7 @@ module _ (u : Setup) (Stays : List Entry → Entry → Type 0) (Fits : List Entr
   walk-served me bindings action.Tick told old new plain on left = walk-tick me told old new left
   walk-served me bindings (action.AskAhead file at len) told old new plain on left = absurd (cc plain)
   walk-served me bindings action.AheadStep told old new plain on left = absurd (cc plain)
+  walk-served me bindings (action.AsyncRead file at len) told old new plain on left =
+      walk-started me file at len told old new ((keeps me).on_file (call.CopyRead file at len false) file old on refl refl) left
+  walk-served me bindings action.Complete told old new plain on left = walk-completed on me told old new left
   walk-served me bindings other told old new plain on left = absurd left

@@ -1,5 +1,5 @@
 -- What a line left, by its answer: a line of one call, and the lines of the calls without an entry.
-use Rattle.std.specs.Prelude.{ℕ, ◌^◌, Bool, List, [], ◌∷◌, Ok, Err}
+use Rattle.std.specs.Prelude.{ℕ, ◌^◌, Bool, true, false, List, [], ◌∷◌, Result, Ok, Err}
 use Rattle.std.specs.declared.option.Option.{Option}
 use Rattle.std.specs.declared.option.Option.TheVariants.{Some, None}
 use Rattle.cc_entry.specs.Place.{File, Range}
@@ -7,13 +7,16 @@ use Rattle.cc_entry.specs.declared.place.Request.{Request}
 use Rattle.cc_entry.specs.declared.call.Call.{Call}
 use Rattle.cc_entry.specs.declared.call.Call.TheVariants as call
 use Rattle.cc_entry.specs.declared.error.CcError.{CcError}
+use Rattle.cc_entry.specs.declared.error.CcError.TheVariants as error
 use Rattle.cc_entry.specs.declared.reply.Reply.TheVariants as reply
+use Rattle.cc_entry.specs.declared.reply.Outcome.{Outcome}
 use Rattle.cc_entry.specs.declared.reply.Outcome.TheVariants as outcome
+use Rattle.cc_entry.specs.declared.answer.AsyncStart.TheVariants as start
 use Rattle.cc_entry.specs.declared.answer.Answer.{Answer}
 use Rattle.cc_entry.specs.declared.answer.Answer.TheVariants as answer
 use Rattle.cc_entry.specs.declared.entry.Entry.{Entry}
 use Rattle.cc_model.specs.Setup.{Setup}
-use Rattle.cc_effects.specs.Moments.{Between}
+use Rattle.cc_effects.specs.Moments.{Between, IsIdle}
 use Rattle.cc_effects.specs.Begins.{BeginsAscending}
 use Rattle.cc_effects.specs.Calls.{CallLeft}
 use Rattle.cc_effects.specs.LogCalls.{AppendLeft, LogFlushLeft}
@@ -86,6 +89,36 @@ AheadAnswered u me taken other old new = ⊥
 -- a line that asks for a read-ahead step, which took a request, or none
 abbrev pub StepAnswered : Setup → ℕ → Answer → Between
 StepAnswered u me told old new = (taken : Option Request) × AheadAnswered u me taken told old new
+
+-- a read that may not wait was refused, since a page was not resident
+abbrev pub WasMissing : Setup → ℕ → File → ℕ → ℕ → Between
+WasMissing u me file at len old new =
+    (page : ℕ) × CallLeft u me (call.CopyRead file at len false) (outcome.Failed (error.NotResident page)) old new
+
+-- A read that may be queued: it was done, or it was refused; one that was queued, or found the queue full, had been refused
+-- since a page was not resident.
+abbrev pub StartAnswered : Setup → ℕ → File → ℕ → ℕ → Answer → Between
+StartAnswered u me file at len (answer.Started (start.Ready bytes)) old new =
+    CallLeft u me (call.CopyRead file at len false) (outcome.Done (reply.Read bytes)) old new
+StartAnswered u me file at len (answer.Started (start.Queued id)) old new = WasMissing u me file at len old new
+StartAnswered u me file at len (answer.Refused error.QueueFull) old new = WasMissing u me file at len old new
+StartAnswered u me file at len (answer.Refused (error.NotResident page)) old new = ⊥
+StartAnswered u me file at len (answer.Refused e) old new =
+    CallLeft u me (call.CopyRead file at len false) (outcome.Failed e) old new
+StartAnswered u me file at len other old new = ⊥
+
+-- how the entry of a read says that it ended, whose answer has these bytes, or is refused
+abbrev pub bytes_outcome : Result (List ℕ) CcError → Outcome
+bytes_outcome (Ok bytes) = outcome.Done (reply.Read bytes)
+bytes_outcome (Err e) = outcome.Failed e
+
+-- A step that completes a queued read: a copied read of it that waits has the answer that is told. One that found none placed
+-- nothing.
+abbrev pub CompletionAnswered : Setup → ℕ → Answer → Between
+CompletionAnswered u me (answer.Completed None) old new = IsIdle me old new
+CompletionAnswered u me (answer.Completed (Some done)) old new =
+    CallLeft u me (call.CopyRead done.file done.at done.len true) (bytes_outcome done.answer) old new
+CompletionAnswered u me other old new = ⊥
 
 -- a question for the levels of a view index, over the levels of each size
 abbrev pub LevelsAnswered : (ℕ → ℕ) → ℕ → File → Answer → Between

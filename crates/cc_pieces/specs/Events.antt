@@ -28,8 +28,8 @@ abbrev pub held_read : Option ℕ → Option ℕ → ℕ → ℕ → Doing
 held_read (Some id) pinned at len = Makes (call.MappedRead id at len)
 held_read None pinned at len = on_hold pinned (λ id. call.PinnedRead id at len)
 
--- What the line of a caller with these bindings is. A noncached run, an end of a repin through the disk, read-ahead, and a
--- tick are no lines of `steps`.
+-- What the line of a caller with these bindings is. A noncached run, an end of a repin through the disk, read-ahead, a
+-- read that may be queued with its completion, and a tick are no lines of `steps`.
 abbrev pub doing_of : ℕ → List Binding → Action → Doing
 doing_of me bindings (action.Initialise file sizes quota temporary) = Makes (call.Initialise file sizes quota temporary)
 doing_of me bindings (action.Uninitialise file truncate) = Makes (call.Uninitialise file truncate)
@@ -70,6 +70,8 @@ doing_of me bindings (action.Levels file) = NamesNone
 doing_of me bindings (action.Settle file) = NamesNone
 doing_of me bindings (action.AskAhead file at len) = NamesNone
 doing_of me bindings action.AheadStep = NamesNone
+doing_of me bindings (action.AsyncRead file at len) = NamesNone
+doing_of me bindings action.Complete = NamesNone
 doing_of me bindings action.Tick = NamesNone
 doing_of me bindings (action.NcReadPage file page) = Makes (call.NcRead file page)
 doing_of me bindings (action.NcStorePage file page bytes) = Makes (call.NcStore file page bytes)

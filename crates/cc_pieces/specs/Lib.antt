@@ -12,6 +12,7 @@ pub mod Openings
 pub mod Phases
 pub mod Explained
 pub mod Queue
+pub mod AsyncQueue
 pub mod Table
 pub mod Moments
 pub mod Events

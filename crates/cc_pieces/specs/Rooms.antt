@@ -1,6 +1,8 @@
 -- When a line may be told that the journal is full.
-use Rattle.std.specs.Prelude.{◌≡◌, ℕ, ◌<◌, Bool, true, ◌&&◌, ◌==◌, List, [], ◌∷◌, length, if◌then◌else◌}
+use Rattle.std.specs.Prelude.{◌≡◌, ℕ, ◌<◌, Bool, true, ◌&&◌, ◌==◌, List, [], ◌∷◌, length, Result, Err, if◌then◌else◌}
+use Rattle.std.specs.declared.option.Option.TheVariants.{Some}
 use Rattle.std.specs.List.{list_all}
+use Rattle.cc_entry.specs.declared.error.CcError.{CcError}
 use Rattle.cc_entry.specs.declared.error.CcError.TheVariants as error
 use Rattle.cc_entry.specs.declared.answer.Answer.{Answer}
 use Rattle.cc_entry.specs.declared.answer.Answer.TheVariants as answer
@@ -13,10 +15,16 @@ use Rattle.cc_effects.specs.Moments.{AtSome, Between}
 abbrev pub WasFull : Setup → ℕ → ℕ → Between
 WasFull u limit entries old new = AtSome (λ moment. (entries ≡ length moment) × (room_in u moment 0 < limit)) old new
 
+-- what a queued read was completed with says that the journal was full only where it was
+abbrev pub ToldNoRoom : {A : Type 0} → Setup → ℕ → Result A CcError → Between
+ToldNoRoom u limit (Err (error.JournalFull entries)) old new = WasFull u limit entries old new
+ToldNoRoom u limit other old new = Unit {0}
+
 -- the answer says that the journal was full only where it was
 abbrev pub HadNoRoom : Setup → ℕ → Answer → Between
 HadNoRoom u limit (answer.Refused (error.JournalFull entries)) old new = WasFull u limit entries old new
 HadNoRoom u limit (answer.NcRefused done (error.JournalFull entries)) old new = WasFull u limit entries old new
+HadNoRoom u limit (answer.Completed (Some done)) old new = ToldNoRoom u limit done.answer old new
 HadNoRoom u limit other old new = Unit {0}
 
 -- whether all the lines of a phase are those of one caller

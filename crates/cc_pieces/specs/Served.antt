@@ -11,7 +11,7 @@ use Rattle.cc_entry.specs.declared.hold.HoldKind.TheVariants as kind
 use Rattle.cc_pieces.specs.Bindings.{Binding, bound, pinned}
 use Rattle.cc_pieces.specs.HoldLines.{PinMappedLine, HeldReadLine, PinnedWriteLine, StampLine, UnpinLine, RepinLine, UnrepinLine}
 use Rattle.cc_pieces.specs.HoldLines.{ChainReadLine, ChainStoreLine, ChainDoneLine, ChainAbortLine}
-use Rattle.cc_pieces.specs.Answered.{CallAnswered, FlushAnswered, AppendAnswered, LogFlushAnswered, DeferAnswered, PostsAnswered, TickAnswered, StepAnswered, LevelsAnswered, SettleAnswered, NcReadAnswered, NcWriteAnswered}
+use Rattle.cc_pieces.specs.Answered.{CallAnswered, FlushAnswered, AppendAnswered, LogFlushAnswered, DeferAnswered, PostsAnswered, TickAnswered, StepAnswered, LevelsAnswered, SettleAnswered, NcReadAnswered, NcWriteAnswered, StartAnswered, CompletionAnswered}
 use Rattle.cc_pieces.specs.Locks.{LockAnswered, UnlockAnswered, LockedReadAnswered, LockedWriteAnswered, LockedUpdateAnswered}
 use Rattle.cc_vacb.specs.Levels.{levels_of}
 
@@ -72,6 +72,8 @@ Served u me bindings (action.Defer file bytes retrying) told old new = DeferAnsw
 Served u me bindings action.Post told old new = PostsAnswered u me told old new
 Served u me bindings (action.AskAhead file at len) told old new = CallAnswered u me (call.AskAhead file at len) told old new
 Served u me bindings action.AheadStep told old new = StepAnswered u me told old new
+Served u me bindings (action.AsyncRead file at len) told old new = StartAnswered u me file at len told old new
+Served u me bindings action.Complete told old new = CompletionAnswered u me told old new
 Served u me bindings action.Tick told old new = TickAnswered me told old new
 Served u me bindings other told old new = ⊥
 

@@ -1,9 +1,11 @@
 -- What a line of a caller leaves on a desk.
-use Rattle.std.specs.Prelude.{◌≡◌, ◌≢◌, ℕ, ◌+◌, ◌<◌, ◌≤◌, List, ◌++◌, length, refl}
+use Rattle.std.specs.Prelude.{◌≡◌, ◌≢◌, ℕ, ◌+◌, ◌<◌, ◌≤◌, List, ◌++◌, length, Result, Err, refl}
+use Rattle.std.specs.declared.option.Option.TheVariants.{Some}
 use Rattle.std.proofs.Common.{sym, ap, ◌∙◌, arith, inl, inr}
 use Rattle.cc_entry.specs.declared.answer.Answer.{Answer}
 use Rattle.cc_entry.specs.declared.answer.Answer.TheVariants as answer
 use Rattle.cc_entry.specs.declared.call.Call.{Call}
+use Rattle.cc_entry.specs.declared.error.CcError.{CcError}
 use Rattle.cc_entry.specs.declared.error.CcError.TheVariants as error
 use Rattle.cc_entry.specs.declared.entry.Entry.{Entry}
 use Rattle.cc_script.specs.declared.bound.Bound.{Bound}
@@ -17,13 +19,13 @@ use Rattle.cc_effects.specs.Moments.{IsIdle}
 use Rattle.cc_effects.proofs.Stretches.{some-end}
 use Rattle.cc_pieces.specs.Answered.{CallAnswered}
 use Rattle.cc_pieces.specs.Bindings.{Binding}
-use Rattle.cc_pieces.specs.Rooms.{HadNoRoom, WasFull}
+use Rattle.cc_pieces.specs.Rooms.{HadNoRoom, ToldNoRoom, WasFull}
 use Rattle.cc_pieces.specs.Served.{Served}
 use Rattle.cc_turns.specs.Standing.{Standing}
 use Rattle.cc_turns.specs.Takes.{HasActed}
 use Rattle.cc_run.specs.Desks.{IsReady, IsSameRun, IsSamePass}
 use Rattle.cc_lines.specs.Holds.{NamesStand, NamesState}
-use Rattle.cc_lines.specs.Line.{CanServe, IsFullError, IsFullTold, IsServable, LineEnds, WasFullError, WasFullTold, WentOn}
+use Rattle.cc_lines.specs.Line.{CanServe, IsFullError, IsFullIn, IsFullTold, IsServable, LineEnds, WasFullError, WasFullIn, WasFullTold, WentOn}
 use Rattle.cc_run.specs.Lines.{LineEnd, LineLeft, MayServeLine}
 use Rattle.cc_run.proofs.Others.{idle-acted}
 
@@ -52,6 +54,11 @@ pub room-then : (w v : Standing) (limit : ℕ) (told : Answer) → w.in_flight �
 room-then w v limit (answer.Refused (error.JournalFull entries)) rest few was = full-then w v limit entries 3 (omega arith) rest (omega (arith, few)) was
 room-then w v limit (answer.NcRefused done (error.JournalFull entries)) rest few (inl was) = full-then w v limit entries 2 (omega arith) rest (omega (arith, few)) was
 room-then w v limit (answer.NcRefused done (error.JournalFull entries)) rest few (inr was) = full-then w v limit entries 4 (omega arith) rest few was.1
+room-then w v limit (answer.Completed (Some done)) rest few was = by done.answer was
+  where
+    by : (o : Result (List ℕ) CcError) → WasFullIn w v o → ToldNoRoom w.setup limit o w.seen v.seen
+    by (Err (error.JournalFull entries)) was = full-then w v limit entries 3 (omega arith) rest (omega (arith, few)) was
+    by other was = tt
 room-then w v limit other rest few was = tt
 
 -- on a desk others have nothing under way
@@ -59,6 +66,11 @@ pub room-left : (w : Standing) (told : Answer) (old : List Entry) → HasSeen ol
 room-left w (answer.Refused (error.JournalFull entries)) old seen rest alone full = full-at w 4 entries 3 (omega arith) seen.later old seen.grew rest (omega (arith, alone)) full
 room-left w (answer.NcRefused done (error.JournalFull entries)) old seen rest alone (inl full) = full-at w 4 entries 2 (omega arith) seen.later old seen.grew rest (omega (arith, alone)) full
 room-left w (answer.NcRefused done (error.JournalFull entries)) old seen rest alone (inr full) = full-at w 4 entries 4 (omega arith) seen.later old seen.grew rest (omega (arith, alone)) full.1
+room-left w (answer.Completed (Some done)) old seen rest alone full = by done.answer full
+  where
+    by : (o : Result (List ℕ) CcError) → IsFullIn w o → ToldNoRoom w.setup 4 o old w.seen
+    by (Err (error.JournalFull entries)) full = full-at w 4 entries 3 (omega arith) seen.later old seen.grew rest (omega (arith, alone)) full
+    by other full = tt
 room-left w other old seen rest alone full = tt
 
 -- the same pass in the same run, where a call went on

@@ -4,7 +4,6 @@ use Rattle.std.specs.List.{AllByRecursion}
 use Rattle.std.proofs.Common.{sym, ap, subst, ◌∙◌, arith, get_or}
 use Rattle.std.proofs.lemmas.Bool.{eqb-true, eqb-false}
 use Rattle.std.proofs.lemmas.List.{length-append}
-use Rattle.atomic_table.specs.Seated.{TableId}
 use Rattle.cc_entry.specs.declared.answer.Answer.{Answer}
 use Rattle.cc_script.specs.declared.script.ActionLine.{ActionLine}
 use Rattle.cc_effects.proofs.Stretches.{idle-none}
@@ -23,12 +22,14 @@ use Rattle.cc_script.specs.HoldWords.{AreUsedRight, UsesRight, bound_so_far, wor
 use Rattle.cc_model.specs.Good.{IsGood}
 use Rattle.cc_run.specs.Callers.{MayRun, CallerRan, AllRan, WordsStand, asked_own, count_of}
 use Rattle.cc_lines.specs.Holds.{NamesStand, NamesState}
-use Rattle.cc_lines.specs.Line.{CanServe, IsServable, LineEnds, PlaceWent, WentOn}
+use Rattle.cc_lines.specs.Line.{CanServe, IsServable, LineEnds, WentOn}
+use Rattle.cc_lines.specs.Queues.{PlacesWent, queues_of}
+use Rattle.cc_lines.specs.declared.queues.Queues.{Queues}
 use Rattle.cc_run.specs.declared.callers.Caller.{Caller}
 use Rattle.cc_run.specs.declared.callers.Finished.{Finished}
 use Rattle.cc_run.proofs.Acting.{room-then}
 use Rattle.cc_run.proofs.Lists.{all-back, all-front, parted}
-use Rattle.cc_run.proofs.PlacesWent.{placed-idle, placed-then}
+use Rattle.cc_run.proofs.PlacesWent.{both-idle, both-then}
 use Rattle.cc_run.proofs.Merging.{own-more, own-none, own-other, count-more, count-other}
 use Rattle.cc_run.proofs.WordSteps.{bindings-append, bound-long, bound-other, bound-own, right-back, right-first, right-front, words-append, words-first}
 
@@ -106,8 +107,8 @@ pub record RanSoFar {D L Q : Type 0} (tells : Tells D L Q) (board : BoardState D
   pub good : IsGood (setup_in tells board.begun) seated.knows.seen
   pub room : names.room ≡ caller.names.room
   pub placed :
-      PlaceWent caller.pass.knows.number (asked_own caller.pass.knows.number lines answers)
-      caller.names.place names.place caller.pass.knows.seen seated.knows.seen
+      PlacesWent caller.pass.knows.number (asked_own caller.pass.knows.number lines answers)
+      caller.names.places names.places caller.pass.knows.seen seated.knows.seen
   pub ran : (bounds : List Bound) (bindings : List Binding) → WordsStand board caller.pass bounds bindings caller.names →
       AreUsedRight caller.pass.knows.number bounds all →
       Ran (setup_in tells board.begun) 32 caller.pass.knows.number bindings
@@ -140,7 +141,7 @@ module _ {D L Q : Type 0} (tells : Tells D L Q) (board : BoardState D L) (all : 
         whole = refl;
         good = rw seen may.good;
         room = ap (λ n. n.room) names_are;
-        placed = rw (seen, names_are) (placed-idle me caller.names.place caller.pass.knows.seen caller.pass.knows.seen (idle-none me caller.pass.knows.seen));
+        placed = rw (seen, names_are) (both-idle me caller.names.places caller.pass.knows.seen caller.pass.knows.seen (idle-none me caller.pass.knows.seen));
         ran = λ bounds bindings stand right. (rw seen (idle-none me caller.pass.knows.seen), rw (seen, names_are) stand);
       }
 
@@ -201,10 +202,10 @@ module _ {D L Q : Type 0} (tells : Tells D L Q) (board : BoardState D L) (all : 
           good = subst (λ u. IsGood u after.knows.seen) setup-is ended.good;
           room = ended.room ∙ ran.room;
           placed =
-              let one : PlaceWent me ((line.action, told) ∷ []) names.place now.place seated.knows.seen after.knows.seen =
-              subst (λ n. PlaceWent n ((line.action, told) ∷ []) names.place now.place seated.knows.seen after.knows.seen) number-is ended.placed in
-              subst (λ l. PlaceWent me l caller.names.place now.place caller.pass.knows.seen after.knows.seen) (sym (own-last me lines line answers told own ran.whole))
-              (placed-then me (asked_own me lines answers) ((line.action, told) ∷ []) caller.names.place names.place now.place caller.pass.knows.seen seated.knows.seen after.knows.seen
+              let one : PlacesWent me ((line.action, told) ∷ []) names.places now.places seated.knows.seen after.knows.seen =
+              subst (λ n. PlacesWent n ((line.action, told) ∷ []) names.places now.places seated.knows.seen after.knows.seen) number-is ended.placed in
+              subst (λ l. PlacesWent me l caller.names.places now.places caller.pass.knows.seen after.knows.seen) (sym (own-last me lines line answers told own ran.whole))
+              (both-then me (asked_own me lines answers) ((line.action, told) ∷ []) caller.names.places names.places now.places caller.pass.knows.seen seated.knows.seen after.knows.seen
               ran.placed one);
           ran = λ bounds bindings stand right.
               let so = ran.ran bounds bindings stand right in
@@ -268,7 +269,7 @@ ran-no_lines tells board all caller ended may zero same none names_are =
       none = ap (λ p. p.knows.in_flight) same ∙ may.none;
       whole = omega (arith, ap length empty, no_lines);
       word_room = ap (λ n. n.room) names_are;
-      placed = rw (empty, own-none me all, seen, names_are) (placed-idle me caller.names.place caller.pass.knows.seen caller.pass.knows.seen (idle-none me caller.pass.knows.seen));
+      placed = rw (empty, own-none me all, seen, names_are) (both-idle me caller.names.places caller.pass.knows.seen caller.pass.knows.seen (idle-none me caller.pass.knows.seen));
       ran = λ bounds bindings stand right. record {
         ran = rw (empty, own-none me all, seen) (idle-none me caller.pass.knows.seen);
         stand = rw (empty, own-none me all, bound-none me bounds all no_lines, seen, number, names_are) stand;
@@ -288,9 +289,9 @@ all-ran-last tells board lines [] (e ∷ ended) caller one ran last = absurd ran
 all-ran-last tells board lines (c ∷ callers) [] caller one ran last = absurd ran
 all-ran-last tells board lines (c ∷ callers) (e ∷ ended) caller one ran last = (ran.0, all-ran-last tells board lines callers ended caller one ran.1 last)
 
--- the places of all but the last, and that of the last, are of the queue
-pub own-parts : {D L Q : Type 0} (queue : TableId) (callers front : List (Caller D L Q)) (last : Caller D L Q) → callers ≡ front ++ last ∷ [] → AllByRecursion (λ (caller : Caller D L Q). caller.names.place.queue ≡ queue) callers → AllByRecursion (λ (caller : Caller D L Q). caller.names.place.queue ≡ queue) front × (last.names.place.queue ≡ queue)
-own-parts {D = D} {L = L} {Q = Q} queue callers front last is own =
-    let Own : Caller D L Q → Type 0 = λ caller. caller.names.place.queue ≡ queue in
+-- the places of all but the last, and that of the last, are at the queues
+pub own-parts : {D L Q : Type 0} (queues : Queues) (callers front : List (Caller D L Q)) (last : Caller D L Q) → callers ≡ front ++ last ∷ [] → AllByRecursion (λ (caller : Caller D L Q). queues_of caller.names.places ≡ queues) callers → AllByRecursion (λ (caller : Caller D L Q). queues_of caller.names.places ≡ queues) front × (queues_of last.names.places ≡ queues)
+own-parts {D = D} {L = L} {Q = Q} queues callers front last is own =
+    let Own : Caller D L Q → Type 0 = λ caller. queues_of caller.names.places ≡ queues in
     let all : AllByRecursion Own (front ++ last ∷ []) = subst (AllByRecursion Own) is own in
     (all-front Own front (last ∷ []) all, (all-back Own front (last ∷ []) all).0)

@@ -125,6 +125,7 @@ action-below streams n (action.Append _ _) few within = tt
 action-below streams n (action.LogFlush _ _) few within = tt
 action-below streams n action.Scan few within = tt
 action-below streams n action.AheadStep few within = tt
+action-below streams n action.Complete few within = tt
 action-below streams n action.Tick few within = tt
 action-below streams n action.Post few within = tt
 action-below streams n (action.NcReadPage file page) few within = omega (arith, few, within.in_file.stream)

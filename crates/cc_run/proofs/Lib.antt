@@ -31,4 +31,5 @@ pub mod PlacesWent
 pub mod StepsRan
 pub mod Working
 pub mod Queued
+pub mod Copied
 pub mod Untold

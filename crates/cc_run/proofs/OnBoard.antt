@@ -36,14 +36,16 @@ use Rattle.cc_run.specs.Callers.{AllRan, AreRows, CallerRan, LinesRan, MayRun, M
 use Rattle.cc_lines.specs.Holds.{NamesStand, NamesState}
 use Rattle.cc_run.specs.Desks.{IsReady, IsSameRun}
 use Rattle.atomic_table.specs.Seated.{TableId}
-use Rattle.cc_lines.specs.Line.{IsServable, PlaceWent}
+use Rattle.cc_lines.specs.Line.{IsServable}
+use Rattle.cc_lines.specs.Queues.{PlacesWent, queues_of}
+use Rattle.cc_lines.specs.declared.queues.Queues.{Queues}
 use Rattle.cc_run.specs.Lines.{AllStand, IsCaller, KeepRoom, MayServe, after_lines, asked_by, bound_by}
 use Rattle.cc_run.specs.Phases.{PhaseEnds}
 use Rattle.cc_run.specs.Threads.{AreJoined, AreRooms, AreSplit, MayJoin, MaySplit, Merged, under_way_of}
 use Rattle.cc_run.specs.declared.callers.Caller.{Caller}
 use Rattle.cc_run.specs.Ticks.{HasTickRoom, TicksMade}
 use Rattle.cc_run.specs.Aheads.{HasStepRoom, StepsMade}
-use Rattle.cc_run.specs.Places.{AreOfQueue, PlacesRan}
+use Rattle.cc_run.specs.Places.{AreOfQueues, PlacesRan}
 use Rattle.cc_run.specs.Workers.{MayStepOn, MayWork, StepperRan, WorkerRan}
 use Rattle.cc_run.specs.declared.callers.Finished.{Finished}
 use Rattle.cc_run.specs.declared.aheads.Aheads.{Aheads}
@@ -55,7 +57,7 @@ use Rattle.cc_run.proofs.LinesRan.{of_none}
 use Rattle.cc_run.proofs.Lists.{below-or, mapped-at, there}
 use Rattle.cc_lines.proofs.NamesKept.{names-keep}
 use Rattle.cc_run.proofs.RowSteps.{reverse_twice}
-use Rattle.cc_run.proofs.PlacesWent.{own-at, placed-on, places-ran}
+use Rattle.cc_run.proofs.PlacesWent.{both-on, own-at, places-ran}
 use Rattle.cc_run.proofs.StepsRan.{steps-idle}
 use Rattle.cc_run.proofs.TicksRan.{made-idle}
 
@@ -218,10 +220,10 @@ module _ {D L Q : Type 0} (told : D → Option Disk) (faults : D → ℕ) (log_t
                   subst (λ k. length caller.names.named + words_bound k lines ≤ caller.names.room) (sym is.number_is) (words.room n caller.names (names-at n caller at));
             }
 
-    -- the place of each is of the queue
-    pub all-own : (queue : TableId) → AreOfQueue queue was → AllByRecursion (λ (caller : Caller D L Q). caller.names.place.queue ≡ queue) callers
-    all-own queue own =
-        all-from (λ (caller : Caller D L Q). caller.names.place.queue ≡ queue) callers (λ n caller at. own-at queue was n caller.names own (names-at n caller at))
+    -- the places of each are at the queues
+    pub all-own : (queues : Queues) → AreOfQueues queues was → AllByRecursion (λ (caller : Caller D L Q). queues_of caller.names.places ≡ queues) callers
+    all-own queues own =
+        all-from (λ (caller : Caller D L Q). queues_of caller.names.places ≡ queues) callers (λ n caller at. own-at queues was n caller.names own (names-at n caller at))
 
     -- pass 0 may split one pass more, which is the lazy writer's
     pub first-split : IsFirstOf board split_first
@@ -533,7 +535,7 @@ module _ {D L Q : Type 0} (told : D → Option Disk) (faults : D → ℕ) (log_t
               places-on-board names names_back before after those merged =
                   places-ran lines before after merged.answers was names desk.last.entries now.last.entries merged.grew (record { each = each })
                 where
-                  each : (n : ℕ) (a b : NamesState) → slice_get was n ≡ Some a → slice_get names n ≡ Some b → PlaceWent (suc n) (asked_by (suc n) lines merged.answers) a.place b.place desk.last.entries now.last.entries
+                  each : (n : ℕ) (a b : NamesState) → slice_get was n ≡ Some a → slice_get names n ≡ Some b → PlacesWent (suc n) (asked_by (suc n) lines merged.answers) a.places b.places desk.last.entries now.last.entries
                   each n a b first second =
                       let within : n < 16 = omega (arith, slice_get_within was n a first, sixteen) in
                       let e = ended-at n within in
@@ -543,13 +545,13 @@ module _ {D L Q : Type 0} (told : D → Option Disk) (faults : D → ℕ) (log_t
                       sym (asked-phase phase (suc n) lines merged.answers those)
                       ∙ (merged.asked phase (suc n) those (omega arith) (omega (arith, within)) ∙ ap (asked_own (suc n) lines) (row-is n e.one within e.at)) in
                       let went = e.ran_so.placed in
-                      let own : PlaceWent (suc n) (asked_own (suc n) lines e.one.answers.items) e.caller.names.place e.one.names.place desk.last.entries e.one.pass.knows.seen =
+                      let own : PlacesWent (suc n) (asked_own (suc n) lines e.one.answers.items) e.caller.names.places e.one.names.places desk.last.entries e.one.pass.knows.seen =
                       rw (e.number_is, e.seen_is) at went in
                       let own_lines = asked_own (suc n) lines e.one.answers.items in
-                      subst (λ l. PlaceWent (suc n) l a.place b.place desk.last.entries now.last.entries) (sym told)
-                      (subst (λ (row : NamesState). PlaceWent (suc n) own_lines row.place b.place desk.last.entries now.last.entries) (sym a_is)
-                      (subst (λ (row : NamesState). PlaceWent (suc n) own_lines e.caller.names.place row.place desk.last.entries now.last.entries) (sym b_is)
-                      (placed-on (suc n) own_lines e.caller.names.place e.one.names.place desk.last.entries e.one.pass.knows.seen now.last.entries own (idle-caller n e))))
+                      subst (λ l. PlacesWent (suc n) l a.places b.places desk.last.entries now.last.entries) (sym told)
+                      (subst (λ (row : NamesState). PlacesWent (suc n) own_lines row.places b.places desk.last.entries now.last.entries) (sym a_is)
+                      (subst (λ (row : NamesState). PlacesWent (suc n) own_lines e.caller.names.places row.places desk.last.entries now.last.entries) (sym b_is)
+                      (both-on (suc n) own_lines e.caller.names.places e.one.names.places desk.last.entries e.one.pass.knows.seen now.last.entries own (idle-caller n e))))
 
               module _ (names : List NamesState) (names_back : names ≡ reverse joined_names) (good : IsGood (standing_of told faults log_told log_faults now).setup now.last.entries) (before after : List LineReply) (bounds : ℕ → List Bound) (bindings : ℕ → List Binding) (are : AllByRecursion (λ line. IsCaller line.caller) lines) (those : AllByRecursion (λ line. line.phase ≡ phase) lines) (merged : Merged lines answers before after) (stand : AllStand (length desk.begun.disks) desk.last.entries bounds bindings was) (right : (me : ℕ) → AreUsedRight me (bounds me) lines) where
                 abbrev asked : ℕ → List (Action × Answer)

@@ -7,7 +7,6 @@ use Rattle.std.proofs.Common.{ap, sym, subst, ◌∙◌, arith, inl, inr}
 use Rattle.std.proofs.lemmas.Bool.{ne_eqb}
 use Rattle.std.proofs.lemmas.List.{append-nil, length-append, length-map}
 use Rattle.std.proofs.lemmas.Nat.{mul-le}
-use Rattle.atomic_table.specs.Seated.{TableId}
 use Rattle.cc_entry.specs.declared.answer.Answer.{Answer}
 use Rattle.cc_entry.specs.declared.answer.Answer.TheVariants as answer
 use Rattle.cc_entry.specs.declared.answer.LineReply.{LineReply}
@@ -31,7 +30,8 @@ use Rattle.cc_model.specs.Setup.{Setup}
 use Rattle.cc_effects.specs.Moments.{IsIdle}
 use Rattle.cc_effects.proofs.Stretches.{idle-none, idle-then}
 use Rattle.cc_lines.specs.Holds.{NamesState}
-use Rattle.cc_lines.specs.Line.{PlaceWent, hand_of}
+use Rattle.cc_lines.specs.Queues.{PlaceWent, hand_of, new_places}
+use Rattle.cc_lines.specs.declared.queues.Queues.{Queues}
 use Rattle.cc_pieces.specs.Explained.{Answered, Given}
 use Rattle.cc_pieces.specs.Openings.{LoggedOpening, MigrationLeft, Opens, RecordedOpening, StreamOpening, first_object_of, opening_sizes, opening_with, said_sizes}
 use Rattle.cc_pieces.specs.Phases.{TicksRan, is_of_phase, lazy_writer, read_ahead_worker}
@@ -226,7 +226,7 @@ few-answers test (line ∷ lines) = by (test line.0) (few-answers test lines)
     by true less = omega (arith, less)
     by false less = omega (arith, less)
 
-few-asked : (own : ActionLine → Bool) (lines : List ActionLine) (replies : List LineReply) → length (asked_of own lines replies) ≤ length lines
+pub few-asked : (own : ActionLine → Bool) (lines : List ActionLine) (replies : List LineReply) → length (asked_of own lines replies) ≤ length lines
 few-asked own [] replies = omega arith
 few-asked own (line ∷ lines) [] = omega arith
 few-asked own (line ∷ lines) (reply ∷ replies) = by (own line) (few-asked own lines replies)
@@ -252,13 +252,13 @@ steps-ask (reply ∷ stepped) = steps-ask stepped
 
 -- those of the callers, of the lazy writer and of the read-ahead worker
 abbrev pub all_places : List NamesState → PlaceState Request → PlaceState Request → List (PlaceState Request)
-all_places rows lazy worker = map (λ (own : NamesState). own.place) rows ++ lazy ∷ worker ∷ []
+all_places rows lazy worker = map (λ (own : NamesState). own.places.ahead) rows ++ lazy ∷ worker ∷ []
 
-caller-place : (rows : List NamesState) (lazy worker : PlaceState Request) (n : ℕ) (own : NamesState) → slice_get rows n ≡ Some own → slice_get (all_places rows lazy worker) n ≡ Some own.place
+caller-place : (rows : List NamesState) (lazy worker : PlaceState Request) (n : ℕ) (own : NamesState) → slice_get rows n ≡ Some own → slice_get (all_places rows lazy worker) n ≡ Some own.places.ahead
 caller-place [] lazy worker n own at = absurd (cc at)
 caller-place (row ∷ rows) lazy worker zero own at =
     let is : row ≡ own = cc at in
-    ap (λ (c : NamesState). Some c.place) is
+    ap (λ (c : NamesState). Some c.places.ahead) is
 caller-place (row ∷ rows) lazy worker (suc n) own at = caller-place rows lazy worker n own at
 
 behind-place : (rows : List NamesState) (lazy worker : PlaceState Request) (n k : ℕ) → n ≡ length rows + k → slice_get (all_places rows lazy worker) n ≡ slice_get (lazy ∷ worker ∷ []) k
@@ -276,9 +276,9 @@ past-both lazy worker (suc (suc k)) least = refl
 module _ (rows : List NamesState) (lazy worker : PlaceState Request) (sixteen : length rows ≡ 16) where
   pub all-long : length (all_places rows lazy worker) ≡ 18
   all-long =
-      omega (arith, length-append (map (λ (own : NamesState). own.place) rows) (lazy ∷ worker ∷ []), length-map rows (λ (own : NamesState). own.place), sixteen)
+      omega (arith, length-append (map (λ (own : NamesState). own.places.ahead) rows) (lazy ∷ worker ∷ []), length-map rows (λ (own : NamesState). own.places.ahead), sixteen)
 
-  own-at : (n : ℕ) (own : NamesState) → slice_get rows n ≡ Some own → place_at (all_places rows lazy worker) (suc n) ≡ hand_of own.place
+  own-at : (n : ℕ) (own : NamesState) → slice_get rows n ≡ Some own → place_at (all_places rows lazy worker) (suc n) ≡ hand_of own.places.ahead
   own-at n own at = ap or_rest (caller-place rows lazy worker n own at)
 
   lazy-at : place_at (all_places rows lazy worker) lazy_writer ≡ hand_of lazy
@@ -295,16 +295,16 @@ module _ (rows : List NamesState) (lazy worker : PlaceState Request) (sixteen : 
   taken-is = ap (λ p. p.taken) worker-at
 
 -- a new place is untouched
-fresh-at : (queue : TableId) (rows : List NamesState) (n : ℕ) (own : NamesState) → AllByRecursion (λ (own : NamesState). own.place ≡ new_place queue) rows → slice_get rows n ≡ Some own → hand_of own.place ≡ untouched
-fresh-at queue [] n own fresh at = absurd (cc at)
-fresh-at queue (row ∷ rows) zero own fresh at =
+fresh-at : (queues : Queues) (rows : List NamesState) (n : ℕ) (own : NamesState) → AllByRecursion (λ (own : NamesState). own.places ≡ new_places queues) rows → slice_get rows n ≡ Some own → hand_of own.places.ahead ≡ untouched
+fresh-at queues [] n own fresh at = absurd (cc at)
+fresh-at queues (row ∷ rows) zero own fresh at =
     let is : row ≡ own = cc at in
-    ap (λ (c : NamesState). hand_of c.place) (sym is) ∙ ap hand_of fresh.0
-fresh-at queue (row ∷ rows) (suc n) own fresh at = fresh-at queue rows n own fresh.1 at
+    ap (λ (c : NamesState). hand_of c.places.ahead) (sym is) ∙ ap (λ p. hand_of p.ahead) fresh.0
+fresh-at queues (row ∷ rows) (suc n) own fresh at = fresh-at queues rows n own fresh.1 at
 
 -- ---- a run
 
-module _ (u v : Setup) (script : Script) (between replies kept ticked stepped : List LineReply) (took : List Request) (begun past : List Entry) (was now : List NamesState) (lazy first worker : PlaceState Request) (queue : TableId) (within : IsWithin script) (opened : StreamsOpened u 0 script.streams [] between [] begun) (alone : (me : ℕ) → me ≢ 0 → IsIdle me [] begun) (served : PhasesServed v script.ticks script.aheads script.phases script.lines between replies ticked stepped took begun past) (told_once : AreToldOnce script.streams script.lines replies kept) (placed : PlacesRan script.lines between replies was now begun past) (worked : PlaceWent 18 (step_lines stepped) first worker begun past) (sixteen_was : length was ≡ 16) (sixteen : length now ≡ 16) (fresh : AllByRecursion (λ (own : NamesState). own.place ≡ new_place queue) was) (fresh_lazy : lazy ≡ new_place queue) (fresh_first : first ≡ new_place queue) where
+module _ (u v : Setup) (script : Script) (between replies kept ticked stepped : List LineReply) (took : List Request) (begun past : List Entry) (was now : List NamesState) (lazy first worker : PlaceState Request) (queues : Queues) (within : IsWithin script) (opened : StreamsOpened u 0 script.streams [] between [] begun) (alone : (me : ℕ) → me ≢ 0 → IsIdle me [] begun) (served : PhasesServed v script.ticks script.aheads script.phases script.lines between replies ticked stepped took begun past) (told_once : AreToldOnce script.streams script.lines replies kept) (placed : PlacesRan script.lines between replies was now begun past) (worked : PlaceWent 18 (step_lines stepped) first worker begun past) (sixteen_was : length was ≡ 16) (sixteen : length now ≡ 16) (fresh : AllByRecursion (λ (own : NamesState). own.places ≡ new_places queues) was) (fresh_lazy : lazy ≡ new_place queues.ahead) (fresh_first : first ≡ new_place queues.ahead) where
   abbrev given : Given
   given = given_of script
 
@@ -362,9 +362,9 @@ module _ (u v : Setup) (script : Script) (between replies kept ticked stepped : 
       let b = there now n (omega (arith, low, sixteen)) in
       let own : ActionLine → Bool = λ line. line.caller == suc n in
       let lines = asked_by (suc n) script.lines served.answers in
-      let went = placed-since (suc n) lines a.0.place b.0.place [] begun past (alone (suc n) (λ e. omega (arith, e))) (placed.each served.answers n a.0 b.0 served.grew a.1 b.1) in
-      let ran : PlaceRan (suc n) lines untouched (hand_of b.0.place) [] past =
-      subst (λ p. PlaceRan (suc n) lines p (hand_of b.0.place) [] past) (fresh-at queue was n a.0 fresh a.1) went.ran in
+      let went = placed-since (suc n) lines a.0.places.ahead b.0.places.ahead [] begun past (alone (suc n) (λ e. omega (arith, e))) (placed.each served.answers n a.0 b.0 served.grew a.1 b.1).ahead in
+      let ran : PlaceRan (suc n) lines untouched (hand_of b.0.places.ahead) [] past =
+      subst (λ p. PlaceRan (suc n) lines p (hand_of b.0.places.ahead) [] past) (fresh-at queues was n a.0 fresh a.1) went.ran in
       let asked = few-asked own script.lines served.answers in
       record {
         lines = lines;
@@ -431,6 +431,6 @@ module _ (u v : Setup) (script : Script) (between replies kept ticked stepped : 
   }
 
 -- from where a run began
-pub run-queued : (u v : Setup) (script : Script) (before between replies kept ticked stepped : List LineReply) (took : List Request) (start begun past entries : List Entry) (was now : List NamesState) (lazy first worker : PlaceState Request) (places : List (PlaceState Request)) (queue : TableId) → IsWithin script → before ≡ [] → start ≡ [] → entries ≡ past → places ≡ map (λ (own : NamesState). own.place) now ++ lazy ∷ worker ∷ [] → StreamsOpened u 0 script.streams before between start begun → ((me : ℕ) → me ≢ 0 → IsIdle me start begun) → PhasesServed v script.ticks script.aheads script.phases script.lines between replies ticked stepped took begun past → AreToldOnce script.streams script.lines replies kept → PlacesRan script.lines between replies was now begun past → PlaceWent 18 (step_lines stepped) first worker begun past → length was ≡ 16 → length now ≡ 16 → AllByRecursion (λ (own : NamesState). own.place ≡ new_place queue) was → lazy ≡ new_place queue → first ≡ new_place queue → AreQueued (given_of script) (run_answered kept ticked stepped) places entries
-run-queued u v script before between replies kept ticked stepped took start begun past entries was now lazy first worker places queue within none empty same are opened alone served told placed worked sixteen_was sixteen fresh fresh_lazy fresh_first =
-    rw (same, are) (are-queued u v script between replies kept ticked stepped took begun past was now lazy first worker queue within (rw (none, empty) at opened) (rw empty at alone) served told placed worked sixteen_was sixteen fresh fresh_lazy fresh_first)
+pub run-queued : (u v : Setup) (script : Script) (before between replies kept ticked stepped : List LineReply) (took : List Request) (start begun past entries : List Entry) (was now : List NamesState) (lazy first worker : PlaceState Request) (places : List (PlaceState Request)) (queues : Queues) → IsWithin script → before ≡ [] → start ≡ [] → entries ≡ past → places ≡ map (λ (own : NamesState). own.places.ahead) now ++ lazy ∷ worker ∷ [] → StreamsOpened u 0 script.streams before between start begun → ((me : ℕ) → me ≢ 0 → IsIdle me start begun) → PhasesServed v script.ticks script.aheads script.phases script.lines between replies ticked stepped took begun past → AreToldOnce script.streams script.lines replies kept → PlacesRan script.lines between replies was now begun past → PlaceWent 18 (step_lines stepped) first worker begun past → length was ≡ 16 → length now ≡ 16 → AllByRecursion (λ (own : NamesState). own.places ≡ new_places queues) was → lazy ≡ new_place queues.ahead → first ≡ new_place queues.ahead → AreQueued (given_of script) (run_answered kept ticked stepped) places entries
+run-queued u v script before between replies kept ticked stepped took start begun past entries was now lazy first worker places queues within none empty same are opened alone served told placed worked sixteen_was sixteen fresh fresh_lazy fresh_first =
+    rw (same, are) (are-queued u v script between replies kept ticked stepped took begun past was now lazy first worker queues within (rw (none, empty) at opened) (rw empty at alone) served told placed worked sixteen_was sixteen fresh fresh_lazy fresh_first)

@@ -88,6 +88,8 @@ servable streams n (action.Sync stream) few run within = absurd (cc run)
 servable streams n action.Scan few run within = absurd (cc run)
 servable streams n (action.AskAhead file at len) few run within = let there = within.stream in omega (arith, there, few)
 servable streams n action.AheadStep few run within = tt
+servable streams n (action.AsyncRead file at len) few run within = let there = within.stream in omega (arith, there, few)
+servable streams n action.Complete few run within = tt
 servable streams n action.Tick few run within = tt
 servable streams n (action.CanWrite file bytes) few run within = let there = within.stream in omega (arith, there, few)
 servable streams n (action.Defer file bytes retrying) few run within = let there = within.stream in omega (arith, there, few)

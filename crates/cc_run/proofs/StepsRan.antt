@@ -18,7 +18,8 @@ use Rattle.cc_model.specs.Setup.{Setup}
 use Rattle.cc_effects.specs.Moments.{IsIdle}
 use Rattle.cc_effects.proofs.Stretches.{idle-none, idle-then}
 use Rattle.cc_lines.specs.Holds.{NamesState}
-use Rattle.cc_lines.specs.Line.{IsFullTold, PlaceWent, StepAt, WentOn, hand_of}
+use Rattle.cc_lines.specs.Line.{IsFullTold, StepAt, WentOn}
+use Rattle.cc_lines.specs.Queues.{PlaceWent, hand_of}
 use Rattle.cc_pieces.specs.Answered.{AheadAnswered}
 use Rattle.cc_pieces.specs.Bindings.{Binding}
 use Rattle.cc_pieces.specs.Phases.{EndsWithNone, lazy_writer, read_ahead_worker}

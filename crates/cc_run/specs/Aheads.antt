@@ -8,7 +8,8 @@ use Rattle.cc_script.specs.declared.script.Action.{Action}
 use Rattle.cc_script.specs.declared.script.Action.TheVariants as action
 use Rattle.cc_model.specs.Setup.{Setup}
 use Rattle.cc_turns.specs.Standing.{Standing}
-use Rattle.cc_lines.specs.Line.{IsFree, PlaceWent}
+use Rattle.cc_lines.specs.Line.{IsFree}
+use Rattle.cc_lines.specs.Queues.{PlaceWent}
 use Rattle.cc_pieces.specs.Phases.{AheadsRan, EndsWithNone, read_ahead_worker}
 use Rattle.cc_run.specs.declared.aheads.Aheads.{Aheads}
 

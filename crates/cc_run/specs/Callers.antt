@@ -15,7 +15,8 @@ use Rattle.cc_turns.specs.Slots.{setup_in}
 use Rattle.cc_board.specs.Board.{BoardState, IsOf, PassState}
 use Rattle.cc_board.specs.View.{run_of}
 use Rattle.cc_lines.specs.Holds.{NamesState, NamesStand}
-use Rattle.cc_lines.specs.Line.{IsServable, PlaceWent}
+use Rattle.cc_lines.specs.Line.{IsServable}
+use Rattle.cc_lines.specs.Queues.{PlacesWent}
 use Rattle.cc_run.specs.declared.callers.Caller.{Caller}
 use Rattle.cc_run.specs.declared.callers.Finished.{Finished}
 
@@ -66,7 +67,7 @@ pub record LinesRan {D L Q : Type 0} (tells : Tells D L Q) (board : BoardState D
       (bindings_of bindings (asked_own caller.pass.knows.number lines ended.answers.items)) ended.names
 
 -- A caller ran its lines: its pass has nothing under way; each of its lines has an answer; they left what explains them; and this
--- is what they did at its place.
+-- is what they did at its places.
 pub record CallerRan {D L Q : Type 0} (tells : Tells D L Q) (board : BoardState D L) (lines : List ActionLine)
     (caller : Caller D L Q) (ended : Finished D L Q) : Type 0 where
   pub here : IsOf board ended.pass
@@ -75,8 +76,8 @@ pub record CallerRan {D L Q : Type 0} (tells : Tells D L Q) (board : BoardState 
   pub whole : length ended.answers.items ≡ count_of caller.pass.knows.number lines
   pub word_room : ended.names.room ≡ caller.names.room
   pub placed :
-      PlaceWent caller.pass.knows.number (asked_own caller.pass.knows.number lines ended.answers.items)
-      caller.names.place ended.names.place caller.pass.knows.seen ended.pass.knows.seen
+      PlacesWent caller.pass.knows.number (asked_own caller.pass.knows.number lines ended.answers.items)
+      caller.names.places ended.names.places caller.pass.knows.seen ended.pass.knows.seen
   pub ran : (bounds : List Bound) (bindings : List Binding) → WordsStand board caller.pass bounds bindings caller.names →
       AreUsedRight caller.pass.knows.number bounds lines → LinesRan tells board lines bounds bindings caller ended
 

@@ -1,31 +1,33 @@
--- The places of the passes at the one queue of read-ahead of a run.
+-- The places of the passes at the queues of a run, that of read-ahead and that of copied reads.
 use Rattle.std.specs.Prelude.{◌≡◌, ℕ, zero, suc, List, [], ◌++◌, length, slice_get}
 use Rattle.std.specs.declared.option.Option.{Option}
 use Rattle.std.specs.declared.option.Option.TheVariants.{Some, None}
 use Rattle.std.specs.List.{AllByRecursion}
-use Rattle.atomic_table.specs.Seated.{TableId}
+use Rattle.cc_async.specs.declared.queue.QueuedRead.{QueuedRead}
 use Rattle.cc_entry.specs.declared.answer.LineReply.{LineReply}
 use Rattle.cc_entry.specs.declared.entry.Entry.{Entry}
 use Rattle.cc_entry.specs.declared.place.Request.{Request}
 use Rattle.cc_script.specs.declared.script.ActionLine.{ActionLine}
+use Rattle.cc_pieces.specs.AsyncQueue.{HasQueued}
 use Rattle.cc_pieces.specs.Explained.{Answered, Given}
 use Rattle.cc_pieces.specs.Queue.{IsQueued, QueuePlace}
 use Rattle.cc_queue.specs.Places.{PlaceState}
 use Rattle.cc_lines.specs.Holds.{NamesState}
 use Rattle.cc_run.specs.Lines.{asked_by}
--- what lines of a pass, each with its answer, did at its place
-pub use Rattle.cc_lines.specs.Line.{PlaceWent, hand_of}
+use Rattle.cc_lines.specs.declared.queues.Queues.{Queues}
+-- what lines of a pass, each with its answer, did at its places
+pub use Rattle.cc_lines.specs.Queues.{PlaceWent, PlacesWent, copies_of, hand_of, new_places, queues_of}
 
--- the callers' places are of this queue
-abbrev pub AreOfQueue : TableId → List NamesState → Type 0
-AreOfQueue queue rows = AllByRecursion (λ names. names.place.queue ≡ queue) rows
+-- the callers' places are at these queues
+abbrev pub AreOfQueues : Queues → List NamesState → Type 0
+AreOfQueues queues rows = AllByRecursion (λ names. queues_of names.places ≡ queues) rows
 
 -- lines whose replies stand behind those that were there did this at their callers' places
 pub record PlacesRan (lines : List ActionLine) (before after : List LineReply) (was now : List NamesState) (old new : List Entry)
     : Type 0 where
   pub each : (answers : List LineReply) (n : ℕ) (a b : NamesState) → after ≡ before ++ answers →
       slice_get was n ≡ Some a → slice_get now n ≡ Some b →
-      PlaceWent (suc n) (asked_by (suc n) lines answers) a.place b.place old new
+      PlacesWent (suc n) (asked_by (suc n) lines answers) a.places b.places old new
 
 -- a place at which nothing was done
 abbrev pub at_rest : QueuePlace
@@ -48,3 +50,9 @@ taken_at places = (place_at places 18).taken
 pub record AreQueued (given : Given) (told : Answered) (places : List (PlaceState Request)) (past : List Entry) : Type 0 where
   pub counted : length places ≡ 18
   pub queued : IsQueued given told (taken_at places) (place_at places) past
+
+-- At the queue of copied reads there is a place of each of the passes 1 to 16, and they have there what the answers of a run say.
+pub record AreAsyncQueued (given : Given) (told : Answered) (places : List (PlaceState QueuedRead)) : Type 0 where
+  pub counted : length places ≡ 16
+  pub each : (n : ℕ) (place : PlaceState QueuedRead) → slice_get places n ≡ Some place →
+      HasQueued given told (suc n) (copies_of place)

@@ -5,6 +5,7 @@ use Rattle.std.specs.declared.option.Option.TheVariants.{Some, None}
 use Rattle.cc_entry.specs.declared.answer.LineReply.{LineReply}
 use Rattle.cc_entry.specs.declared.entry.Entry.{Entry}
 use Rattle.cc_entry.specs.declared.place.Request.{Request}
+use Rattle.cc_async.specs.declared.queue.QueuedRead.{QueuedRead}
 use Rattle.cc_queue.specs.Places.{PlaceState}
 use Rattle.cc_journal.specs.Capacity.{IsWithinCapacity}
 use Rattle.cc_model.specs.Good.{IsGood}
@@ -19,7 +20,7 @@ use Rattle.cc_turns.specs.Desk.{Tells}
 use Rattle.cc_run.specs.Disks.{DisksLeft}
 use Rattle.cc_run.specs.Lines.{given_of, run_answered}
 use Rattle.cc_run.specs.Logs.{LogsLeft}
-use Rattle.cc_run.specs.Places.{AreQueued, taken_at}
+use Rattle.cc_run.specs.Places.{AreAsyncQueued, AreQueued, taken_at}
 use Rattle.cc_run.specs.Setups.{setup_of}
 use Rattle.cc_run.specs.declared.modes.RunResult.{RunResult}
 
@@ -34,6 +35,11 @@ IsExplainedBy mode.Steps u script told taken past = IsSteppedThrough u script.st
 abbrev pub AreQueuedBy : Mode → Script → Answered → List (PlaceState Request) → List Entry → Type 0
 AreQueuedBy mode.Run script told places past = AreQueued (given_of script) told places past
 AreQueuedBy mode.Steps script told places past = (places ≡ []) × (told.stepped ≡ [])
+
+-- The same of the callers at the queue of copied reads.
+abbrev pub AreAsyncQueuedBy : Mode → Script → Answered → List (PlaceState QueuedRead) → Type 0
+AreAsyncQueuedBy mode.Run script told places = AreAsyncQueued (given_of script) told places
+AreAsyncQueuedBy mode.Steps script told places = places ≡ []
 
 -- the numbers of the deferred writes of a script's `defer` lines, where one was run
 abbrev pub deferrals_in : Option Script → List LineReply → List (Option ℕ)
@@ -57,6 +63,8 @@ pub record HasRun {D L Q : Type 0} (tells : Tells D L Q) (m : Mode) (script : Sc
       (run_answered ran.replies.items ran.ticks.items ran.aheads.items) (taken_at ran.places.items) (reverse ran.journal.items)
   pub queued : AreQueuedBy m script (run_answered ran.replies.items ran.ticks.items ran.aheads.items) ran.places.items
       (reverse ran.journal.items)
+  pub async_queued :
+      AreAsyncQueuedBy m script (run_answered ran.replies.items ran.ticks.items ran.aheads.items) ran.async_places.items
   pub ticked : length ran.ticks.items ≡ ticks_asked m (Some script)
   pub table : IfSome ran.table (λ rows. rows.items ≡ table_of (reverse ran.journal.items))
   pub disks_left : DisksLeft tells.disk tells.disk_faults (reverse ran.journal.items) disks ran.disks.items

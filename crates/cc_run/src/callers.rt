@@ -6,11 +6,11 @@ ghost use Rattle.std.specs.Thread.{IsSync};
 ghost use Rattle.cc_turns.specs.Places.{IsRoomFor};
 ghost use Rattle.cc_turns.specs.Desk.{tells_of};
 ghost use Rattle.cc_run.specs.Callers.{MayRun, CallerRan, MayAllRun, AllRan};
+ghost use Rattle.cc_run.specs.Places.{queues_of};
 
 use cc_board::{Board, Pass, Seated};
-use cc_entry::{Answer, Request};
-use cc_lines::{Fresh, Names, serve_at};
-use cc_queue::Queue;
+use cc_entry::Answer;
+use cc_lines::{Fresh, Names, Queues, serve_at};
 use cc_script::ActionLine;
 use cc_traits::{Gate, LogFile, PageDisk, PostRoutine, Told};
 use cc_turns::Turns;
@@ -24,7 +24,7 @@ pub(crate) struct Caller<D: Told, L: LogFile, Q: PostRoutine> {
     pub(crate) pass: Pass<D, L, Q>,
     /// Room for the answer of each of its lines.
     pub(crate) room: Vec<Answer>,
-    /// What its words name, with room for those that its lines bind, and its place at the queue.
+    /// What its words name, with room for those that its lines bind, and its places at the queues.
     pub(crate) names: Names,
     /// How many calls it made in the phases before.
     pub(crate) calls: u32,
@@ -50,14 +50,14 @@ pub(crate) fn run_callers<
     rt: &R,
     alloc: Global,
     board: &Board<D, L, Q>,
-    queue: &Queue<Request>,
+    queues: &Queues,
     lines: &[ActionLine],
     gate: &P,
     callers: Vec<Caller<D, L, Q>>,
     room: Vec<Finished<D, L, Q>>,
 ) -> Vec<Finished<D, L, Q>>
     requires may { MayAllRun (tells_of D.told D.faults L.told L.faults Q.posted) board.now lines.now callers.items }
-    requires own { AllByRecursion (λ caller. caller.names.place.queue ≡ queue.now) callers.items }
+    requires own { AllByRecursion (λ caller. queues_of caller.names.places ≡ queues.now) callers.items }
     requires room { IsRoomFor (length callers.items) room.items (vec_capacity room) }
     ensures ran { AllRan (tells_of D.told D.faults L.told L.faults Q.posted) board.now lines.now
         callers.items result.items }
@@ -74,7 +74,7 @@ pub(crate) fn run_callers<
             names,
             calls: _,
         } = caller;
-        let mut ended = run_callers(rt, alloc, board, queue, lines, gate, callers, room);
+        let mut ended = run_callers(rt, alloc, board, queues, lines, gate, callers, room);
         ended.push_reserved(Finished {
             pass,
             answers,
@@ -87,17 +87,17 @@ pub(crate) fn run_callers<
         move || -> Vec<Finished<D, L, Q>>
             requires { IsSync R.row
                 × MayAllRun (tells_of D.told D.faults L.told L.faults Q.posted) board.now lines.now callers.items
-                × AllByRecursion (λ caller. caller.names.place.queue ≡ queue.now) callers.items
+                × AllByRecursion (λ caller. queues_of caller.names.places ≡ queues.now) callers.items
                 × IsRoomFor (length callers.items) room.items (vec_capacity room) }
             ensures { AllRan (tells_of D.told D.faults L.told L.faults Q.posted) board.entry.now lines.entry.now
                 callers.items result.items × (vec_capacity result ≡ vec_capacity room) }
-        { run_callers(rt, alloc, board, queue, lines, gate, callers, room) },
+        { run_callers(rt, alloc, board, queues, lines, gate, callers, room) },
         move || -> Finished<D, L, Q>
             requires { IsSync R.row × MayRun (tells_of D.told D.faults L.told L.faults Q.posted) board.now lines.now caller
-                × (caller.names.place.queue ≡ queue.now) }
+                × (queues_of caller.names.places ≡ queues.now) }
             ensures { CallerRan (tells_of D.told D.faults L.told L.faults Q.posted) board.entry.now lines.entry.now
                 caller result }
-        { run_caller(rt, alloc, board, queue, lines, gate, caller) },
+        { run_caller(rt, alloc, board, queues, lines, gate, caller) },
     );
     ended.push_reserved(last);
     ended
@@ -108,13 +108,13 @@ fn run_caller<R: Wait, D: PageDisk, L: LogFile, Q: Fresh, P: Gate>(
     rt: &R,
     alloc: Global,
     board: &Board<D, L, Q>,
-    queue: &Queue<Request>,
+    queues: &Queues,
     lines: &[ActionLine],
     gate: &P,
     caller: Caller<D, L, Q>,
 ) -> Finished<D, L, Q>
     requires may { MayRun (tells_of D.told D.faults L.told L.faults Q.posted) board.now lines.now caller }
-    requires own { caller.names.place.queue ≡ queue.now }
+    requires own { queues_of caller.names.places ≡ queues.now }
     ensures ran { CallerRan (tells_of D.told D.faults L.told L.faults Q.posted) board.now lines.now caller result }
 {
     let Caller {
@@ -132,7 +132,7 @@ fn run_caller<R: Wait, D: PageDisk, L: LogFile, Q: Fresh, P: Gate>(
                 rt,
                 alloc,
                 &mut seated,
-                queue,
+                queues,
                 &line.action,
                 gate,
                 calls,

@@ -14,14 +14,14 @@ ghost use Rattle.cc_lines.specs.Holds.{NamesStand};
 ghost use Rattle.cc_lines.specs.Line.{IsServable};
 ghost use Rattle.cc_run.specs.Lines.{AllStand, IsCaller, KeepRoom, LineEnd, LinesEnd, MayServe, MayServeLine};
 ghost use Rattle.cc_run.specs.Aheads.{HasStepRoom, StepsMade};
-ghost use Rattle.cc_run.specs.Places.{AreOfQueue, PlaceWent, PlacesRan};
+ghost use Rattle.cc_run.specs.Places.{AreOfQueues, PlacesRan, PlacesWent, queues_of};
 ghost use Rattle.cc_run.specs.Ticks.{HasTickRoom, TicksMade};
 
 use crate::aheads::{Aheads, make_steps};
 use crate::call_numbers::Calls;
 use crate::ticks::{Ticks, make_ticks};
 use cc_entry::{Answer, LineReply, Request};
-use cc_lines::{Fresh, Names, serve_at};
+use cc_lines::{Fresh, Names, Queues, serve_at};
 use cc_queue::Queue;
 use cc_script::ActionLine;
 use cc_traits::{Gate, LogFile, PageDisk, PostRoutine};
@@ -40,7 +40,7 @@ pub(crate) fn serve_lines<R: Wait, D: PageDisk, L: LogFile, Q: Fresh, P: Gate>(
     rt: &R,
     alloc: Global,
     desk: &mut Desk<D, L, Q>,
-    queue: &Queue<Request>,
+    queues: &Queues,
     lines: &[ActionLine],
     gate: &P,
     calls: &mut Calls,
@@ -54,7 +54,7 @@ pub(crate) fn serve_lines<R: Wait, D: PageDisk, L: LogFile, Q: Fresh, P: Gate>(
     requires words { MayServe (standing_of D.told D.faults L.told L.faults desk.old).streams desk.old.last.entries
         lines.now names.old }
     requires room { vec_len replies.old + length lines.now ≤ vec_capacity replies.old }
-    requires own { AreOfQueue queue.now names.old }
+    requires own { AreOfQueues queues.now names.old }
     ensures served { (bounds : ℕ → List Bound) (bindings : ℕ → List Binding) →
         AllStand (standing_of D.told D.faults L.told L.faults desk.old).streams desk.old.last.entries bounds bindings names.old →
         ((me : ℕ) → AreUsedRight me (bounds me) lines.now) →
@@ -74,7 +74,7 @@ pub(crate) fn serve_lines<R: Wait, D: PageDisk, L: LogFile, Q: Fresh, P: Gate>(
             rt,
             alloc,
             desk,
-            queue,
+            queues,
             line,
             gate,
             calls.next(line.caller),
@@ -92,7 +92,7 @@ fn serve_line<R: Wait, D: PageDisk, L: LogFile, Q: Fresh, P: Gate>(
     rt: &R,
     alloc: Global,
     desk: &mut Desk<D, L, Q>,
-    queue: &Queue<Request>,
+    queues: &Queues,
     line: &ActionLine,
     gate: &P,
     number: u32,
@@ -102,14 +102,14 @@ fn serve_line<R: Wait, D: PageDisk, L: LogFile, Q: Fresh, P: Gate>(
     requires servable { IsServable (standing_of D.told D.faults L.told L.faults desk.old).streams line.now.action }
     requires words { MayServeLine (standing_of D.told D.faults L.told L.faults desk.old).streams desk.old.last.entries
         line.now names.old }
-    requires own { names.old.place.queue ≡ queue.now }
+    requires own { queues_of names.old.places ≡ queues.now }
     ensures left { (bounds : List Bound) (bindings : List Binding) →
         NamesStand (standing_of D.told D.faults L.told L.faults desk.old).streams line.now.caller
         desk.old.last.entries bounds bindings names.old.named → UsesRight bounds line.now.action →
         LineEnd (standing_of D.told D.faults L.told L.faults desk.old) bounds bindings line.now
         result desk.old.last.entries desk.new.last.entries names.new }
     ensures kept_room { names.new.room ≡ names.old.room }
-    ensures placed { PlaceWent line.now.caller ((line.now.action, result) ∷ []) names.old.place names.new.place
+    ensures placed { PlacesWent line.now.caller ((line.now.action, result) ∷ []) names.old.places names.new.places
         desk.old.last.entries desk.new.last.entries }
     ensures alone { (me : ℕ) → me ≢ line.now.caller → IsIdle me desk.old.last.entries desk.new.last.entries }
     ensures good { IsGood (standing_of D.told D.faults L.told L.faults desk.old).setup desk.new.last.entries }
@@ -119,7 +119,7 @@ fn serve_line<R: Wait, D: PageDisk, L: LogFile, Q: Fresh, P: Gate>(
 {
     desk.act_as(line.caller);
     desk.good();
-    let answer = serve_at(rt, alloc, desk, queue, &line.action, gate, number, names);
+    let answer = serve_at(rt, alloc, desk, queues, &line.action, gate, number, names);
     desk.own();
     answer
 }

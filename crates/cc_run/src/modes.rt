@@ -10,6 +10,7 @@ ghost use Rattle.cc_run.specs.Runs.{HasRun};
 
 use crate::run::run_script;
 use crate::steps::step_script;
+use cc_async::AsyncPass;
 use cc_entry::{Entry, LineReply, Request};
 use cc_print::TableRow;
 use cc_queue::QueuePlace;
@@ -35,6 +36,8 @@ pub(crate) struct RunResult<D, L, Q> {
     pub(crate) aheads: Vec<LineReply>,
     /// The places of the passes 1 to 18 at the queue of read-ahead, in order; none in steps.
     pub(crate) places: Vec<QueuePlace<Request>>,
+    /// The places of the passes 1 to 16 at the queue of copied reads, in order; none in steps.
+    pub(crate) async_places: Vec<AsyncPass>,
     /// The oldest entry first.
     pub(crate) journal: Vec<Entry>,
     /// The rows of the pages that are dirty at the end; None where memory was wanting after the run began.

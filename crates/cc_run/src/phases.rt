@@ -13,7 +13,7 @@ ghost use Rattle.cc_lines.specs.Line.{IsServable};
 ghost use Rattle.cc_run.specs.Lines.{AllStand, HaveNoWords, IsCaller, KeepRoom, MayServe};
 ghost use Rattle.cc_run.specs.Phases.{PhaseEnds, PhasesServed};
 ghost use Rattle.cc_run.specs.Aheads.{HasStepRoom, StepsMade, step_lines};
-ghost use Rattle.cc_run.specs.Places.{AreOfQueue, PlaceWent, PlacesRan};
+ghost use Rattle.cc_run.specs.Places.{AreOfQueues, PlaceWent, PlacesRan};
 ghost use Rattle.cc_run.specs.Ticks.{HasTickRoom, TicksMade};
 
 use crate::aheads::Aheads;
@@ -21,9 +21,8 @@ use crate::call_numbers::Calls;
 use crate::lines::{serve_lines, serve_steps, serve_ticks};
 use crate::threads::serve_on_threads;
 use crate::ticks::Ticks;
-use cc_entry::{LineReply, Request};
-use cc_lines::{Fresh, Names};
-use cc_queue::Queue;
+use cc_entry::LineReply;
+use cc_lines::{Fresh, Names, Queues};
 use cc_script::ActionLine;
 use cc_traits::{Gate, LogFile, PageDisk};
 use cc_turns::Desk;
@@ -43,7 +42,7 @@ pub(crate) fn serve_phases<
     rt: &R,
     alloc: Global,
     desk: Desk<D, L, Q>,
-    queue: &Queue<Request>,
+    queues: &Queues,
     phases: u32,
     lines: &[ActionLine],
     gate: &P,
@@ -61,8 +60,8 @@ pub(crate) fn serve_phases<
     requires within { AllByRecursion (λ line. line.phase ≤ phases) lines.now }
     requires words { HaveNoWords lines.now names.items }
     requires room { vec_len replies.old + length lines.now ≤ vec_capacity replies.old }
-    requires own { AreOfQueue queue.now names.items }
-    requires own_place { aheads.place.queue ≡ queue.now }
+    requires own { AreOfQueues queues.now names.items }
+    requires own_place { aheads.place.queue ≡ queues.now.ahead }
     requires no_ticks { ticks.old.answers.items ≡ [] }
     requires tick_room { ticks.old.each * phases ≤ vec_capacity ticks.old.answers }
     requires no_steps { aheads.answers.items ≡ [] }
@@ -88,7 +87,7 @@ pub(crate) fn serve_phases<
     for phase in 1..phases + 1 {
         let (now, later) = rest.split_at(count_of_phase(rest, phase));
         (desk, aheads) = serve_phase(
-            rt, alloc, desk, queue, phase, now, gate, &mut calls, &mut names, replies, ticks,
+            rt, alloc, desk, queues, phase, now, gate, &mut calls, &mut names, replies, ticks,
             aheads,
         );
         rest = later;
@@ -122,7 +121,7 @@ fn serve_phase<
     rt: &R,
     alloc: Global,
     desk: Desk<D, L, Q>,
-    queue: &Queue<Request>,
+    queues: &Queues,
     phase: u32,
     lines: &[ActionLine],
     gate: &P,
@@ -140,8 +139,8 @@ fn serve_phase<
     requires words { MayServe (standing_of D.told D.faults L.told L.faults desk).streams desk.last.entries
         lines.now names.old.items }
     requires room { vec_len replies.old + length lines.now ≤ vec_capacity replies.old }
-    requires own { AreOfQueue queue.now names.old.items }
-    requires own_place { aheads.place.queue ≡ queue.now }
+    requires own { AreOfQueues queues.now names.old.items }
+    requires own_place { aheads.place.queue ≡ queues.now.ahead }
     requires tick_room { HasTickRoom ticks.old }
     requires step_room { HasStepRoom aheads }
     ensures served { (bounds : ℕ → List Bound) (bindings : ℕ → List Binding) →
@@ -166,17 +165,17 @@ fn serve_phase<
     let mut aheads = aheads;
     if runs_beside(lines, ticks.each, aheads.each) {
         match serve_on_threads(
-            rt, alloc, desk, queue, phase, lines, gate, calls, names, replies, ticks, aheads,
+            rt, alloc, desk, queues, phase, lines, gate, calls, names, replies, ticks, aheads,
         ) {
             Ok(done) => return done,
             Err(back) => (desk, aheads) = back,
         }
     }
     serve_lines(
-        rt, alloc, &mut desk, queue, lines, gate, calls, names, replies,
+        rt, alloc, &mut desk, queues, lines, gate, calls, names, replies,
     );
     serve_ticks(alloc, &mut desk, phase, ticks);
-    serve_steps(rt, alloc, &mut desk, queue, phase, &mut aheads);
+    serve_steps(rt, alloc, &mut desk, &queues.ahead, phase, &mut aheads);
     (desk, aheads)
 }
 

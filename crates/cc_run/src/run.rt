@@ -15,7 +15,7 @@ ghost use Rattle.cc_run.specs.Ends.{has_devices};
 ghost use Rattle.cc_run.specs.Disks.{DisksStand};
 ghost use Rattle.cc_run.specs.Lines.{HaveNoWords, given_of, run_answered};
 ghost use Rattle.cc_run.specs.Logs.{LogsStand};
-ghost use Rattle.cc_run.specs.Places.{AreQueued, taken_at};
+ghost use Rattle.cc_run.specs.Places.{AreAsyncQueued, AreQueued, new_places, queues_of, taken_at};
 ghost use Rattle.cc_queue.specs.Places.{new_place};
 ghost use Rattle.cc_turns.specs.Places.{IsRoomFor};
 ghost use Rattle.std.specs.List.{AllByRecursion};
@@ -29,10 +29,11 @@ use crate::posts::{Mark, settle};
 use crate::row::{first_of, put_back};
 use crate::table::printed_rows;
 use crate::ticks::Ticks;
+use cc_async::AsyncPass;
 use cc_entry::{LineReply, NoMemory, Request};
 use cc_journal::Parts;
-use cc_lines::Names;
-use cc_queue::{Queue, QueuePlace};
+use cc_lines::{Names, Places, Queues};
+use cc_queue::QueuePlace;
 use cc_script::Script;
 use cc_traits::{Gate, LogFile, PageDisk, PostRoutine, Setup};
 use cc_turns::Desk;
@@ -40,8 +41,11 @@ use std::alloc::Global;
 use std::sync::Wait;
 use std::thread::Threads;
 
+/// The callers, which have a place at each queue.
+const CALLERS: usize = 16;
+
 /// The passes that have a place at the queue of read-ahead: the callers and the two workers.
-const PLACES: usize = 18;
+const PLACES: usize = CALLERS + 2;
 
 /// Runs a script over the first disks that are handed in, 16 at most, and the first logs, 4 at most, which come back
 /// with the others. Where memory is wanting before the run begins, they come back as they were.
@@ -76,17 +80,24 @@ pub(crate) fn run_script<
     let Ok(replies) = Vec::with_capacity(alloc, count) else {
         return Err((rest, further, posts));
     };
-    let Ok((queue, mut place)) = Queue::new(alloc) else {
+    let Ok((queues, mut first)) = Queues::new(alloc) else {
         return Err((rest, further, posts));
     };
-    let Ok(names) = names_for(alloc, script, &queue, &mut place) else {
+    let Ok(names) = names_for(alloc, script, &queues, &mut first) else {
         return Err((rest, further, posts));
     };
-    let lazy = queue.split(&mut place);
+    let Places {
+        ahead: mut place,
+        ..
+    } = first;
+    let lazy = queues.ahead.split(&mut place);
     let Ok(aheads) = Aheads::with_room(alloc, script.aheads, script.phases, place) else {
         return Err((rest, further, posts));
     };
     let Ok(places) = Vec::with_capacity(alloc, PLACES) else {
+        return Err((rest, further, posts));
+    };
+    let Ok(async_places) = Vec::with_capacity(alloc, CALLERS) else {
         return Err((rest, further, posts));
     };
     let Ok(ticks) = Ticks::with_room(alloc, script.ticks, script.phases) else {
@@ -111,13 +122,26 @@ pub(crate) fn run_script<
                 ticks,
                 aheads,
                 places,
+                async_places,
                 journal,
                 table,
                 disks,
                 logs,
                 posts,
             } = run_on(
-                rt, alloc, script, gate, desk, &queue, names, replies, ticks, aheads, lazy, places,
+                rt,
+                alloc,
+                script,
+                gate,
+                desk,
+                &queues,
+                names,
+                replies,
+                ticks,
+                aheads,
+                lazy,
+                places,
+                async_places,
                 posts,
             );
             Ok(RunResult {
@@ -125,6 +149,7 @@ pub(crate) fn run_script<
                 ticks,
                 aheads,
                 places,
+                async_places,
                 journal,
                 table,
                 disks: put_back(disks, rest),
@@ -140,23 +165,23 @@ pub(crate) fn run_script<
     }
 }
 
-// What is kept of the words of the 16 callers, none yet, with room for all that each binds, and with a place of each at the
-// queue.
+// What is kept of the words of the 16 callers, none yet, with room for all that each binds, and with the places of each at
+// the queues.
 fn names_for(
     alloc: Global,
     script: &Script,
-    queue: &Queue<Request>,
-    place: &mut QueuePlace<Request>,
+    queues: &Queues,
+    places: &mut Places,
 ) -> Result<Vec<Names>, NoMemory>
     requires within { IsWithin script.now }
-    requires own { place.old.queue ≡ queue.now }
+    requires own { queues_of places.old ≡ queues.now }
     ensures words { IfOk result (λ names. HaveNoWords script.now.lines names.items) }
-    ensures places { IfOk result (λ names. AllByRecursion (λ own. own.place ≡ new_place queue.now) names.items) }
-    ensures same { place.new ≡ place.old }
+    ensures places { IfOk result (λ names. AllByRecursion (λ own. own.places ≡ new_places queues.now) names.items) }
+    ensures same { places.new ≡ places.old }
 {
-    let mut names = Vec::with_capacity(alloc, 16)?;
+    let mut names = Vec::with_capacity(alloc, CALLERS)?;
     for caller in 1..17 {
-        let own = queue.split(place);
+        let own = queues.split(places);
         names.push_reserved(Names::with_room(alloc, script.words_of(caller), own)?);
     }
     Ok(names)
@@ -176,13 +201,14 @@ fn run_on<
     script: &Script,
     gate: &P,
     desk: Desk<D, L, Mark>,
-    queue: &Queue<Request>,
+    queues: &Queues,
     names: Vec<Names>,
     replies: Vec<LineReply>,
     ticks: Ticks,
     aheads: Aheads,
     lazy: QueuePlace<Request>,
     places: Vec<QueuePlace<Request>>,
+    async_places: Vec<AsyncPass>,
     posts: Vec<Q>,
 ) -> RunResult<D, L, Q>
     requires fresh { IsFresh desk.begun desk }
@@ -197,13 +223,14 @@ fn run_on<
     requires ticks { ticks.each ≡ script.now.ticks }
     requires no_ticks { ticks.answers.items ≡ [] }
     requires tick_room { script.now.ticks * script.now.phases ≤ vec_capacity ticks.answers }
-    requires new_places { AllByRecursion (λ own. own.place ≡ new_place queue.now) names.items }
-    requires new_lazy { lazy ≡ new_place queue.now }
-    requires new_own { aheads.place ≡ new_place queue.now }
+    requires new_places { AllByRecursion (λ own. own.places ≡ new_places queues.now) names.items }
+    requires new_lazy { lazy ≡ new_place queues.now.ahead }
+    requires new_own { aheads.place ≡ new_place queues.now.ahead }
     requires steps { aheads.each ≡ script.now.aheads }
     requires no_steps { aheads.answers.items ≡ [] }
     requires step_room { script.now.aheads * script.now.phases ≤ vec_capacity aheads.answers }
     requires place_room { IsRoomFor 18 places.items (vec_capacity places) }
+    requires async_room { IsRoomFor 16 async_places.items (vec_capacity async_places) }
     ensures good { IsGood (standing_of D.told D.faults L.told L.faults desk).setup (reverse result.journal.items) }
     ensures within { IsWithinCapacity desk.begun.capacity (reverse result.journal.items) }
     ensures explained { IsExplained (standing_of D.told D.faults L.told L.faults desk).setup
@@ -211,6 +238,8 @@ fn run_on<
         (taken_at result.places.items) (reverse result.journal.items) }
     ensures queued { AreQueued (given_of script.now) (run_answered result.replies.items result.ticks.items result.aheads.items)
         result.places.items (reverse result.journal.items) }
+    ensures async_queued { AreAsyncQueued (given_of script.now)
+        (run_answered result.replies.items result.ticks.items result.aheads.items) result.async_places.items }
     ensures ticked { length result.ticks.items ≡ script.now.ticks * script.now.phases }
     ensures table { IfSome result.table (λ rows. rows.items ≡ table_of (reverse result.journal.items)) }
     ensures disks { DisksStand D.told D.faults (standing_of D.told D.faults L.told L.faults desk).disks
@@ -228,7 +257,7 @@ fn run_on<
         rt,
         alloc,
         desk,
-        queue,
+        queues,
         script.phases,
         script.lines.as_slice(),
         gate,
@@ -242,7 +271,7 @@ fn run_on<
         place,
         ..
     } = aheads;
-    let places = all_places(places, names, lazy, place);
+    let (places, async_places) = all_places(places, async_places, names, lazy, place);
     let table = printed_rows(alloc, desk.journal().dirty().rows()).ok();
     let Parts {
         disks,
@@ -256,6 +285,7 @@ fn run_on<
         ticks: ticks.answers,
         aheads,
         places,
+        async_places,
         journal,
         table,
         disks,
@@ -264,24 +294,31 @@ fn run_on<
     }
 }
 
-// The places of all passes from the first on: those of the callers, that of the lazy writer, and that of the read-ahead worker.
+// The places of all passes at each queue, from the first pass on: those of the callers, and at the queue of read-ahead that of the
+// lazy writer, and that of the read-ahead worker.
 fn all_places(
     places: Vec<QueuePlace<Request>>,
+    async_places: Vec<AsyncPass>,
     names: Vec<Names>,
     lazy: QueuePlace<Request>,
     worker: QueuePlace<Request>,
-) -> Vec<QueuePlace<Request>>
+) -> (Vec<QueuePlace<Request>>, Vec<AsyncPass>)
     requires callers { length names.items ≡ 16 }
     requires room { IsRoomFor 18 places.items (vec_capacity places) }
-    ensures { result.items ≡ map (λ own. own.place) names.items ++ lazy ∷ worker ∷ [] }
+    requires async_room { IsRoomFor 16 async_places.items (vec_capacity async_places) }
+    ensures places { result.0.items ≡ map (λ own. own.places.ahead) names.items ++ lazy ∷ worker ∷ [] }
+    ensures async_places { result.1.items ≡ map (λ own. own.places.copies) names.items }
 {
     let mut places = places;
+    let mut async_places = async_places;
     let mut names = names;
     names.reverse();
     while let Some(own) = names.pop() {
-        places.push_reserved(own.into_place());
+        let Places { ahead, copies } = own.into_places();
+        places.push_reserved(ahead);
+        async_places.push_reserved(copies);
     }
     places.push_reserved(lazy);
     places.push_reserved(worker);
-    places
+    (places, async_places)
 }

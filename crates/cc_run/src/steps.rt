@@ -64,6 +64,7 @@ pub(crate) fn step_script<D: PageDisk, L: LogFile, Q: PostRoutine>(
                 ticks: Vec::new(alloc),
                 aheads: Vec::new(alloc),
                 places: Vec::new(alloc),
+                async_places: Vec::new(alloc),
                 journal,
                 table,
                 disks: put_back(disks, rest),

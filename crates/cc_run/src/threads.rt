@@ -20,7 +20,7 @@ ghost use Rattle.cc_run.specs.Lines.{AllStand, IsCaller, KeepRoom, MayServe};
 ghost use Rattle.cc_run.specs.Phases.{PhaseEnds};
 ghost use Rattle.cc_run.specs.Threads.{AreRooms, AreSplit, AreJoined, Merged, MaySplit, MayJoin};
 ghost use Rattle.cc_run.specs.Aheads.{HasStepRoom, StepsMade};
-ghost use Rattle.cc_run.specs.Places.{AreOfQueue, PlacesRan};
+ghost use Rattle.cc_run.specs.Places.{AreOfQueues, PlacesRan};
 ghost use Rattle.cc_run.specs.Ticks.{HasTickRoom, TicksMade};
 
 use crate::aheads::Aheads;
@@ -29,9 +29,8 @@ use crate::callers::{Caller, Finished};
 use crate::ticks::Ticks;
 use crate::workers::{join_stepper, join_worker, run_all, split_stepper, split_worker};
 use cc_board::{Board, FirstPass};
-use cc_entry::{Answer, LineReply, NoMemory, Request};
-use cc_lines::{Fresh, Names};
-use cc_queue::Queue;
+use cc_entry::{Answer, LineReply, NoMemory};
+use cc_lines::{Fresh, Names, Queues};
 use cc_script::ActionLine;
 use cc_traits::{Gate, LogFile, PageDisk, PostRoutine, Told};
 use cc_turns::Desk;
@@ -58,7 +57,7 @@ pub(crate) fn serve_on_threads<
     rt: &R,
     alloc: Global,
     desk: Desk<D, L, Q>,
-    queue: &Queue<Request>,
+    queues: &Queues,
     phase: u32,
     lines: &[ActionLine],
     gate: &P,
@@ -77,8 +76,8 @@ pub(crate) fn serve_on_threads<
     requires those { AllByRecursion (λ line. line.phase ≡ phase) lines.now }
     requires room { vec_len replies.old + length lines.now ≤ vec_capacity replies.old }
     requires tick_room { HasTickRoom ticks.old }
-    requires own { AreOfQueue queue.now names.old.items }
-    requires own_place { aheads.place.queue ≡ queue.now }
+    requires own { AreOfQueues queues.now names.old.items }
+    requires own_place { aheads.place.queue ≡ queues.now.ahead }
     requires step_room { HasStepRoom aheads }
     requires beside { room_limit ticks.old.each aheads.each (is_alone phase lines.now) ≡ 32 }
     ensures served { IfOk result (λ done. (bounds : ℕ → List Bound) (bindings : ℕ → List Binding) →
@@ -125,7 +124,7 @@ pub(crate) fn serve_on_threads<
     let worker = split_worker(alloc, &board, &mut first, ticks);
     let stepper = split_stepper(&board, &mut first, aheads);
     let (ended, worker, stepper) = run_all(
-        rt, alloc, &board, queue, phase, lines, gate, callers, ended, worker, stepper,
+        rt, alloc, &board, queues, phase, lines, gate, callers, ended, worker, stepper,
     );
     let rows = join_all(&board, &mut first, calls, ended, names, rows);
     join_worker(&board, &mut first, worker, ticks);

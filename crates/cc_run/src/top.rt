@@ -19,7 +19,7 @@ ghost use Rattle.cc_run.specs.Words.{command_of, is_reading, mode_by, mode_in, r
 ghost use Rattle.cc_run.specs.declared.words.Command.TheVariants as asked;
 ghost use Rattle.cc_run.specs.Lines.{run_answered};
 ghost use Rattle.cc_run.specs.Places.{taken_at};
-ghost use Rattle.cc_run.specs.Runs.{AreQueuedBy, IsExplainedBy, deferrals_in, ticks_asked};
+ghost use Rattle.cc_run.specs.Runs.{AreAsyncQueuedBy, AreQueuedBy, IsExplainedBy, deferrals_in, ticks_asked};
 
 use crate::devices::has_devices;
 use crate::intake::{IntakeError, take_all};
@@ -27,6 +27,7 @@ use crate::modes::{RunResult, run_in_mode};
 use crate::no_run::{NoRun, syntax_text};
 use crate::output::{OutputError, put_all};
 use crate::words::{Command, read_words};
+use cc_async::AsyncPass;
 use cc_entry::{Entry, LineReply, Request};
 use cc_print::{summary_of, text_of};
 use cc_queue::QueuePlace;
@@ -55,6 +56,8 @@ pub struct Ended<D, L = Box<dyn LogFile + Send>, Q = Box<dyn PostRoutine + Send>
     /// The places of the passes 1 to 18 at the one queue of read-ahead of a run, in order; none in `steps` and `gen`, and where
     /// no run was made.
     pub places: Vec<QueuePlace<Request>>,
+    /// The places of the passes 1 to 16 at the one queue of copied reads of a run, in order; none where `places` has none.
+    pub async_places: Vec<AsyncPass>,
     /// The journal, oldest entry first; empty where no run was made.
     pub journal: Vec<Entry>,
     pub disks: Vec<D>,
@@ -76,6 +79,7 @@ struct Report<D, L, Q> {
     ticks: Vec<LineReply>,
     aheads: Vec<LineReply>,
     places: Vec<QueuePlace<Request>>,
+    async_places: Vec<AsyncPass>,
     journal: Vec<Entry>,
     disks: Vec<D>,
     logs: Vec<L>,
@@ -115,6 +119,7 @@ fn refused<K: Sink, D, L, Q>(
     ensures ticks { result.ticks.items ≡ [] }
     ensures aheads { result.aheads.items ≡ [] }
     ensures places { result.places.items ≡ [] }
+    ensures async_places { result.async_places.items ≡ [] }
     ensures journal { result.journal.items ≡ [] }
     ensures disks { result.disks ≡ disks }
     ensures logs { result.logs ≡ logs }
@@ -129,6 +134,7 @@ fn refused<K: Sink, D, L, Q>(
         ticks: Vec::new(alloc),
         aheads: Vec::new(alloc),
         places: Vec::new(alloc),
+        async_places: Vec::new(alloc),
         journal: Vec::new(alloc),
         disks,
         logs,
@@ -286,6 +292,9 @@ fn conduct<
         (run_answered result.replies.items result.ticks.items result.aheads.items) result.places.items
         (reverse result.journal.items)) }
     ensures no_places { result.script ≡ None → result.places.items ≡ [] }
+    ensures async_queued { IfSome result.script (λ made. AreAsyncQueuedBy (mode_in (map string_bytes words.now)) made
+        (run_answered result.replies.items result.ticks.items result.aheads.items) result.async_places.items) }
+    ensures no_async_places { result.script ≡ None → result.async_places.items ≡ [] }
     ensures no_steps { result.script ≡ None → result.aheads.items ≡ [] }
     ensures ticked { length result.ticks.items ≡ ticks_asked (mode_in (map string_bytes words.now)) result.script }
     ensures untouched { reads_source (map string_bytes words.now) ≡ false → source.new ≡ source.old }
@@ -324,6 +333,7 @@ fn conduct<
         ticks,
         aheads,
         places,
+        async_places,
         journal,
         table: _,
         disks,
@@ -337,6 +347,7 @@ fn conduct<
         ticks,
         aheads,
         places,
+        async_places,
         journal,
         disks,
         logs,
@@ -390,6 +401,13 @@ pub fn cache_main<
         (record { replies = result.replies.items; ticked = result.ticks.items; stepped = result.aheads.items })
         result.places.items (reverse result.journal.items)) }
     ensures no_places { result.script ≡ None → result.places.items ≡ [] }
+    // What the callers have at the one queue of copied reads of a run: each queued the reads of its lines that were answered so, in
+    // order, under the numbers of the answers, from 1 on; it completed those that its lines tell, in order; and it found the queue
+    // empty, and full, at least as often as it was answered so. Without a run, and in steps, there are no places.
+    ensures async_queued { IfSome result.script (λ made. AreAsyncQueuedBy (mode_in (map string_bytes words.now)) made
+        (record { replies = result.replies.items; ticked = result.ticks.items; stepped = result.aheads.items })
+        result.async_places.items) }
+    ensures no_async_places { result.script ≡ None → result.async_places.items ≡ [] }
     // How the program ended, with a run and without: the script that the words ask for, what was printed, the status and its
     // cause, which statuses are sure to come, and what was taken of the source.
     ensures ended { HasMain
@@ -423,6 +441,7 @@ pub fn cache_main<
         ticks,
         aheads,
         places,
+        async_places,
         journal,
         disks,
         logs,
@@ -435,6 +454,7 @@ pub fn cache_main<
         ticks,
         aheads,
         places,
+        async_places,
         journal,
         disks,
         logs,

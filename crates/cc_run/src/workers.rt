@@ -7,15 +7,14 @@ ghost use Rattle.cc_turns.specs.Places.{IsRoomFor};
 ghost use Rattle.cc_turns.specs.Desk.{tells_of};
 ghost use Rattle.cc_board.specs.Board.{IsFirstOf, IsOf, IsSplit, after_join};
 ghost use Rattle.cc_run.specs.Callers.{MayAllRun, AllRan};
+ghost use Rattle.cc_run.specs.Places.{queues_of};
 ghost use Rattle.cc_run.specs.Workers.{MayStepOn, MayWork, StepperRan, WorkerRan};
 
 use crate::aheads::{Aheads, make_steps};
 use crate::callers::{Caller, Finished, run_callers};
 use crate::ticks::{Ticks, make_ticks};
 use cc_board::{Board, FirstPass, Pass, Seated};
-use cc_entry::Request;
-use cc_lines::Fresh;
-use cc_queue::Queue;
+use cc_lines::{Fresh, Queues};
 use cc_script::ActionLine;
 use cc_traits::{Gate, LogFile, PageDisk, PostRoutine, Told};
 use std::alloc::Global;
@@ -120,7 +119,7 @@ pub(crate) fn run_all<
     rt: &R,
     alloc: Global,
     board: &Board<D, L, Q>,
-    queue: &Queue<Request>,
+    queues: &Queues,
     phase: u32,
     lines: &[ActionLine],
     gate: &P,
@@ -130,10 +129,10 @@ pub(crate) fn run_all<
     stepper: Stepper<D, L, Q>,
 ) -> (Vec<Finished<D, L, Q>>, Worker<D, L, Q>, Stepper<D, L, Q>)
     requires may { MayAllRun (tells_of D.told D.faults L.told L.faults Q.posted) board.now lines.now callers.items }
-    requires own { AllByRecursion (λ caller. caller.names.place.queue ≡ queue.now) callers.items }
+    requires own { AllByRecursion (λ caller. queues_of caller.names.places ≡ queues.now) callers.items }
     requires room { IsRoomFor (length callers.items) room.items (vec_capacity room) }
     requires may_work { MayWork board.now worker }
-    requires may_step { MayStepOn board.now queue.now stepper }
+    requires may_step { MayStepOn board.now queues.now.ahead stepper }
     ensures ran { AllRan (tells_of D.told D.faults L.told L.faults Q.posted) board.now lines.now
         callers.items result.0.items }
     ensures worked { WorkerRan (tells_of D.told D.faults L.told L.faults Q.posted) board.now phase worker result.1 }
@@ -141,7 +140,7 @@ pub(crate) fn run_all<
 {
     if stepper.aheads.each == 0 {
         let (ended, worker) = run_ticking(
-            rt, alloc, board, queue, phase, lines, gate, callers, room, worker,
+            rt, alloc, board, queues, phase, lines, gate, callers, room, worker,
         );
         return (ended, worker, stepper);
     }
@@ -150,7 +149,7 @@ pub(crate) fn run_all<
         move || -> (Vec<Finished<D, L, Q>>, Worker<D, L, Q>)
             requires { IsSync R.row
                 × MayAllRun (tells_of D.told D.faults L.told L.faults Q.posted) board.now lines.now callers.items
-                × AllByRecursion (λ caller. caller.names.place.queue ≡ queue.now) callers.items
+                × AllByRecursion (λ caller. queues_of caller.names.places ≡ queues.now) callers.items
                 × IsRoomFor (length callers.items) room.items (vec_capacity room)
                 × MayWork board.now worker }
             ensures { AllRan (tells_of D.told D.faults L.told L.faults Q.posted) board.entry.now lines.entry.now
@@ -158,13 +157,13 @@ pub(crate) fn run_all<
                 × WorkerRan (tells_of D.told D.faults L.told L.faults Q.posted) board.entry.now phase worker result.1 }
         {
             run_ticking(
-                rt, alloc, board, queue, phase, lines, gate, callers, room, worker,
+                rt, alloc, board, queues, phase, lines, gate, callers, room, worker,
             )
         },
         move || -> Stepper<D, L, Q>
-            requires { IsSync R.row × MayStepOn board.now queue.now stepper }
+            requires { IsSync R.row × MayStepOn board.now queues.now.ahead stepper }
             ensures { StepperRan (tells_of D.told D.faults L.told L.faults Q.posted) board.entry.now phase stepper result }
-        { run_stepper(rt, alloc, board, queue, phase, stepper) },
+        { run_stepper(rt, alloc, board, queues, phase, stepper) },
     );
     (ended, worker, stepper)
 }
@@ -180,7 +179,7 @@ fn run_ticking<
     rt: &R,
     alloc: Global,
     board: &Board<D, L, Q>,
-    queue: &Queue<Request>,
+    queues: &Queues,
     phase: u32,
     lines: &[ActionLine],
     gate: &P,
@@ -189,7 +188,7 @@ fn run_ticking<
     worker: Worker<D, L, Q>,
 ) -> (Vec<Finished<D, L, Q>>, Worker<D, L, Q>)
     requires may { MayAllRun (tells_of D.told D.faults L.told L.faults Q.posted) board.now lines.now callers.items }
-    requires own { AllByRecursion (λ caller. caller.names.place.queue ≡ queue.now) callers.items }
+    requires own { AllByRecursion (λ caller. queues_of caller.names.places ≡ queues.now) callers.items }
     requires room { IsRoomFor (length callers.items) room.items (vec_capacity room) }
     requires may_work { MayWork board.now worker }
     ensures ran { AllRan (tells_of D.told D.faults L.told L.faults Q.posted) board.now lines.now
@@ -198,7 +197,7 @@ fn run_ticking<
 {
     if worker.ticks.each == 0 {
         return (
-            run_callers(rt, alloc, board, queue, lines, gate, callers, room),
+            run_callers(rt, alloc, board, queues, lines, gate, callers, room),
             worker,
         );
     }
@@ -207,11 +206,11 @@ fn run_ticking<
         move || -> Vec<Finished<D, L, Q>>
             requires { IsSync R.row
                 × MayAllRun (tells_of D.told D.faults L.told L.faults Q.posted) board.now lines.now callers.items
-                × AllByRecursion (λ caller. caller.names.place.queue ≡ queue.now) callers.items
+                × AllByRecursion (λ caller. queues_of caller.names.places ≡ queues.now) callers.items
                 × IsRoomFor (length callers.items) room.items (vec_capacity room) }
             ensures { AllRan (tells_of D.told D.faults L.told L.faults Q.posted) board.entry.now lines.entry.now
                 callers.items result.items }
-        { run_callers(rt, alloc, board, queue, lines, gate, callers, room) },
+        { run_callers(rt, alloc, board, queues, lines, gate, callers, room) },
         move || -> Worker<D, L, Q>
             requires { IsSync R.row × MayWork board.now worker }
             ensures { WorkerRan (tells_of D.told D.faults L.told L.faults Q.posted) board.entry.now phase worker result }
@@ -244,16 +243,16 @@ fn run_stepper<R: Wait, D: PageDisk, L: LogFile, Q: PostRoutine>(
     rt: &R,
     alloc: Global,
     board: &Board<D, L, Q>,
-    queue: &Queue<Request>,
+    queues: &Queues,
     phase: u32,
     stepper: Stepper<D, L, Q>,
 ) -> Stepper<D, L, Q>
-    requires may { MayStepOn board.now queue.now stepper }
+    requires may { MayStepOn board.now queues.now.ahead stepper }
     ensures ran { StepperRan (tells_of D.told D.faults L.told L.faults Q.posted) board.now phase stepper result }
 {
     let Stepper { pass, mut aheads } = stepper;
     let mut seated = Seated::new(rt, board, pass);
-    make_steps(rt, alloc, &mut seated, queue, phase, &mut aheads);
+    make_steps(rt, alloc, &mut seated, &queues.ahead, phase, &mut aheads);
     Stepper {
         pass: seated.into_pass(),
         aheads,

@@ -12,14 +12,14 @@ use Rattle.cc_script.specs.Words.{number_of, number_between, name_of, bytes_of}
 use Rattle.cc_script.specs.HoldNames.{word_of, new_word}
 use Rattle.cc_script.specs.Actions.{next, flag, ended, file_of, span_of, optional_span_of, optional_number_of, quota_of, sizes_of, initialise_of, uninitialise_of, copy_read_of, copy_write_of, zero_of, nc_read_of, nc_write_of, set_sizes_of, state_of, flush_of, purge_of, discard_of, set_log_of, append_of, log_flush_of, dirty_pages_of, lsn_for_file_of}
 use Rattle.cc_script.specs.HoldActions.{stretch_of, map_of, pin_read_of, pin_mapped_of, prepare_pin_of, held_read_of, pinned_write_of, stamp_of, set_dirty_of, unpin_of, repin_of, unpin_repinned_of, mdl_read_of, mdl_write_of, mdl_bytes_of, mdl_store_of, mdl_done_of, mdl_abort_of}
-use Rattle.cc_script.specs.EventActions.{nc_read_in, nc_write_in, nc_store_page_of, ask_ahead_of, set_granularity_of, set_attributes_of, set_threshold_of, fill_of, drop_of, write_begin_of, write_end_of, sync_of, can_write_of, defer_of}
+use Rattle.cc_script.specs.EventActions.{nc_read_in, nc_write_in, nc_store_page_of, ask_ahead_of, set_granularity_of, set_attributes_of, set_threshold_of, fill_of, drop_of, write_begin_of, write_end_of, sync_of, can_write_of, defer_of, async_read_of}
 use Rattle.cc_script.specs.ShimActions.{read_of, write_of, update_of, levels_of, settle_of, lock_of, unlock_of}
 use Rattle.cc_script.specs.ActionTable.{action_of}
 use Rattle.cc_script.specs.Modes.{Both, RunAlone, stands, verb_modes}
 use Rattle.cc_script.specs.Within.{IsFileWithin}
 use Rattle.cc_script.proofs.Steps.{then-gives, next-gives, ended-gives, between-gives, file-gives, bytes-give}
 use Rattle.cc_script.proofs.Plain.{IsRead, IsPlain, none-bound}
-use Rattle.cc_script.proofs.EventsRead.{nc_read_page-gives, nc_store_page-gives, nc_write_page-gives, set_granularity-gives, set_attributes-gives, set_threshold-gives, fill-gives, drop-gives, write_begin-gives, write_end-gives, sync-gives, scan-gives, ask_ahead-gives, ahead_step-gives, tick-gives, can_write-gives, defer-gives, post-gives}
+use Rattle.cc_script.proofs.EventsRead.{nc_read_page-gives, nc_store_page-gives, nc_write_page-gives, set_granularity-gives, set_attributes-gives, set_threshold-gives, fill-gives, drop-gives, write_begin-gives, write_end-gives, sync-gives, scan-gives, ask_ahead-gives, ahead_step-gives, tick-gives, can_write-gives, defer-gives, post-gives, async_read-gives, complete-gives}
 use Rattle.cc_script.proofs.ShimRead.{read-gives, write-gives, update-gives, levels-gives, settle-gives, lock-gives, unlock-gives}
 
 -- a new word has the next number
@@ -448,6 +448,8 @@ action-gives m streams names verb.Sync ws found in_mode e = none-bound m streams
 action-gives m streams names verb.Scan ws found in_mode e = none-bound m streams names (ended ws action.Scan) found (scan-gives m streams ws in_mode) e
 action-gives m streams names verb.AskAhead ws found in_mode e = none-bound m streams names (ask_ahead_of streams ws) found (ask_ahead-gives m streams ws in_mode) e
 action-gives m streams names verb.AheadStep ws found in_mode e = none-bound m streams names (ended ws action.AheadStep) found (ahead_step-gives m streams ws in_mode) e
+action-gives m streams names verb.AsyncRead ws found in_mode e = none-bound m streams names (async_read_of streams ws) found (async_read-gives m streams ws in_mode) e
+action-gives m streams names verb.Complete ws found in_mode e = none-bound m streams names (ended ws action.Complete) found (complete-gives m streams ws in_mode) e
 action-gives m streams names verb.Tick ws found in_mode e = none-bound m streams names (ended ws action.Tick) found (tick-gives m streams ws in_mode) e
 action-gives m streams names verb.CanWrite ws found in_mode e = none-bound m streams names (can_write_of streams ws) found (can_write-gives m streams ws) e
 action-gives m streams names verb.Defer ws found in_mode e = none-bound m streams names (defer_of streams ws) found (defer-gives m streams ws) e

@@ -1,4 +1,5 @@
--- What a line of steps, of read-ahead, of the lazy writer or the throttle, or a setting, that is read names and moves.
+-- What a line of steps, of read-ahead, of queued reads, of the lazy writer or the throttle, or a setting, that is read names and
+-- moves.
 use Rattle.std.proofs.Common.{◌≡◌, ℕ, ◌<◌, ◌==◌, ◌^◌, true, Some, List, length, refl, ap, subst, arith}
 use Rattle.std.specs.Str.{bytes_eq}
 use Rattle.std.proofs.lemmas.Bool.Decides.{nat_tests}
@@ -10,7 +11,7 @@ use Rattle.cc_script.specs.declared.script.Action.{Action}
 use Rattle.cc_script.specs.declared.script.Action.TheVariants as action
 use Rattle.cc_script.specs.Words.{number_of, number_between, bytes_of}
 use Rattle.cc_script.specs.Actions.{next, ended, stream_named, file_of}
-use Rattle.cc_script.specs.EventActions.{page_number, page_of, fill_of, drop_of, write_begin_of, write_end_of, sync_of, nc_read_page_of, nc_store_page_of, nc_write_page_of, ask_ahead_of, can_write_of, defer_of, set_granularity_of, set_attributes_of, set_threshold_of}
+use Rattle.cc_script.specs.EventActions.{page_number, page_of, fill_of, drop_of, write_begin_of, write_end_of, sync_of, nc_read_page_of, nc_store_page_of, nc_write_page_of, ask_ahead_of, async_read_of, can_write_of, defer_of, set_granularity_of, set_attributes_of, set_threshold_of}
 use Rattle.cc_script.specs.Modes.{RunAlone, StepsAlone, stands}
 use Rattle.cc_script.specs.Within.{IsPageWithin, IsFilePageWithin}
 use Rattle.cc_script.proofs.Steps.{then-gives, if-gives, next-gives, ended-gives, between-gives, position-below, file-gives}
@@ -104,6 +105,24 @@ ask_ahead-gives m streams ws in_mode a e =
 pub ahead_step-gives : (m : Mode) (streams : List StreamLine) (ws : List (List ℕ)) → stands RunAlone m ≡ true → (a : Action) → ended ws action.AheadStep ≡ Some a → IsPlain m streams a
 ahead_step-gives m streams ws in_mode a e =
     subst (IsPlain m streams) (ended-gives ws action.AheadStep a e).1
+    (record { file = tt; moved = omega arith; numbered = λ n. refl; in_mode = in_mode })
+
+pub async_read-gives : (m : Mode) (streams : List StreamLine) (ws : List (List ℕ)) → stands RunAlone m ≡ true → (a : Action) → async_read_of streams ws ≡ Some a → IsPlain m streams a
+unfolding async_read_of
+async_read-gives m streams ws in_mode a e =
+    let file = then-gives (next (file_of streams) ws) _ a e in
+    let at = then-gives (next number_of file.0.1) _ a file.2 in
+    let len = then-gives (next (number_between 0 2097152) at.0.1) _ a at.2 in
+    let end = ended-gives _ _ a len.2 in
+    let f = next-gives (file_of streams) ws file.0.0 file.0.1 file.1 in
+    let l = next-gives (number_between 0 2097152) at.0.1 len.0.0 len.0.1 len.1 in
+    let b = between-gives 0 2097152 l.word len.0.0 l.reads in
+    subst (IsPlain m streams) end.1
+    (record { file = file-gives streams f.word file.0.0 f.reads; moved = b.most; numbered = λ n. refl; in_mode = in_mode })
+
+pub complete-gives : (m : Mode) (streams : List StreamLine) (ws : List (List ℕ)) → stands RunAlone m ≡ true → (a : Action) → ended ws action.Complete ≡ Some a → IsPlain m streams a
+complete-gives m streams ws in_mode a e =
+    subst (IsPlain m streams) (ended-gives ws action.Complete a e).1
     (record { file = tt; moved = omega arith; numbered = λ n. refl; in_mode = in_mode })
 
 pub tick-gives : (m : Mode) (streams : List StreamLine) (ws : List (List ℕ)) → stands RunAlone m ≡ true → (a : Action) → ended ws action.Tick ≡ Some a → IsPlain m streams a

@@ -7,7 +7,7 @@ use Rattle.cc_script.specs.declared.script.Action.TheVariants as action
 use Rattle.cc_script.specs.declared.verb.Verb.{Verb}
 use Rattle.cc_script.specs.declared.verb.Verb.TheVariants as verb
 use Rattle.cc_script.specs.Actions.{ended, initialise_of, uninitialise_of, copy_read_of, copy_write_of, zero_of, set_sizes_of, state_of, flush_of, purge_of, discard_of, set_log_of, append_of, log_flush_of, dirty_pages_of, lsn_for_file_of}
-use Rattle.cc_script.specs.EventActions.{nc_read_in, nc_write_in, nc_store_page_of, ask_ahead_of, set_granularity_of, set_attributes_of, set_threshold_of, fill_of, drop_of, write_begin_of, write_end_of, sync_of, can_write_of, defer_of}
+use Rattle.cc_script.specs.EventActions.{nc_read_in, nc_write_in, nc_store_page_of, ask_ahead_of, set_granularity_of, set_attributes_of, set_threshold_of, fill_of, drop_of, write_begin_of, write_end_of, sync_of, can_write_of, defer_of, async_read_of}
 use Rattle.cc_script.specs.ShimActions.{read_of, write_of, update_of, levels_of, settle_of, lock_of, unlock_of}
 use Rattle.cc_script.specs.HoldActions.{map_of, pin_read_of, pin_mapped_of, prepare_pin_of, held_read_of, pinned_write_of, set_dirty_of, unpin_of, repin_of, unpin_repinned_of, mdl_read_of, mdl_write_of, mdl_bytes_of, mdl_store_of, mdl_done_of, mdl_abort_of}
 
@@ -70,6 +70,8 @@ action_of mode streams names verb.Sync ws = binds_none names (sync_of streams ws
 action_of mode streams names verb.Scan ws = binds_none names (ended ws action.Scan)
 action_of mode streams names verb.AskAhead ws = binds_none names (ask_ahead_of streams ws)
 action_of mode streams names verb.AheadStep ws = binds_none names (ended ws action.AheadStep)
+action_of mode streams names verb.AsyncRead ws = binds_none names (async_read_of streams ws)
+action_of mode streams names verb.Complete ws = binds_none names (ended ws action.Complete)
 action_of mode streams names verb.Tick ws = binds_none names (ended ws action.Tick)
 action_of mode streams names verb.CanWrite ws = binds_none names (can_write_of streams ws)
 action_of mode streams names verb.Defer ws = binds_none names (defer_of streams ws)
@@ -93,6 +95,7 @@ bytes_moved (action.NcRead _ _ len) = len
 bytes_moved (action.NcWrite _ _ bytes) = length bytes
 bytes_moved (action.NcStorePage _ _ bytes) = length bytes
 bytes_moved (action.Read _ _ _ len) = len
+bytes_moved (action.AsyncRead _ _ len) = len
 bytes_moved (action.Write _ _ bytes) = length bytes
 bytes_moved (action.Update _ _ bytes) = length bytes
 bytes_moved (action.Append _ bytes) = length bytes

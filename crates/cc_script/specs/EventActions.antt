@@ -91,6 +91,14 @@ ask_ahead_of streams ws = do
   len ← next number_of at.1
   ended len.1 (action.AskAhead file.0 at.0 len.0)
 
+-- aread FILE AT LEN
+unfoldable pub async_read_of : List StreamLine → List (List ℕ) → Option Action
+async_read_of streams ws = do
+  file ← next (file_of streams) ws
+  at ← next number_of file.1
+  len ← next (number_between 0 2097152) at.1
+  ended len.1 (action.AsyncRead file.0 at.0 len.0)
+
 -- canwrite FILE N
 unfoldable pub can_write_of : List StreamLine → List (List ℕ) → Option Action
 can_write_of streams ws = do

@@ -8,9 +8,9 @@ ghost use Rattle.cc_script.specs.ActionTable.{action_of, bytes_counted, dirty_li
 ghost use Rattle.cc_script.specs.declared.script.Action.TheVariants as action;
 
 use crate::event_action::{
-    ahead_step, ask_ahead, can_write, defer, drop, fill, nc_read_page, nc_store_page,
-    nc_write_page, post, scan, set_attributes, set_granularity, set_threshold, sync, tick,
-    write_begin, write_end,
+    ahead_step, ask_ahead, async_read, can_write, complete, defer, drop, fill, nc_read_page,
+    nc_store_page, nc_write_page, post, scan, set_attributes, set_granularity, set_threshold, sync,
+    tick, write_begin, write_end,
 };
 use crate::fault::LineFault;
 use crate::hold_action::{
@@ -349,6 +349,8 @@ pub(crate) fn action(
         Verb::Scan => scan(words).ok_or(LineFault::Syntax),
         Verb::AskAhead => ask_ahead(streams, words).ok_or(LineFault::Syntax),
         Verb::AheadStep => ahead_step(words).ok_or(LineFault::Syntax),
+        Verb::AsyncRead => async_read(streams, words).ok_or(LineFault::Syntax),
+        Verb::Complete => complete(words).ok_or(LineFault::Syntax),
         Verb::Tick => tick(words).ok_or(LineFault::Syntax),
         Verb::CanWrite => can_write(streams, words).ok_or(LineFault::Syntax),
         Verb::Defer => defer(streams, words).ok_or(LineFault::Syntax),
@@ -369,6 +371,7 @@ pub(crate) fn bytes_counted(action: &Action) -> u64
         | Action::MdlBytes { len, .. }
         | Action::NcRead { len, .. }
         | Action::Read { len, .. }
+        | Action::AsyncRead { len, .. }
         | Action::Map { len, .. }
         | Action::PinRead { len, .. }
         | Action::PreparePin { len, .. }

@@ -1,10 +1,10 @@
-//! The lines of steps alone, those of read-ahead, of the lazy writer and of the throttle, and the settings of a stream,
-//! each read from the words behind its verb.
+//! The lines of steps alone, those of read-ahead, of queued reads, of the lazy writer and of the throttle, and the settings
+//! of a stream, each read from the words behind its verb.
 
 ghost use Rattle.std.specs.Prelude.{◌≡◌};
 ghost use Rattle.cc_script.specs.Outcome.{Gives};
 ghost use Rattle.cc_script.specs.Actions.{ended};
-ghost use Rattle.cc_script.specs.EventActions.{fill_of, drop_of, write_begin_of, write_end_of, sync_of, nc_read_page_of, nc_store_page_of, nc_write_page_of, ask_ahead_of, can_write_of, defer_of, set_granularity_of, set_attributes_of, set_threshold_of};
+ghost use Rattle.cc_script.specs.EventActions.{fill_of, drop_of, write_begin_of, write_end_of, sync_of, nc_read_page_of, nc_store_page_of, nc_write_page_of, ask_ahead_of, async_read_of, can_write_of, defer_of, set_granularity_of, set_attributes_of, set_threshold_of};
 ghost use Rattle.cc_script.specs.declared.script.Action.TheVariants as action;
 
 use crate::fault::LineFault;
@@ -107,6 +107,30 @@ pub(crate) fn ahead_step(words: &mut Words) -> Option<Action>
 {
     if words.is_empty() {
         Some(Action::AheadStep)
+    } else {
+        None
+    }
+}
+
+#[tactic(auto, unfolding(crate::specs::EventActions::async_read_of))]
+pub(crate) fn async_read(streams: &StreamLines, words: &mut Words) -> Option<Action>
+    ensures { result ≡ async_read_of streams.now words.old }
+{
+    let file = words.file(streams)?;
+    let at = words.number()?;
+    let len = words.read_length()?;
+    if words.is_empty() {
+        Some(Action::AsyncRead { file, at, len })
+    } else {
+        None
+    }
+}
+
+pub(crate) fn complete(words: &mut Words) -> Option<Action>
+    ensures { result ≡ ended words.old action.Complete }
+{
+    if words.is_empty() {
+        Some(Action::Complete)
     } else {
         None
     }

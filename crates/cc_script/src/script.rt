@@ -398,6 +398,14 @@ pub enum Action {
     },
     /// The first read-ahead that was asked for is made.
     AheadStep,
+    /// A copied read is made at once, or queued where a page of it is not resident.
+    AsyncRead {
+        file: FileId,
+        at: u64,
+        len: u64,
+    },
+    /// The first copied read that was queued is made.
+    Complete,
     /// A tick of the lazy writer: it chooses pages and writes them.
     Tick,
     /// Whether a write of so many bytes may go.
@@ -449,6 +457,8 @@ impl Action {
                 | Action::Scan
                 | Action::AskAhead { .. }
                 | Action::AheadStep
+                | Action::AsyncRead { .. }
+                | Action::Complete
                 | Action::Tick
                 | Action::Read { .. }
                 | Action::Write { .. }

@@ -68,6 +68,8 @@ pub(crate) enum Verb {
     Scan,
     AskAhead,
     AheadStep,
+    AsyncRead,
+    Complete,
     Tick,
     CanWrite,
     Defer,
@@ -75,7 +77,7 @@ pub(crate) enum Verb {
     Fail,
 }
 
-pub(crate) const VERBS: [Verb; 63] = [
+pub(crate) const VERBS: [Verb; 65] = [
     Verb::Stream,
     Verb::Journal,
     Verb::Threshold,
@@ -134,6 +136,8 @@ pub(crate) const VERBS: [Verb; 63] = [
     Verb::Scan,
     Verb::AskAhead,
     Verb::AheadStep,
+    Verb::AsyncRead,
+    Verb::Complete,
     Verb::Tick,
     Verb::CanWrite,
     Verb::Defer,
@@ -204,6 +208,8 @@ impl Verb {
             Verb::Scan => b"scan",
             Verb::AskAhead => b"ask",
             Verb::AheadStep => b"ahead",
+            Verb::AsyncRead => b"aread",
+            Verb::Complete => b"complete",
             Verb::Tick => b"tick",
             Verb::CanWrite => b"canwrite",
             Verb::Defer => b"defer",
@@ -254,6 +260,8 @@ impl Verb {
                 | Verb::Settle
                 | Verb::AskAhead
                 | Verb::AheadStep
+                | Verb::AsyncRead
+                | Verb::Complete
                 | Verb::Tick
         )
     }

@@ -34,6 +34,8 @@ mod log;
 #[cfg(test)]
 mod queue;
 #[cfg(test)]
+mod queued_reads;
+#[cfg(test)]
 mod readers;
 #[cfg(test)]
 mod script;

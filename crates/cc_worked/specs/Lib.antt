@@ -37,6 +37,7 @@ pub mod PiecesShim
 pub mod PiecesRuns
 pub mod PiecesFlushes
 pub mod PiecesAnswered
+pub mod PiecesAsync
 pub mod PiecesQueue
 pub mod PiecesEvents
 pub mod PiecesLocks

@@ -26,6 +26,7 @@ pub mod maps;
 pub mod noncached;
 pub mod pages;
 pub mod pieces_answered;
+pub mod pieces_async;
 pub mod pieces_events;
 pub mod pieces_flushes;
 pub mod pieces_lines;

@@ -30,7 +30,7 @@ join-ended-requires-after_bounds g t c κs within =
     let fewer : length c.pop.new.self.items < length c.args.callers.items = omega (arith, c.in-Some.ensures.len) in
     let room : IsRoomFor (length c.pop.new.self.items) c.args.room.items (vec_capacity c.args.room) =
     record { empty = c.requires.room.empty; room = omega (arith, fewer, c.requires.room.room) } in
-    let own = own-parts c.args.queue.now c.args.callers.items c.pop.new.self.items c.in-Some.caller c.in-Some.ensures.items c.requires.own in
+    let own = own-parts c.args.queues.now c.args.callers.items c.pop.new.self.items c.in-Some.caller c.in-Some.ensures.items c.requires.own in
     search (rules, others, last, room, fewer, own.0, own.1)
 
 pub push_reserved-requires-2 : goal.push_reserved-requires-2

@@ -6,6 +6,7 @@ use Rattle.cc_script.specs.declared.script.ActionLine.{ActionLine}
 use Rattle.cc_lines.specs.Line.{IsServable}
 use Rattle.cc_run.proofs.CallersRan.{RanSoFar, ran-none, can-serve, ran-own, ran-other, caller-ran, count-before}
 use Rattle.cc_run.proofs.Lists.{all-at, parted}
+use Rattle.cc_run.proofs.PlacesWent.{own-went}
 use Rattle.cc_run.proofs.callers.run_caller.Goals as goal
 use Rattle.cc_run.proofs.callers.run_caller.Goals.{then-line-me, else-line-me}
 
@@ -45,9 +46,9 @@ serve_at-answer-requires-clause-can g c κs within =
     can-serve (tells_of g.D.Told.told g.D.Told.faults g.L.LogFile.told g.L.LogFile.faults g.Q.PostRoutine.posted) c.args.board.now lines c.args.caller c.requires.may (take i lines) c.loop-line.answers.items c.loop-line.seated c.loop-line.names
     c.loop-line.invariant.ran line (drop (suc i) lines) (parts-at lines i line c.loop-line-test.true c.line-item.is) (c.if-line-me.true ∙ c.loop-line.invariant.me_is) servable
 
--- the place is of the queue still
+-- the places are at the queues still
 pub serve_at-answer-requires-clause-own : goal.serve_at-answer-requires-clause-own
-serve_at-answer-requires-clause-own g c κs within = c.loop-line.invariant.ran.placed.queue_is ∙ c.requires.own
+serve_at-answer-requires-clause-own g c κs within = own-went c.args.queues.now _ _ _ _ _ _ c.loop-line.invariant.ran.placed c.requires.own
 
 pub loop-line-preserved : goal.loop-line-preserved
 loop-line-preserved g c =

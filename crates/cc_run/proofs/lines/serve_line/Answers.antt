@@ -3,7 +3,7 @@ use Rattle.std.proofs.Common.{refl, ap, subst}
 use Rattle.cc_model.specs.Good.{IsGood}
 use Rattle.cc_turns.specs.Desk.{standing_of}
 use Rattle.cc_run.proofs.Acting.{alone-after, can-serve-line, line-end, ready-after, run-after}
-use Rattle.cc_run.proofs.PlacesWent.{placed-as}
+use Rattle.cc_run.proofs.PlacesWent.{both-as}
 use Rattle.cc_run.proofs.lines.serve_line.Goals as goal
 
 pub returns-clause-left : goal.returns-clause-left
@@ -24,7 +24,7 @@ pub returns-clause-placed : goal.returns-clause-placed
 returns-clause-placed g c =
     let w = standing_of g.D.Told.told g.D.Told.faults g.L.LogFile.told g.L.LogFile.faults c.act_as.new.self in
     let acts = ap (λ d. standing_of g.D.Told.told g.D.Told.faults g.L.LogFile.told g.L.LogFile.faults d) c.act_as.ensures in
-    placed-as w.number c.args.line.now.caller _ _ _ w.seen c.args.desk.now.last.entries _ (ap (λ w. w.number) acts) (ap (λ w. w.seen) acts) c.serve_at-answer.ensures.placed
+    both-as w.number c.args.line.now.caller _ _ _ w.seen c.args.desk.now.last.entries _ (ap (λ w. w.number) acts) (ap (λ w. w.seen) acts) c.serve_at-answer.ensures.placed
 
 pub returns-clause-alone : goal.returns-clause-alone
 returns-clause-alone g c =

@@ -9,7 +9,7 @@ use Rattle.std.specs.List.{AllByRecursion}
 use Rattle.cc_model.specs.Good.{IsGood}
 use Rattle.cc_run.proofs.LinesRan.{lines-more, may-line, put-keeps, put-long, row-at}
 use Rattle.cc_run.proofs.Lists.{all-at, parted}
-use Rattle.cc_run.proofs.PlacesWent.{PlacesSo, own-at, own-put, places-more, places-none, places-ran}
+use Rattle.cc_run.proofs.PlacesWent.{PlacesSo, both-queues, own-at, own-put, places-more, places-none, places-ran}
 use Rattle.cc_run.proofs.RowSteps.{longer}
 use Rattle.cc_run.proofs.lines.serve_lines.Goals as goal
 
@@ -48,7 +48,7 @@ serve_line-answer-requires-clause-own g c κs within =
     let before = c.loop-line.invariant in
     let line = c.line-item.result in
     let caller = caller-at c.args.lines.now c.loop-line.line-index line c.loop-line-test.true c.line-item.is c.requires.callers in
-    own-at c.args.queue.now c.loop-line.names (line.caller - 1) _ before.own
+    own-at c.args.queues.now c.loop-line.names (line.caller - 1) _ before.own
     (row-at c.loop-line.names (line.caller - 1) c.index-names-line.result (omega (arith, caller.first, caller.last, before.counted)))
 
 pub serve_line-answer-requires-clause-words : goal.serve_line-answer-requires-clause-words
@@ -83,7 +83,8 @@ loop-line-preserved g c =
       long = omega (arith, longer _ _ _ c.push_reserved.ensures.items, before.long);
       room = c.push_reserved.ensures.capacity ∙ before.room;
       counted = put-long c.loop-line.names (line.caller - 1) c.serve_line-answer.new.names ∙ before.counted;
-      own = own-put c.args.queue.now c.loop-line.names (line.caller - 1) _ c.serve_line-answer.new.names before.own here c.serve_line-answer.ensures.placed.queue_is;
+      own = own-put c.args.queues.now c.loop-line.names (line.caller - 1) _ c.serve_line-answer.new.names before.own here
+          (both-queues _ _ _ _ _ _ c.serve_line-answer.ensures.placed);
       answers = before.answers ++ record { line = line.line; answer = c.serve_line-answer.result } ∷ [];
       grew = c.push_reserved.ensures.items
           ∙ (ap (λ l. l ++ record { line = line.line; answer = c.serve_line-answer.result } ∷ []) before.grew

@@ -8,7 +8,7 @@ use Rattle.cc_turns.specs.Desk.{standing_of}
 use Rattle.cc_run.specs.Desks.{IsReady, IsSameRun}
 use Rattle.cc_entry.specs.declared.answer.LineReply.{LineReply}
 use Rattle.cc_run.specs.Lines.{AllStand, KeepRoom, LinesEnd}
-use Rattle.cc_run.specs.Places.{AreOfQueue}
+use Rattle.cc_run.specs.Places.{AreOfQueues}
 use Rattle.cc_run.proofs.PlacesWent.{PlacesSo}
 use Rattle.cc_run.proofs.lines.serve_lines.Given as goal
 
@@ -21,7 +21,7 @@ invariant-loop-line g l =
       long : length l.replies.items ≡ length l.initial.replies.items + l.line-index;
       room : vec_capacity l.replies ≡ vec_capacity l.initial.replies;
       counted : length l.names ≡ 16;
-      own : AreOfQueue l.queue l.names;
+      own : AreOfQueues l.queues l.names;
       answers : List LineReply;
       grew : l.replies.items ≡ l.initial.replies.items ++ answers;
       answered : length (take l.line-index l.lines) ≡ length answers;

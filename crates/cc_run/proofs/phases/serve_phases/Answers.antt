@@ -102,7 +102,7 @@ loop-phase-preserved g c =
           c.requires.words.counted c.serve_phase.ensures.placed;
       each = made.each_is ∙ before.each;
       tick_room = made.room_is ∙ before.tick_room;
-      own = own-after c.args.queue.now now one.served.answers c.loop-phase.names.items c.serve_phase.new.names.items c.loop-phase.desk.last.entries c.serve_phase.result.0.last.entries
+      own = own-after c.args.queues.now now one.served.answers c.loop-phase.names.items c.serve_phase.new.names.items c.loop-phase.desk.last.entries c.serve_phase.result.0.last.entries
           (one.stand.counted ∙ sym before.so_far.stand.counted) before.own
           (places-so now c.loop-phase.replies.items c.serve_phase.new.replies.items one.served.answers c.loop-phase.names.items c.serve_phase.new.names.items
           c.loop-phase.desk.last.entries c.serve_phase.result.0.last.entries one.served.grew c.serve_phase.ensures.placed);

@@ -7,9 +7,12 @@ use Rattle.cc_run.proofs.run.all_places.Goals as goal
 
 pub loop-own-init : goal.loop-own-init
 loop-own-init c = record {
-  taken = rw c.requires.room.empty (ap (map (λ (own : NamesState). own.place)) (ap reverse c.reverse.ensures.items ∙ reverse_twice c.args.names.items));
+  taken = rw c.requires.room.empty (ap (map (λ (own : NamesState). own.places.ahead)) (ap reverse c.reverse.ensures.items ∙ reverse_twice c.args.names.items));
+  copied = rw c.requires.async_room.empty (ap (map (λ (own : NamesState). own.places.copies)) (ap reverse c.reverse.ensures.items ∙ reverse_twice c.args.names.items));
   counted = omega (arith, ap length c.requires.room.empty, ap length c.reverse.ensures.items, length-reverse c.args.names.items, c.requires.callers);
   room = c.requires.room.room;
+  async_counted = omega (arith, ap length c.requires.async_room.empty, ap length c.reverse.ensures.items, length-reverse c.args.names.items, c.requires.callers);
+  async_room = c.requires.async_room.room;
 }
 
 pub loop-own-preserved : goal.loop-own-preserved
@@ -18,9 +21,15 @@ loop-own-preserved c =
     let own = c.in-Some.own in
     record {
       taken =
-          rw (c.push_reserved.ensures.items, c.into_place.ensures)
-          (append_assoc c.loop-own.places.items (own.place ∷ []) (map (λ (own : NamesState). own.place) (reverse c.pop.new.self.items))
-          ∙ (ap (λ l. c.loop-own.places.items ++ map (λ (own : NamesState). own.place) l) (sym (last_first c.loop-own.names.items c.pop.new.self.items own c.in-Some.ensures.items)) ∙ before.taken));
+          rw (c.push_reserved.ensures.items, c.into_places.ensures)
+          (append_assoc c.loop-own.places.items (own.places.ahead ∷ []) (map (λ (own : NamesState). own.places.ahead) (reverse c.pop.new.self.items))
+          ∙ (ap (λ l. c.loop-own.places.items ++ map (λ (own : NamesState). own.places.ahead) l) (sym (last_first c.loop-own.names.items c.pop.new.self.items own c.in-Some.ensures.items)) ∙ before.taken));
+      copied =
+          rw (c.push_reserved-2.ensures.items, c.into_places.ensures)
+          (append_assoc c.loop-own.async_places.items (own.places.copies ∷ []) (map (λ (own : NamesState). own.places.copies) (reverse c.pop.new.self.items))
+          ∙ (ap (λ l. c.loop-own.async_places.items ++ map (λ (own : NamesState). own.places.copies) l) (sym (last_first c.loop-own.names.items c.pop.new.self.items own c.in-Some.ensures.items)) ∙ before.copied));
+      async_counted = omega (arith, longer _ _ _ c.push_reserved-2.ensures.items, longer _ _ _ c.in-Some.ensures.items, before.async_counted);
+      async_room = rw c.push_reserved-2.ensures.capacity before.async_room;
       counted = omega (arith, longer _ _ _ c.push_reserved.ensures.items, longer _ _ _ c.in-Some.ensures.items, before.counted);
       room = rw c.push_reserved.ensures.capacity before.room;
     }

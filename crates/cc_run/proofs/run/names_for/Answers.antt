@@ -5,7 +5,7 @@ use Rattle.std.specs.List.{AllByRecursion}
 use Rattle.std.specs.declared.option.Option.TheVariants.{Some}
 use Rattle.cc_script.specs.HoldWords.{words_bound}
 use Rattle.cc_lines.specs.Holds.{NamesState}
-use Rattle.cc_queue.specs.Places.{new_place}
+use Rattle.cc_lines.specs.Queues.{new_places, queues_of}
 use Rattle.cc_run.proofs.Lists.{all-join}
 use Rattle.cc_run.proofs.Rooms.{behind}
 use Rattle.cc_run.proofs.RowSteps.{longer}
@@ -27,7 +27,7 @@ loop-caller-preserved c =
       counted = omega (arith, longer _ _ _ c.push_reserved.ensures.items, before.counted);
       within = omega arith;
       capacity = omega (arith, c.push_reserved.ensures.capacity, before.capacity);
-      fresh = rw c.push_reserved.ensures.items (all-join (λ (own : NamesState). own.place ≡ new_place c.args.queue.now) c.loop-caller.names.items _ before.fresh (c.in_ok-with_room.ensures.place ∙ c.split-own.ensures.made, tt));
+      fresh = rw c.push_reserved.ensures.items (all-join (λ (own : NamesState). own.places ≡ new_places c.args.queues.now) c.loop-caller.names.items _ before.fresh (c.in_ok-with_room.ensures.places ∙ c.split-own.ensures.made, tt));
       same = c.split-own.ensures.same ∙ before.same;
       none = rw c.push_reserved.ensures.items (all-join (λ (names : NamesState). names.named ≡ []) c.loop-caller.names.items _ before.none (c.in_ok-with_room.ensures.room.0, tt));
       room = λ n names at.
@@ -47,7 +47,7 @@ loop-caller-preserved c =
     }
 
 pub split-own-requires : goal.split-own-requires
-split-own-requires c = record { own = ap (λ p. p.queue) c.loop-caller.invariant.same ∙ c.requires.own }
+split-own-requires c = record { own = ap queues_of c.loop-caller.invariant.same ∙ c.requires.own }
 
 pub returns-clause-words : goal.returns-clause-words
 returns-clause-words c =

@@ -7,7 +7,7 @@ use Rattle.cc_journal.specs.Rows.{Follows}
 use Rattle.cc_pieces.specs.Table.{table_of}
 use Rattle.cc_lines.specs.Holds.{NamesState}
 use Rattle.cc_lines.specs.Line.{IsServable}
-use Rattle.cc_queue.specs.Places.{new_place}
+use Rattle.cc_lines.specs.Queues.{new_places, queues_of}
 use Rattle.cc_run.specs.Lines.{IsCaller}
 use Rattle.cc_run.specs.Rows.{printed_row}
 use Rattle.cc_run.proofs.DirtyRows.{rows-table}
@@ -15,6 +15,7 @@ use Rattle.cc_run.proofs.Lists.{all-map, if_some-ok}
 use Rattle.cc_run.proofs.PhaseSteps.{ticked-long}
 use Rattle.cc_run.proofs.PhasesRan.{run-explained, run-long}
 use Rattle.cc_run.specs.Places.{taken_at}
+use Rattle.cc_run.proofs.Copied.{run-copied}
 use Rattle.cc_run.proofs.Queued.{run-queued, taken-is}
 use Rattle.cc_run.proofs.RunSteps.{servable-all, opened-long, disks-stand, logs-stand}
 use Rattle.cc_run.proofs.run.run_on.Goals as goal
@@ -78,8 +79,8 @@ returns-clause-table g c =
 
 pub returns-clause-explained : goal.returns-clause-explained
 returns-clause-explained g c =
-    let took : taken_at c.all_places-places.result.items ≡ c.serve_phases-desk.result.2.place.taken =
-    ap taken_at c.all_places-places.ensures ∙ taken-is c.serve_phases-desk.result.1.items c.args.lazy c.serve_phases-desk.result.2.place c.serve_phases-desk.ensures.counted in
+    let took : taken_at c.all_places-places.result.0.items ≡ c.serve_phases-desk.result.2.place.taken =
+    ap taken_at c.all_places-places.ensures.places ∙ taken-is c.serve_phases-desk.result.1.items c.args.lazy c.serve_phases-desk.result.2.place c.serve_phases-desk.ensures.counted in
     rw (c.end-disks.ensures.journal, took) (run-explained _ _ c.args.script.now c.args.replies.items c.open_streams.new.replies.items c.serve_phases-desk.new.replies.items c.settle-posts.new.replies.items c.serve_phases-desk.new.ticks.answers.items c.serve_phases-desk.result.2.answers.items c.serve_phases-desk.result.2.place.taken c.args.desk.last.entries c.open_streams.new.desk.last.entries c.serve_phases-desk.result.0.last.entries
     c.requires.within c.requires.none c.requires.fresh.journal_is.empty.0 c.open_streams.ensures.run.setup (rw c.as_slice.ensures.same at c.open_streams.ensures.opened) c.open_streams.ensures.alone
     (rw (c.as_slice-2.ensures, c.requires.ticks, c.requires.steps) at c.serve_phases-desk.ensures.served) c.settle-posts.ensures.told)
@@ -90,11 +91,11 @@ returns-clause-ticked g c = rw c.requires.ticks at (ticked-long _ _ _ _ _ _ _ _ 
 pub serve_phases-desk-requires-clause-tick_room : goal.serve_phases-desk-requires-clause-tick_room
 serve_phases-desk-requires-clause-tick_room g c κs within = rw c.requires.ticks c.requires.tick_room
 
--- the places are new ones of one queue
+-- the places are new ones at the queues
 pub serve_phases-desk-requires-clause-own : goal.serve_phases-desk-requires-clause-own
 serve_phases-desk-requires-clause-own g c κs within =
-    all-map (λ (own : NamesState). own.place ≡ new_place c.args.queue.now) (λ (own : NamesState). own.place.queue ≡ c.args.queue.now) c.args.names.items
-    (λ own is. ap (λ p. p.queue) is) c.requires.new_places
+    all-map (λ (own : NamesState). own.places ≡ new_places c.args.queues.now) (λ (own : NamesState). queues_of own.places ≡ c.args.queues.now) c.args.names.items
+    (λ own is. ap queues_of is) c.requires.new_places
 
 pub serve_phases-desk-requires-clause-own_place : goal.serve_phases-desk-requires-clause-own_place
 serve_phases-desk-requires-clause-own_place g c κs within = ap (λ p. p.queue) c.requires.new_own
@@ -105,11 +106,20 @@ serve_phases-desk-requires-clause-none_taken g c κs within = ap (λ p. p.taken)
 pub serve_phases-desk-requires-clause-step_room : goal.serve_phases-desk-requires-clause-step_room
 serve_phases-desk-requires-clause-step_room g c κs within = rw c.requires.steps c.requires.step_room
 
--- what each pass has at the queue is what its lines did there
+-- what each pass has at the queue of read-ahead is what its lines did there
 pub returns-clause-queued : goal.returns-clause-queued
 returns-clause-queued g c =
     run-queued _ _ c.args.script.now c.args.replies.items c.open_streams.new.replies.items c.serve_phases-desk.new.replies.items c.settle-posts.new.replies.items c.serve_phases-desk.new.ticks.answers.items c.serve_phases-desk.result.2.answers.items c.serve_phases-desk.result.2.place.taken
-    c.args.desk.last.entries c.open_streams.new.desk.last.entries c.serve_phases-desk.result.0.last.entries _ c.args.names.items c.serve_phases-desk.result.1.items c.args.lazy c.args.aheads.place c.serve_phases-desk.result.2.place _ c.args.queue.now
-    c.requires.within c.requires.none c.requires.fresh.journal_is.empty.0 c.end-disks.ensures.journal c.all_places-places.ensures (rw c.as_slice.ensures.same at c.open_streams.ensures.opened) c.open_streams.ensures.alone
+    c.args.desk.last.entries c.open_streams.new.desk.last.entries c.serve_phases-desk.result.0.last.entries _ c.args.names.items c.serve_phases-desk.result.1.items c.args.lazy c.args.aheads.place c.serve_phases-desk.result.2.place _ c.args.queues.now
+    c.requires.within c.requires.none c.requires.fresh.journal_is.empty.0 c.end-disks.ensures.journal c.all_places-places.ensures.places (rw c.as_slice.ensures.same at c.open_streams.ensures.opened) c.open_streams.ensures.alone
     (rw (c.as_slice-2.ensures, c.requires.ticks, c.requires.steps) at c.serve_phases-desk.ensures.served) c.settle-posts.ensures.told (rw c.as_slice-2.ensures at c.serve_phases-desk.ensures.placed) c.serve_phases-desk.ensures.stepped
     c.requires.words.counted c.serve_phases-desk.ensures.counted c.requires.new_places c.requires.new_lazy c.requires.new_own
+
+-- and at the queue of copied reads
+pub returns-clause-async_queued : goal.returns-clause-async_queued
+returns-clause-async_queued g c =
+    run-copied _ _ c.args.script.now c.args.replies.items c.open_streams.new.replies.items c.serve_phases-desk.new.replies.items c.settle-posts.new.replies.items c.serve_phases-desk.new.ticks.answers.items c.serve_phases-desk.result.2.answers.items c.serve_phases-desk.result.2.place.taken
+    c.args.desk.last.entries c.open_streams.new.desk.last.entries c.serve_phases-desk.result.0.last.entries c.args.names.items c.serve_phases-desk.result.1.items _ c.args.queues.now
+    c.requires.within c.requires.none c.all_places-places.ensures.async_places (rw c.as_slice.ensures.same at c.open_streams.ensures.opened)
+    (rw (c.as_slice-2.ensures, c.requires.ticks, c.requires.steps) at c.serve_phases-desk.ensures.served) c.settle-posts.ensures.told (rw c.as_slice-2.ensures at c.serve_phases-desk.ensures.placed)
+    c.requires.words.counted c.serve_phases-desk.ensures.counted c.requires.new_places

@@ -77,6 +77,7 @@ returns-in-Ok-new-2-clause-ran g c =
       within = subst (λ n. IsWithinCapacity n past) (ap (λ b. b.capacity) c.in-Ok-new-2.ensures.fresh.begun_is) c.run_on-replies.ensures.within;
       explained = subst (λ u. IsExplained u (given_of c.args.script.now) (run_answered c.run_on-replies.result.replies.items c.run_on-replies.result.ticks.items c.run_on-replies.result.aheads.items) (taken_at c.run_on-replies.result.places.items) past) setup c.run_on-replies.ensures.explained;
       queued = c.run_on-replies.ensures.queued;
+      async_queued = c.run_on-replies.ensures.async_queued;
       ticked = c.run_on-replies.ensures.ticked;
       table = c.run_on-replies.ensures.table;
       disks_left =

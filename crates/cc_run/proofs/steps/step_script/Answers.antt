@@ -86,6 +86,7 @@ returns-in-Ok-run_steps-clause-ran g c =
           rw (is, c.end-replies.ensures.replies) (subst (λ u. IsSteppedThrough u c.args.script.now.streams c.args.script.now.lines c.in-Ok-run_steps.ran.replies world.journal.entries)
           (ap (made_setup (tells_of g.D.Told.told g.D.Told.faults g.L.LogFile.told g.L.LogFile.faults g.Q.PostRoutine.posted)) (sym begun) ∙ setup) c.in-Ok-run_steps.ensures.explained);
       queued = (c.new-in-Ok-run_steps-2.ensures.items, c.new-in-Ok-run_steps.ensures.items);
+      async_queued = c.new-in-Ok-run_steps-3.ensures.items;
       ticked = ap length c.new.ensures.items;
       table = rw is (if_some-ok c.printed_rows.result c.ok-table.result c.ok-table.ensures.value (λ printed rows. rows ∙ table) c.printed_rows.ensures);
       disks_left =

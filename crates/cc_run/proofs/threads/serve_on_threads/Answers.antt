@@ -27,11 +27,11 @@ split_stepper-stepper-requires-clause-more g c =
 
 pub run_all-ended-requires-clause-own : goal.run_all-ended-requires-clause-own
 run_all-ended-requires-clause-own g c κs within =
-    all-own g.D.Told.told g.D.Told.faults g.L.LogFile.told g.L.LogFile.faults g.Q.PostRoutine.posted c.args.desk _ _ c.requires.ready c.in-Ok-new.ensures.opened c.args.lines.now c.args.names.now.items _ c.reverse.ensures.items c.requires.words.stand.counted _ _ _ c.split_all-callers.ensures.split c.args.queue.now c.requires.own
+    all-own g.D.Told.told g.D.Told.faults g.L.LogFile.told g.L.LogFile.faults g.Q.PostRoutine.posted c.args.desk _ _ c.requires.ready c.in-Ok-new.ensures.opened c.args.lines.now c.args.names.now.items _ c.reverse.ensures.items c.requires.words.stand.counted _ _ _ c.split_all-callers.ensures.split c.args.queues.now c.requires.own
 
 pub run_all-ended-requires-clause-may_step : goal.run_all-ended-requires-clause-may_step
 run_all-ended-requires-clause-may_step g c κs within =
-    may-step-on g.D.Told.told g.D.Told.faults g.L.LogFile.told g.L.LogFile.faults g.Q.PostRoutine.posted c.args.desk _ _ c.requires.ready c.in-Ok-new.ensures.opened c.args.lines.now c.args.names.now.items _ c.reverse.ensures.items c.requires.words.stand.counted _ _ _ c.split_all-callers.ensures.split c.args.phase c.args.ticks.now _ _ c.split_worker-worker.ensures.split c.split_worker-worker.ensures.ticks c.args.aheads _ _ c.split_stepper-stepper.ensures.split c.split_stepper-stepper.ensures.aheads c.args.queue.now c.requires.own_place c.requires.step_room
+    may-step-on g.D.Told.told g.D.Told.faults g.L.LogFile.told g.L.LogFile.faults g.Q.PostRoutine.posted c.args.desk _ _ c.requires.ready c.in-Ok-new.ensures.opened c.args.lines.now c.args.names.now.items _ c.reverse.ensures.items c.requires.words.stand.counted _ _ _ c.split_all-callers.ensures.split c.args.phase c.args.ticks.now _ _ c.split_worker-worker.ensures.split c.split_worker-worker.ensures.ticks c.args.aheads _ _ c.split_stepper-stepper.ensures.split c.split_stepper-stepper.ensures.aheads c.args.queues.now.ahead c.requires.own_place c.requires.step_room
 
 pub run_all-ended-requires-clause-may : goal.run_all-ended-requires-clause-may
 run_all-ended-requires-clause-may g c κs within =
