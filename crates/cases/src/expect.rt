@@ -1,7 +1,8 @@
 //! Whether a run left what a case wants.
 
-use crate::case::{Case, Count, Part, Want};
+use crate::case::{Case, Count, DiskPlan, Part, Want};
 use crate::devices::{Calls, CaseDisk, CaseLog, Routine};
+use crate::records::RECORD_PAGE;
 use crate::run::{Left, whole_page};
 use crate::stage::Stage;
 use crate::trouble::{Device, Trouble};
@@ -51,6 +52,7 @@ pub fn check_run(case: &Case, stage: &Stage, left: &Left) -> Result<()> {
         left.logs.len()
     );
     check_devices(left)?;
+    check_records(case, left)?;
     check_routines(case.routines, &left.posts)?;
     let posted = left.posts.iter().filter(|routine| routine.posted).count();
     ensure!(
@@ -59,6 +61,31 @@ pub fn check_run(case: &Case, stage: &Stage, left: &Left) -> Result<()> {
         left.posted
     );
     Ok(())
+}
+
+/// What a crash may leave of the record page of each disk is what the journal says, where the run gave that back.
+fn check_records(case: &Case, left: &Left) -> Result<()> {
+    if left.status == 6 {
+        return Ok(());
+    }
+    let plans = case.disks.iter().zip(left.disks.iter());
+    for (nth, ((plan, disk), told)) in plans.zip(left.records.iter()).enumerate() {
+        let may = disk.inner.may(RECORD_PAGE)?;
+        ensure!(
+            told.fits(&may, &opening_record(plan)),
+            "the record page of disk {nth} may be left otherwise than the journal says"
+        );
+    }
+    Ok(())
+}
+
+/// The record page of a disk as the run finds it.
+fn opening_record(plan: &DiskPlan) -> [u8; 4096] {
+    let found = plan.pages.iter().find(|(page, _)| *page == RECORD_PAGE);
+    match found {
+        Some((_, bytes)) => whole_page(plan.fill, bytes),
+        None => [plan.fill; 4096],
+    }
 }
 
 /// The disks and the logs are back in their order, and each failure was counted.

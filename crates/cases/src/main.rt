@@ -13,6 +13,7 @@ mod expect;
 mod lines;
 mod moments;
 mod read;
+mod records;
 mod run;
 mod stage;
 mod sweep;

@@ -4,6 +4,7 @@ ghost use Rattle.std.specs.Prelude.{◌≡◌, false, All, IfOk};
 
 use crate::case::{Case, DiskPlan, LogPlan};
 use crate::devices::{Calls, CaseDisk, CaseLog, CaseSink, CaseSource, Routine};
+use crate::records::MayTell;
 use crate::stage::Stage;
 use crate::trouble::Device;
 use cc_async::AsyncPass;
@@ -35,6 +36,8 @@ pub struct Left<'a> {
     pub async_places: Vec<(u64, u64)>,
     /// How many calls passed the gate and told it their end.
     pub passed: u64,
+    /// What the journal says of the record page of each disk.
+    pub records: Vec<MayTell>,
     pub source: CaseSource<'a>,
     pub sink: CaseSink<'a>,
     pub disks: Vec<CaseDisk<'a>>,
@@ -121,6 +124,7 @@ pub fn run_once<'a, R: Threads + Wait + Sync>(
         places: found(alloc, &places)?,
         async_places: found_async(alloc, &async_places)?,
         passed: stage.moments.passed(),
+        records: records(alloc, &journal, disks.len())?,
         source,
         sink,
         disks,
@@ -145,6 +149,15 @@ fn found_async(alloc: Global, places: &[AsyncPass]) -> Result<Vec<(u64, u64)>, A
         found.push((place.empties(), place.fulls()))?;
     }
     Ok(found)
+}
+
+/// What a journal says of the record page of each of so many disks.
+fn records(alloc: Global, journal: &[Entry], many: usize) -> Result<Vec<MayTell>, AllocError> {
+    let mut records = Vec::new(alloc);
+    for stream in 0..many.min(16) as u8 {
+        records.push(MayTell::of_entries(alloc, journal, stream)?)?;
+    }
+    Ok(records)
 }
 
 /// Whether an entry says that a device failed.
