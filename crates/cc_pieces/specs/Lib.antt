@@ -3,6 +3,7 @@ pub mod Bindings
 pub mod Answered
 pub mod HoldLines
 pub mod Shim
+pub mod Checkpoints
 pub mod Locks
 pub mod Served
 pub mod Rooms

@@ -11,3 +11,4 @@ pub mod Pinning
 pub mod Reading
 pub mod Locking
 pub mod LockedCalls
+pub mod Checkpointing

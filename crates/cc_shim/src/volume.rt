@@ -40,6 +40,14 @@ impl Volume {
         }
     }
 
+    /// How many streams it has.
+    pub(crate) fn len(&self) -> u8
+        ensures count { result ≡ length self.now }
+        ensures most { result ≤ 16 }
+    {
+        self.names.len() as u8
+    }
+
     /// The file object of this number of the stream that has the name; `None` where no stream has it, or where the number
     /// is above 15.
     pub fn open_name(&self, name: &str, object: u8) -> Option<FileId>
