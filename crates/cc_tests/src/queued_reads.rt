@@ -34,10 +34,11 @@ fn a_read_of_no_stream_is_completed_as_not_cached(rt: HostRuntime) -> Result<(),
     two.end();
     let mut one = desk(alloc)?;
     one.act_as(5);
-    let done = async_step(&rt, alloc, &mut one, &queue, &mut place).ok_or("no read was queued")?;
+    let completed = async_step(&rt, alloc, &mut one, &queue, &mut place);
+    let Parts { journal, .. } = one.end();
+    let done = completed.ok_or("no read was queued")?;
     assert_eq!(rt; (done.id.pass, done.id.n), (1, 1));
     assert!(rt; matches!(done.answer, Err(CcError::NotCached)));
-    let Parts { journal, .. } = one.end();
     assert_eq!(rt; journal.len(), 1);
     Ok(())
 }
