@@ -19,3 +19,4 @@ pub mod Callers
 pub mod Threads
 pub mod Workers
 pub mod Once
+pub mod StoredLines
