@@ -26,10 +26,6 @@ mod format;
 #[cfg(test)]
 mod lazy;
 #[cfg(test)]
-mod queued_reads;
-#[cfg(test)]
-mod readers;
-#[cfg(test)]
 mod script;
 #[cfg(test)]
 mod text;
