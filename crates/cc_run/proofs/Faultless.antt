@@ -121,6 +121,7 @@ action-below streams n (action.MdlDone _) few within = tt
 action-below streams n (action.MdlAbort _) few within = tt
 action-below streams n action.IsDirtyData few within = tt
 action-below streams n (action.DirtyPages _) few within = tt
+action-below streams n (action.Checkpoint count _) few within = λ s low. omega (arith, low, within, few)
 action-below streams n (action.Append _ _) few within = tt
 action-below streams n (action.LogFlush _ _) few within = tt
 action-below streams n action.Scan few within = tt

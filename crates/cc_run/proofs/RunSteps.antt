@@ -32,72 +32,73 @@ use Rattle.cc_run.specs.Lines.{StreamsOpened}
 use Rattle.cc_run.proofs.Lists.{all-both, all-map}
 
 -- an action of a run on a stream of the script is served, and so is one on no stream
-servable : (streams : List StreamLine) (n : ℕ) (asked : Action) → length streams ≤ n → stands (action_modes asked) mode.Run ≡ true → IsActionWithin streams asked → IsServable n asked
-servable streams n (action.Initialise file sizes quota temporary) few run within = let there = within.stream in omega (arith, there, few)
-servable streams n (action.Uninitialise file truncate) few run within = let there = within.stream in omega (arith, there, few)
-servable streams n (action.CopyRead file at len wait) few run within = let there = within.stream in omega (arith, there, few)
-servable streams n (action.CopyWrite file at bytes) few run within = let there = within.stream in omega (arith, there, few)
-servable streams n (action.Zero file span) few run within = let there = within.stream in omega (arith, there, few)
-servable streams n (action.Map file at len word) few run within = let there = within.stream in omega (arith, there, few)
-servable streams n (action.PinRead file at len word exclusive) few run within = let there = within.stream in omega (arith, there, few)
-servable streams n (action.PreparePin file at len word zero exclusive) few run within = let there = within.stream in omega (arith, there, few)
-servable streams n (action.MdlRead file at len word) few run within = let there = within.stream in omega (arith, there, few)
-servable streams n (action.MdlWrite file at len word) few run within = let there = within.stream in omega (arith, there, few)
-servable streams n (action.SetSizes file allocation size) few run within = let there = within.stream in omega (arith, there, few)
-servable streams n (action.State file) few run within = let there = within.stream in omega (arith, there, few)
-servable streams n (action.Flush file span) few run within = let there = within.stream in omega (arith, there, few)
-servable streams n (action.Purge file span) few run within = let there = within.stream in omega (arith, there, few)
-servable streams n (action.Discard file span) few run within = let there = within.stream in omega (arith, there, few)
-servable streams n (action.NcRead file at len) few run within = let there = within.stream in omega (arith, there, few)
-servable streams n (action.Read file path at len) few run within = let there = within.stream in omega (arith, there, few)
-servable streams n (action.Write file at bytes) few run within = let there = within.stream in omega (arith, there, few)
-servable streams n (action.Update file at bytes) few run within = let there = within.stream in omega (arith, there, few)
-servable streams n (action.Lock file span exclusive) few run within = let there = within.stream in omega (arith, there, few)
-servable streams n (action.Unlock file id) few run within = let there = within.stream in omega (arith, there, few)
-servable streams n (action.Levels file) few run within = let there = within.stream in omega (arith, there, few)
-servable streams n (action.Settle file) few run within = let there = within.stream in omega (arith, there, few)
-servable streams n (action.NcWrite file at bytes) few run within = let there = within.stream in omega (arith, there, few)
-servable streams n (action.LsnForFile file) few run within = let there = within.stream in omega (arith, there, few)
-servable streams n (action.SetLog file handle) few run within = let there = within.stream in omega (arith, there, few)
-servable streams n (action.PinMapped word exclusive) few run within = tt
-servable streams n (action.HeldRead word at len) few run within = tt
-servable streams n (action.PinnedWrite word at bytes) few run within = tt
-servable streams n (action.SetDirty word lsn) few run within = tt
-servable streams n (action.Unpin word) few run within = tt
-servable streams n (action.Repin word made) few run within = tt
-servable streams n (action.UnpinRepinned word through) few run within = tt
-servable streams n (action.MdlBytes word at len) few run within = tt
-servable streams n (action.MdlStore word at bytes) few run within = tt
-servable streams n (action.MdlDone word) few run within = tt
-servable streams n (action.MdlAbort word) few run within = tt
-servable streams n (action.DirtyPages handle) few run within = tt
-servable streams n (action.Append handle bytes) few run within = tt
-servable streams n (action.LogFlush handle lsn) few run within = tt
-servable streams n action.IsDirtyData few run within = tt
-servable streams n (action.SetGranularity file bytes) few run within = let there = within.stream in omega (arith, there, few)
-servable streams n (action.SetAttributes file no_read_ahead no_write_behind) few run within = let there = within.stream in omega (arith, there, few)
-servable streams n (action.SetThreshold file pages) few run within = let there = within.stream in omega (arith, there, few)
-servable streams n (action.NcReadPage file page) few run within = absurd (cc run)
-servable streams n (action.NcStorePage file page bytes) few run within = absurd (cc run)
-servable streams n (action.NcWritePage file page) few run within = absurd (cc run)
-servable streams n (action.Fill page) few run within = absurd (cc run)
-servable streams n (action.Drop page) few run within = absurd (cc run)
-servable streams n (action.WriteBegin page) few run within = absurd (cc run)
-servable streams n (action.WriteEnd page) few run within = absurd (cc run)
-servable streams n (action.Sync stream) few run within = absurd (cc run)
-servable streams n action.Scan few run within = absurd (cc run)
-servable streams n (action.AskAhead file at len) few run within = let there = within.stream in omega (arith, there, few)
-servable streams n action.AheadStep few run within = tt
-servable streams n (action.AsyncRead file at len) few run within = let there = within.stream in omega (arith, there, few)
-servable streams n action.Complete few run within = tt
-servable streams n action.Tick few run within = tt
-servable streams n (action.CanWrite file bytes) few run within = let there = within.stream in omega (arith, there, few)
-servable streams n (action.Defer file bytes retrying) few run within = let there = within.stream in omega (arith, there, few)
-servable streams n action.Post few run within = tt
+servable : (streams : List StreamLine) (n : ℕ) (asked : Action) → length streams ≤ n → length streams ≤ 16 → stands (action_modes asked) mode.Run ≡ true → IsActionWithin streams asked → IsServable n asked
+servable streams n (action.Initialise file sizes quota temporary) few most run within = let there = within.stream in omega (arith, there, few)
+servable streams n (action.Uninitialise file truncate) few most run within = let there = within.stream in omega (arith, there, few)
+servable streams n (action.CopyRead file at len wait) few most run within = let there = within.stream in omega (arith, there, few)
+servable streams n (action.CopyWrite file at bytes) few most run within = let there = within.stream in omega (arith, there, few)
+servable streams n (action.Zero file span) few most run within = let there = within.stream in omega (arith, there, few)
+servable streams n (action.Map file at len word) few most run within = let there = within.stream in omega (arith, there, few)
+servable streams n (action.PinRead file at len word exclusive) few most run within = let there = within.stream in omega (arith, there, few)
+servable streams n (action.PreparePin file at len word zero exclusive) few most run within = let there = within.stream in omega (arith, there, few)
+servable streams n (action.MdlRead file at len word) few most run within = let there = within.stream in omega (arith, there, few)
+servable streams n (action.MdlWrite file at len word) few most run within = let there = within.stream in omega (arith, there, few)
+servable streams n (action.SetSizes file allocation size) few most run within = let there = within.stream in omega (arith, there, few)
+servable streams n (action.State file) few most run within = let there = within.stream in omega (arith, there, few)
+servable streams n (action.Flush file span) few most run within = let there = within.stream in omega (arith, there, few)
+servable streams n (action.Purge file span) few most run within = let there = within.stream in omega (arith, there, few)
+servable streams n (action.Discard file span) few most run within = let there = within.stream in omega (arith, there, few)
+servable streams n (action.NcRead file at len) few most run within = let there = within.stream in omega (arith, there, few)
+servable streams n (action.Read file path at len) few most run within = let there = within.stream in omega (arith, there, few)
+servable streams n (action.Write file at bytes) few most run within = let there = within.stream in omega (arith, there, few)
+servable streams n (action.Update file at bytes) few most run within = let there = within.stream in omega (arith, there, few)
+servable streams n (action.Lock file span exclusive) few most run within = let there = within.stream in omega (arith, there, few)
+servable streams n (action.Unlock file id) few most run within = let there = within.stream in omega (arith, there, few)
+servable streams n (action.Levels file) few most run within = let there = within.stream in omega (arith, there, few)
+servable streams n (action.Settle file) few most run within = let there = within.stream in omega (arith, there, few)
+servable streams n (action.Checkpoint count handle) few most run within = (omega (arith, within, few), omega (arith, within, most))
+servable streams n (action.NcWrite file at bytes) few most run within = let there = within.stream in omega (arith, there, few)
+servable streams n (action.LsnForFile file) few most run within = let there = within.stream in omega (arith, there, few)
+servable streams n (action.SetLog file handle) few most run within = let there = within.stream in omega (arith, there, few)
+servable streams n (action.PinMapped word exclusive) few most run within = tt
+servable streams n (action.HeldRead word at len) few most run within = tt
+servable streams n (action.PinnedWrite word at bytes) few most run within = tt
+servable streams n (action.SetDirty word lsn) few most run within = tt
+servable streams n (action.Unpin word) few most run within = tt
+servable streams n (action.Repin word made) few most run within = tt
+servable streams n (action.UnpinRepinned word through) few most run within = tt
+servable streams n (action.MdlBytes word at len) few most run within = tt
+servable streams n (action.MdlStore word at bytes) few most run within = tt
+servable streams n (action.MdlDone word) few most run within = tt
+servable streams n (action.MdlAbort word) few most run within = tt
+servable streams n (action.DirtyPages handle) few most run within = tt
+servable streams n (action.Append handle bytes) few most run within = tt
+servable streams n (action.LogFlush handle lsn) few most run within = tt
+servable streams n action.IsDirtyData few most run within = tt
+servable streams n (action.SetGranularity file bytes) few most run within = let there = within.stream in omega (arith, there, few)
+servable streams n (action.SetAttributes file no_read_ahead no_write_behind) few most run within = let there = within.stream in omega (arith, there, few)
+servable streams n (action.SetThreshold file pages) few most run within = let there = within.stream in omega (arith, there, few)
+servable streams n (action.NcReadPage file page) few most run within = absurd (cc run)
+servable streams n (action.NcStorePage file page bytes) few most run within = absurd (cc run)
+servable streams n (action.NcWritePage file page) few most run within = absurd (cc run)
+servable streams n (action.Fill page) few most run within = absurd (cc run)
+servable streams n (action.Drop page) few most run within = absurd (cc run)
+servable streams n (action.WriteBegin page) few most run within = absurd (cc run)
+servable streams n (action.WriteEnd page) few most run within = absurd (cc run)
+servable streams n (action.Sync stream) few most run within = absurd (cc run)
+servable streams n action.Scan few most run within = absurd (cc run)
+servable streams n (action.AskAhead file at len) few most run within = let there = within.stream in omega (arith, there, few)
+servable streams n action.AheadStep few most run within = tt
+servable streams n (action.AsyncRead file at len) few most run within = let there = within.stream in omega (arith, there, few)
+servable streams n action.Complete few most run within = tt
+servable streams n action.Tick few most run within = tt
+servable streams n (action.CanWrite file bytes) few most run within = let there = within.stream in omega (arith, there, few)
+servable streams n (action.Defer file bytes retrying) few most run within = let there = within.stream in omega (arith, there, few)
+servable streams n action.Post few most run within = tt
 
-pub servable-all : (streams : List StreamLine) (phases n : ℕ) (lines : List ActionLine) → length streams ≤ n → AllByRecursion (IsLineOf mode.Run) lines → AllByRecursion (IsLineWithin streams phases) lines → AllByRecursion (λ line. IsServable n line.action) lines
-servable-all streams phases n lines few run within =
-    all-map (λ line. IsLineOf mode.Run line × IsLineWithin streams phases line) (λ line. IsServable n line.action) lines (λ line is. servable streams n line.action few is.0.in_mode is.1.file)
+pub servable-all : (streams : List StreamLine) (phases n : ℕ) (lines : List ActionLine) → length streams ≤ n → length streams ≤ 16 → AllByRecursion (IsLineOf mode.Run) lines → AllByRecursion (IsLineWithin streams phases) lines → AllByRecursion (λ line. IsServable n line.action) lines
+servable-all streams phases n lines few most run within =
+    all-map (λ line. IsLineOf mode.Run line × IsLineWithin streams phases line) (λ line. IsServable n line.action) lines (λ line is. servable streams n line.action few most is.0.in_mode is.1.file)
     (all-both (IsLineOf mode.Run) (IsLineWithin streams phases) lines run within)
 
 both-true : (a b : Bool) → (a && b) ≡ true → (a ≡ true) × (b ≡ true)

@@ -2,6 +2,7 @@
 pub mod Desks
 pub mod Setups
 pub mod Lines
+pub mod Restarting
 pub mod Runs
 pub mod Rows
 pub mod Words

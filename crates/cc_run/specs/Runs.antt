@@ -1,5 +1,5 @@
 -- What a script left that was run: what explains its answers, by its mode, and what comes back.
-use Rattle.std.specs.Prelude.{◌≡◌, ℕ, ◌*◌, List, [], IfSome, length, reverse}
+use Rattle.std.specs.Prelude.{◌≡◌, ℕ, ◌*◌, List, [], ◌∷◌, Result, Ok, Err, IfSome, length, reverse}
 use Rattle.std.specs.declared.option.Option.{Option}
 use Rattle.std.specs.declared.option.Option.TheVariants.{Some, None}
 use Rattle.cc_entry.specs.declared.answer.LineReply.{LineReply}
@@ -23,6 +23,12 @@ use Rattle.cc_run.specs.Logs.{LogsLeft}
 use Rattle.cc_run.specs.Places.{AreAsyncQueued, AreQueued, taken_at}
 use Rattle.cc_run.specs.Setups.{setup_of}
 use Rattle.cc_run.specs.declared.modes.RunResult.{RunResult}
+use Rattle.cc_entry.specs.declared.answer.Answer.{Answer}
+use Rattle.cc_entry.specs.declared.answer.Answer.TheVariants as answer
+use Rattle.cc_entry.specs.declared.error.CcError.{CcError}
+use Rattle.cc_run.specs.declared.restarts.LogRestart.{LogRestart}
+use Rattle.cc_run.specs.declared.restarts.Numbers.{Numbers}
+use Rattle.cc_run.specs.Restarting.{LogsRestarted}
 
 -- A past explains what a script was answered: in a run, by what each caller's lines left between two moments, and by these
 -- requests that the read-ahead worker took; in steps, by one event a line.
@@ -71,3 +77,27 @@ pub record HasRun {D L Q : Type 0} (tells : Tells D L Q) (m : Mode) (script : Sc
   pub logs_left : LogsLeft tells.log tells.log_faults (reverse ran.journal.items) logs ran.logs.items
   pub posts_left : PostsLeft tells.posted (deferrals_in (Some script) ran.replies.items) (reverse ran.journal.items)
       posts ran.posts.items
+
+-- a restart that was done tells the number of its updates, or that its log was not flushed; one that was refused that
+abbrev pub TellsRestart : Result Numbers CcError → Answer → Type 0
+TellsRestart (Ok numbers) (answer.Restarted n) = n ≡ numbers.updates
+TellsRestart (Ok numbers) (answer.Refused e) = Unit {0}
+TellsRestart (Ok numbers) other = ⊥
+TellsRestart (Err e) told = told ≡ answer.Refused e
+
+-- what the restarts of a script answered, by the first replies of its run
+abbrev pub TellRestarts : List LogRestart → List LineReply → Type 0
+TellRestarts [] replies = Unit {0}
+TellRestarts (ended ∷ more) [] = ⊥
+TellRestarts (ended ∷ more) (reply ∷ replies) = TellsRestart ended.ended reply.answer × TellRestarts more replies
+
+-- A script was run behind its restarts: these left the disks and the logs over which it was run.
+pub record HasRunBehind {D L Q : Type 0} (tells : Tells D L Q) (m : Mode) (script : Script) (disks : List D) (logs : List L)
+    (posts : List Q) (ran : RunResult D L Q) : Type 0 where
+  pub ended : List LogRestart
+  pub disks_begun : List D
+  pub logs_begun : List L
+  pub restarted : LogsRestarted tells.disk tells.disk_faults tells.log tells.log_faults script.streams script.restarts ended
+      disks disks_begun logs logs_begun
+  pub told : TellRestarts ended ran.replies.items
+  pub ran : HasRun tells m script disks_begun logs_begun posts ran

@@ -39,6 +39,7 @@ mod openings;
 mod output;
 mod phases;
 mod posts;
+mod restarts;
 mod row;
 mod run;
 mod steps;

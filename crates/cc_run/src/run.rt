@@ -19,13 +19,15 @@ ghost use Rattle.cc_run.specs.Places.{AreAsyncQueued, AreQueued, new_places, que
 ghost use Rattle.cc_queue.specs.Places.{new_place};
 ghost use Rattle.cc_turns.specs.Places.{IsRoomFor};
 ghost use Rattle.std.specs.List.{AllByRecursion};
-ghost use Rattle.cc_run.specs.Runs.{HasRun};
+ghost use Rattle.cc_run.specs.Runs.{HasRunBehind};
+ghost use Rattle.cc_run.specs.Restarting.{AreEnded};
 
 use crate::aheads::Aheads;
 use crate::modes::{MOST_DISKS, MOST_LOGS, RunResult};
 use crate::openings::open_streams;
 use crate::phases::serve_phases;
 use crate::posts::{Mark, settle};
+use crate::restarts::{LogRestart, end_restarts, restart_logs};
 use crate::row::{first_of, put_back};
 use crate::table::printed_rows;
 use crate::ticks::Ticks;
@@ -68,7 +70,7 @@ pub(crate) fn run_script<
     requires of_mode { IsOfMode mode.Run script.now }
     requires enough { has_devices (length disks.items) (length logs.items) (length posts.items) script.now ≡ true }
     requires posts { All (λ routine. Q.posted routine ≡ false) posts.items }
-    ensures ran { IfOk result (HasRun (tells_of D.told D.faults L.told L.faults Q.posted) mode.Run script.now
+    ensures ran { IfOk result (HasRunBehind (tells_of D.told D.faults L.told L.faults Q.posted) mode.Run script.now
         disks.items logs.items posts.items) }
     ensures kept { IfErr result (λ back. back.0.items ≡ disks.items) }
     ensures logs_kept { IfErr result (λ back. back.1.items ≡ logs.items) }
@@ -76,8 +78,12 @@ pub(crate) fn run_script<
 {
     let mut rest = disks;
     let mut further = logs;
-    let count = script.streams.len() + script.lines.as_slice().len();
+    let restarts = script.restarts.as_slice();
+    let count = restarts.len() + script.streams.len() + script.lines.as_slice().len();
     let Ok(replies) = Vec::with_capacity(alloc, count) else {
+        return Err((rest, further, posts));
+    };
+    let Ok(mut ended) = Vec::with_capacity(alloc, restarts.len()) else {
         return Err((rest, further, posts));
     };
     let Ok((queues, mut first)) = Queues::new(alloc) else {
@@ -103,12 +109,20 @@ pub(crate) fn run_script<
     let Ok(ticks) = Ticks::with_room(alloc, script.ticks, script.phases) else {
         return Err((rest, further, posts));
     };
-    let Ok(disks) = first_of(alloc, &mut rest, MOST_DISKS) else {
+    let Ok(mut disks) = first_of(alloc, &mut rest, MOST_DISKS) else {
         return Err((rest, further, posts));
     };
-    let Ok(logs) = first_of(alloc, &mut further, MOST_LOGS) else {
+    let Ok(mut logs) = first_of(alloc, &mut further, MOST_LOGS) else {
         return Err((put_back(disks, rest), further, posts));
     };
+    restart_logs(
+        alloc,
+        script.streams.as_slice(),
+        restarts,
+        &mut logs,
+        &mut disks,
+        &mut ended,
+    );
     let setup = Setup {
         disks,
         logs,
@@ -136,6 +150,7 @@ pub(crate) fn run_script<
                 desk,
                 &queues,
                 names,
+                &ended,
                 replies,
                 ticks,
                 aheads,
@@ -203,6 +218,7 @@ fn run_on<
     desk: Desk<D, L, Mark>,
     queues: &Queues,
     names: Vec<Names>,
+    ended: &[LogRestart],
     replies: Vec<LineReply>,
     ticks: Ticks,
     aheads: Aheads,
@@ -219,7 +235,8 @@ fn run_on<
     requires deferring { defer_lines script.now.lines ≤ length posts.items }
     requires unposted { All (λ routine. Q.posted routine ≡ false) posts.items }
     requires none { replies.items ≡ [] }
-    requires room { length script.now.streams + length script.now.lines ≤ vec_capacity replies }
+    requires ended { AreEnded script.now.restarts ended.now }
+    requires room { length script.now.restarts + (length script.now.streams + length script.now.lines) ≤ vec_capacity replies }
     requires ticks { ticks.each ≡ script.now.ticks }
     requires no_ticks { ticks.answers.items ≡ [] }
     requires tick_room { script.now.ticks * script.now.phases ≤ vec_capacity ticks.answers }
@@ -252,7 +269,14 @@ fn run_on<
     let mut desk = desk;
     let mut replies = replies;
     let mut ticks = ticks;
-    open_streams(alloc, &mut desk, script.streams.as_slice(), &mut replies);
+    end_restarts(&mut desk, ended, &mut replies);
+    open_streams(
+        alloc,
+        &mut desk,
+        script.restarts.as_slice(),
+        script.streams.as_slice(),
+        &mut replies,
+    );
     let (desk, names, aheads) = serve_phases(
         rt,
         alloc,

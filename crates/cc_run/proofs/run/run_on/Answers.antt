@@ -30,7 +30,7 @@ pub serve_phases-desk-requires-clause-servable : goal.serve_phases-desk-requires
 serve_phases-desk-requires-clause-servable g c κs within =
     let streams = c.open_streams.ensures.run.streams in
     subst (λ n. AllByRecursion (λ line. IsServable n line.action) c.as_slice-2.result.now) (sym streams)
-    (rw c.as_slice-2.ensures (servable-all c.args.script.now.streams c.args.script.now.phases (length c.args.desk.begun.disks) c.args.script.now.lines c.requires.enough c.requires.of_mode.lines c.requires.within.lines))
+    (rw c.as_slice-2.ensures (servable-all c.args.script.now.streams c.args.script.now.phases (length c.args.desk.begun.disks) c.args.script.now.lines c.requires.enough c.requires.within.few_streams c.requires.of_mode.lines c.requires.within.lines))
 
 pub serve_phases-desk-requires-clause-callers : goal.serve_phases-desk-requires-clause-callers
 serve_phases-desk-requires-clause-callers g c κs within =
