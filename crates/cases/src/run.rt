@@ -101,6 +101,8 @@ pub fn run_once<'a, R: Threads + Wait + Sync>(
         disks,
         logs,
         posts,
+        disks_begun: _disks_begun,
+        logs_begun: _logs_begun,
     } = cache_main(
         rt,
         alloc,
