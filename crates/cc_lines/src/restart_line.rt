@@ -1,7 +1,7 @@
 //! The line of a restart, behind the restart itself, over any turns.
 
 ghost use Rattle.std.specs.Prelude.{◌≡◌, ◌≤◌, ◌^◌};
-ghost use Rattle.cc_pieces.specs.Restarts.{RestartAnswered};
+ghost use Rattle.cc_pieces.specs.Restarts.{RestartEnded};
 ghost use Rattle.cc_calls.specs.Answers.{IsFree};
 ghost use Rattle.cc_calls.specs.Pages.{StaysGood, WentOn};
 ghost use Rattle.cc_lines.specs.Line.{IsFullTold};
@@ -16,7 +16,7 @@ pub fn end_restart<T: Turns>(turns: &mut T, handle: u8, last: u64, updates: u64)
     requires can { IsFree (T.standing turns.old) }
     requires first { (T.standing turns.old).number ≡ 0 }
     requires in_range { last ≤ 2 ^ 62 }
-    ensures answered { RestartAnswered (T.standing turns.old).setup handle result
+    ensures ended { RestartEnded (T.standing turns.old).setup handle last updates result
         (T.standing turns.old).seen (T.standing turns.new).seen }
     ensures full { IsFullTold (T.standing turns.new) result }
     ensures goes_on { WentOn (T.standing turns.old) (T.standing turns.new) }

@@ -27,6 +27,13 @@ RestartAnswered u handle (answer.Refused e) old new =
     IsIdle 0 old new ⊎ ((last : ℕ) × LogFlushLeft {T = Unit {0}} u 0 handle last (Err e) old new)
 RestartAnswered u handle other old new = ⊥
 
+-- The same of a restart that was done, which read this last LSN and found so many updates: it is answered with their number behind
+-- the flush of its log up to that LSN, or with the refusal of that flush.
+abbrev pub RestartEnded : Setup → ℕ → ℕ → ℕ → Answer → Between
+RestartEnded u handle last updates (answer.Restarted n) old new = (n ≡ updates) × LastFlushed u handle last old new
+RestartEnded u handle last updates (answer.Refused e) old new = LogFlushLeft {T = Unit {0}} u 0 handle last (Err e) old new
+RestartEnded u handle last updates other old new = ⊥
+
 -- the line of one restart
 pub record Restarts (u : Setup) (handle : ℕ) (told : Answer) (old new : List Entry) : Type 0 where
   pub left : RestartAnswered u handle told old new
