@@ -49,6 +49,7 @@ use Rattle.cc_pieces.specs.HoldLines.{HeldReadBy, HoldLine, UnpinAnswered, Unrep
 use Rattle.cc_pieces.specs.Locks.{LockAnswered, UnlockAnswered}
 use Rattle.cc_pieces.specs.Shim.{CallsLeft}
 use Rattle.cc_pieces.specs.Checkpoints.{AskingStopped, CheckpointAnswered, CheckpointLeft, RecordFlushed, RecordLogged, RowsLogged, StateAsked, StatesAsked, StateRefused, SyncedLogged, first_object, record_of_rows, sync_call}
+use Rattle.cc_pieces.specs.Restarts.{LastFlushed, RestartAnswered}
 use Rattle.cc_pieces.proofs.CheckpointSteps.{found-below}
 use Rattle.cc_pieces.specs.Queue.{is_queue_action, is_queue_call}
 use Rattle.cc_pieces.specs.Served.{Served}
@@ -269,6 +270,17 @@ module _ (u : Setup) (Stays : List Entry → Entry → Type 0) (Fits : List Entr
       by (inr was) = walked-idle Stays me old new was.idle
   walk-log-flush me handle lsn (answer.Refused e) old new left = walk-flush-refused me handle lsn e old new left
   walk-log-flush me handle lsn other old new left = absurd left
+
+  -- the end of a restart: a flush of its log, or nothing
+  pub walk-restart : (handle : ℕ) (told : Answer) (old new : List Entry) → RestartAnswered u handle told old new → Walked Stays 0 old new
+  walk-restart handle (answer.Restarted updates) old new left = by left.0 left.1
+    where
+      by : (last : ℕ) → LastFlushed u handle last old new → Walked Stays 0 old new
+      by zero flushed = walked-idle Stays 0 old new flushed
+      by (suc n) flushed = walk-log-flush 0 handle (suc n) (answer.Given reply.Unit) old new flushed.1
+  walk-restart handle (answer.Refused e) old new (inl idle) = walked-idle Stays 0 old new idle
+  walk-restart handle (answer.Refused e) old new (inr left) = walk-log-flush 0 handle left.0 (answer.Refused e) old new left.1
+  walk-restart handle other old new left = absurd left
 
   -- noncached reads and writes of a file that calls fit on
   module _ (file : File) (on : On file) where

@@ -29,17 +29,26 @@ alone me not = record { during = opens; grew = refl; others = (by (0 == me) refl
 pub returns-clause-explained : goal.returns-clause-explained
 unfolding IsDistinct
 returns-clause-explained c = record {
+  ended = [];
   setup = unit_at 1 ∷ [];
   answers = of_one_answered;
+  restarted = [];
   begun = opens;
   replies_are = refl;
+  restart_lines = refl;
   setup_lines = refl;
   answer_lines = refl;
-  opened = (opens, record { opened = ends_done 0 1 (Some 0) initialises reply.Unit [] [] (begins 0 initialises []) refl (λ during. tt); room = tt }, idle-none 0 opens);
+  restarts_ended = idle-none 0 [];
+  opened = (opens, record { opened = ends_done 0 1 (Some 0) initialises reply.Unit [] [] (begins 0 initialises []) refl (λ during. tt); room = λ none. tt }, idle-none 0 opens);
   alone = alone;
   ran = two-phases;
   posted_once = tt;
 }
+
+-- no reply is that of a restart
+no-ended : (ended its answers : List LineReply) → answered_lines ended ≡ [] → all_replies ≡ ended ++ (its ++ answers) → all_replies ≡ its ++ answers
+no-ended [] its answers none replies = replies
+no-ended (first ∷ ended) its answers none replies = absurd (cc)
 
 -- the first reply is the stream's, the others are those of the lines
 answers_are : (its answers : List LineReply) → all_replies ≡ its ++ answers → answered_lines its ≡ 1 ∷ [] → answers ≡ of_one_answered
@@ -52,7 +61,8 @@ one_is_not_zero same = omega (arith, same)
 
 pub returns-clause-nothing_before : goal.returns-clause-nothing_before
 returns-clause-nothing_before c left =
-    let answers = answers_are left.setup left.answers left.replies_are left.setup_lines in
+    let replies = no-ended left.ended left.setup left.answers left.restart_lines left.replies_are in
+    let answers = answers_are left.setup left.answers replies left.setup_lines in
     let ran : PhasesRan setup (plan_with 0 0) 1 2 [] [] [] left.begun (reads_and_asks ++ caller_opens) = rw answers at left.ran in
     let all = marked-then 1 [] (read_mark ∷ state_mark ∷ []) [] left.begun (reads_and_asks ++ caller_opens) (marked-idle 1 [] left.begun (left.alone 1 one_is_not_zero)) (phases-ran [] [] [] left.begun (reads_and_asks ++ caller_opens) ran) in
     other (shows 1 (read_mark ∷ state_mark ∷ []) (reads_and_asks ++ caller_opens) [] all)

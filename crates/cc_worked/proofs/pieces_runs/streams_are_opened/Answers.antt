@@ -20,24 +20,24 @@ its_opening : CallLeft setup 0 initialises (outcome.Done reply.Unit) [] opens
 its_opening = ends_done 0 1 (Some 0) initialises reply.Unit [] [] (begins 0 initialises []) refl (λ during. tt)
 
 pub returns-clause-opened : goal.returns-clause-opened
-returns-clause-opened c = record { opened = its_opening; room = tt }
+returns-clause-opened c = record { opened = its_opening; room = λ none. tt }
 
 pub returns-clause-with_log : goal.returns-clause-with_log
 returns-clause-with_log c = record {
   opened = inr (opens, its_opening, ends_done 0 2 (Some 0) (call.SetLog a 3) reply.Unit opens opens (begins 0 (call.SetLog a 3) opens) refl (λ during. tt));
-  room = tt;
+  room = λ none. tt;
 }
 
 pub returns-clause-refused : goal.returns-clause-refused
 returns-clause-refused c = record {
   opened = inl (error.NoVacbs 3, refl, inl (ends_refused 0 1 (Some 0) initialises (error.NoVacbs 3) [] [] (begins 0 initialises []) refl refl));
-  room = tt;
+  room = λ none. tt;
 }
 
 pub returns-clause-both : goal.returns-clause-both
 returns-clause-both c =
     let its = call.Initialise b (sized 8192 8192) 16 false in
-    (opens, record { opened = its_opening; room = tt }, (opens_both, record { opened = ends_done 0 2 (Some 1) its reply.Unit opens opens (begins 0 its opens) refl (λ during. tt); room = tt }, idle-none 0 opens_both))
+    (opens, record { opened = its_opening; room = λ none. tt }, (opens_both, record { opened = ends_done 0 2 (Some 1) its reply.Unit opens opens (begins 0 its opens) refl (λ during. tt); room = λ none. tt }, idle-none 0 opens_both))
 
 pub returns-clause-not_without_log : goal.returns-clause-not_without_log
 returns-clause-not_without_log c left =
