@@ -121,7 +121,8 @@ pub record HaveNoWords (lines : List ActionLine) (rows : List NamesState) : Type
 abbrev pub KeepRoom : List NamesState → List NamesState → Type 0
 KeepRoom was now = map (λ names. names.room) now ≡ map (λ names. names.room) was
 
--- the streams, numbered from one on, were opened one after the other, each with a reply of its own
+-- the streams, numbered from one on, were opened one after the other, each with a reply of its own, behind restarts that were
+-- answered so
 abbrev pub StreamsLeft : Setup → List RestartLine → List LineReply → ℕ → List StreamLine → List LineReply → Between
 StreamsLeft u restarts ended s [] [] old new = new ≡ old
 StreamsLeft u restarts ended s (stream ∷ streams) (reply ∷ replies) old new =
@@ -130,13 +131,13 @@ StreamsLeft u restarts ended s (stream ∷ streams) (reply ∷ replies) old new 
     × StreamsLeft u restarts ended (suc s) streams replies between new
 StreamsLeft u restarts ended s streams replies old new = ⊥
 
--- The streams were opened, and the replies of their lines stand behind those of the restarts.
-pub record StreamsOpened (u : Setup) (restarts : List RestartLine) (s : ℕ) (streams : List StreamLine) (before after : List LineReply)
-    (old new : List Entry) : Type 0 where
+-- The streams were opened, behind restarts that were answered so, and the replies of their lines stand behind those that were there.
+pub record StreamsOpened (u : Setup) (restarts : List RestartLine) (ended : List LineReply) (s : ℕ) (streams : List StreamLine)
+    (before after : List LineReply) (old new : List Entry) : Type 0 where
   pub answers : List LineReply
   pub grew : after ≡ before ++ answers
   pub lines_are : answered_lines answers ≡ map (λ stream. stream.line) streams
-  pub left : StreamsLeft u restarts before s streams answers old new
+  pub left : StreamsLeft u restarts ended s streams answers old new
 
 -- what a script gives a run
 abbrev pub given_of : Script → Given

@@ -1,5 +1,6 @@
--- What the restarts of a script leave of disks and logs, before its desk is made.
-use Rattle.std.specs.Prelude.{◌≡◌, ℕ, suc, ◌+◌, ◌<◌, ◌≤◌, ◌^◌, ◌==◌, Bool, true, false, ◌&&◌, List, [], ◌∷◌, length, map, slice_get, slice_set, All, IfOk, Result, Ok, Err, ◌⊎◌}
+-- What the restarts of a script leave before its run, and how the run tells them.
+use Rattle.std.specs.Prelude.{◌≡◌, ℕ, List, [], ◌∷◌, ◌++◌, map, Result, Ok, Err, ◌⊎◌}
+use Rattle.std.specs.List.{AllByRecursion}
 use Rattle.std.specs.declared.option.Option.{Option}
 use Rattle.std.specs.declared.option.Option.TheVariants.{Some, None}
 use Rattle.cc_entry.specs.declared.answer.Answer.{Answer}
@@ -7,161 +8,90 @@ use Rattle.cc_entry.specs.declared.answer.Answer.TheVariants as answer
 use Rattle.cc_entry.specs.declared.answer.LineReply.{LineReply}
 use Rattle.cc_entry.specs.declared.entry.Entry.{Entry}
 use Rattle.cc_entry.specs.declared.error.CcError.{CcError}
-use Rattle.cc_entry.specs.declared.error.CcError.TheVariants as error
-use Rattle.cc_traits.specs.Told.{IfTold}
-use Rattle.cc_traits.specs.Disk.{Disk, page_of}
+use Rattle.cc_traits.specs.Disk.{Disk}
 use Rattle.cc_traits.specs.Log.{Log}
-use Rattle.cc_format.specs.Spelling.{IsReadAs}
-use Rattle.cc_format.specs.declared.record.StreamRecord.{StreamRecord}
-use Rattle.cc_script.specs.declared.script.StreamLine.{StreamLine}
-use Rattle.cc_script.specs.declared.script.RestartLine.{RestartLine}
 use Rattle.cc_model.specs.Setup.{Setup}
-use Rattle.cc_effects.specs.LogCalls.{LogFlushLeft}
+use Rattle.cc_script.specs.declared.script.RestartLine.{RestartLine}
+use Rattle.cc_script.specs.declared.script.Script.{Script}
 use Rattle.cc_effects.specs.Moments.{Between, IsIdle}
-use Rattle.cc_pieces.specs.Openings.{opening_sizes}
-use Rattle.cc_pieces.specs.Restarts.{LastFlushed}
-use Rattle.cc_redo.specs.declared.redo.Redo.{Redo}
-use Rattle.cc_redo.specs.declared.streams.Restarted.{Restarted}
-use Rattle.cc_redo.specs.Disks.{record_number}
-use Rattle.cc_redo.specs.Ends.{EachDisk, IsAnswer, IsCounted, IsRefused, Leaves, log_faults}
-use Rattle.cc_run.specs.declared.restarts.LogRestart.{LogRestart}
-use Rattle.cc_run.specs.declared.restarts.Numbers.{Numbers}
+use Rattle.cc_pieces.specs.Restarts.{RestartEnded}
+use Rattle.cc_pieces.specs.Rooms.{HadNoRoom}
+use Rattle.cc_restarts.specs.Restarting.{IsOwnRefusal, LogsRestarted}
+use Rattle.cc_restarts.specs.declared.ended.LogRestart.{LogRestart}
+use Rattle.cc_restarts.specs.declared.ended.Numbers.{Numbers}
+use Rattle.cc_run.specs.Ends.{Input, IsAsked}
 
--- whether a stream is stored and has the log
-abbrev pub is_log : ℕ → Option ℕ → Bool
-is_log handle None = false
-is_log handle (Some other) = other == handle
+-- the number of the last LSN that a restart read, 0 where there was none
+abbrev pub last_number : Option ℕ → ℕ
+last_number None = 0
+last_number (Some lsn) = lsn
 
-abbrev pub is_restarted : ℕ → StreamLine → Bool
-is_restarted handle stream = stream.stored && is_log handle stream.log
-
--- a record, or else a line, says numbers that are sizes
-abbrev pub AreSizes : StreamLine → Option StreamRecord → Type 0
-AreSizes stream read = ((opening_sizes stream read).valid ≤ (opening_sizes stream read).size) × ((opening_sizes stream read).size < 2 ^ 63)
-
--- a stream as it is given to a restart
-pub record IsRedoOf (s : ℕ) (stream : StreamLine) (read : Option StreamRecord) (redo : Redo) : Type 0 where
-  pub stream_is : redo.stream ≡ s
-  pub disk_is : redo.disk ≡ s
-  pub size_is : redo.size ≡ (opening_sizes stream read).size
-  pub valid_is : redo.valid ≡ (opening_sizes stream read).valid
-
--- the record of a stream was read so, where its disk tells its pages
-abbrev pub RecordRead : {D : Type 0} → (D → Option Disk) → List D → ℕ → Option StreamRecord → Type 0
-RecordRead {D} told disks s read = (disk : D) → slice_get disks s ≡ Some disk → IfTold (told disk) (λ is. IsReadAs (page_of is record_number) read)
-
--- The streams that are given to the restart of a log, of streams that are numbered from one on: those that are stored and have
--- the log, with the numbers of their records; one whose numbers are no sizes is not given.
-abbrev pub GivenTo : {D : Type 0} → (D → Option Disk) → List D → ℕ → ℕ → List StreamLine → List Redo → Type 0
-GivenTo told disks handle s [] given = given ≡ []
-GivenTo told disks handle s (stream ∷ streams) given =
-    ((is_restarted handle stream ≡ false) × GivenTo told disks handle (suc s) streams given)
-    ⊎ ((is_restarted handle stream ≡ true)
-    × ((read : Option StreamRecord)
-    × RecordRead told disks s read
-    × (((AreSizes stream read → ⊥) × GivenTo told disks handle (suc s) streams given)
-    ⊎ ((redo : Redo) × (more : List Redo) × (given ≡ redo ∷ more) × IsRedoOf s stream read redo
-    × GivenTo told disks handle (suc s) streams more))))
-
--- each disk tells what it told
-pub record TellTheSame {D : Type 0} (told : D → Option Disk) (old new : List D) : Type 0 where
-  pub count : length new ≡ length old
-  pub each : (s : ℕ) (was now : D) → slice_get old s ≡ Some was → slice_get new s ≡ Some now → told now ≡ told was
-
--- and no count of faults rose
-abbrev pub CountTheSame : {D : Type 0} → (D → ℕ) → List D → List D → Type 0
-CountTheSame {D} faults old new =
-    (s : ℕ) (was now : D) → slice_get old s ≡ Some was → slice_get new s ≡ Some now → faults now ≡ faults was
-
--- the disk of a stream that is restarted failed once, as its record was read, and no other did
-pub record RecordFailed {D : Type 0} (told : D → Option Disk) (faults : D → ℕ) (handle : ℕ) (streams : List StreamLine) (e : CcError)
-    (old new : List D) : Type 0 where
-  pub is : e ≡ error.ReadFault record_number
-  pub same : TellTheSame told old new
-  pub s : ℕ
-  pub stream : StreamLine
-  pub was : D
-  pub now : D
-  pub named : slice_get streams s ≡ Some stream
-  pub restarted : is_restarted handle stream ≡ true
-  pub before : slice_get old s ≡ Some was
-  pub after : slice_get new s ≡ Some now
-  pub rose : faults now ≡ faults was + 1
-  pub others : (k : ℕ) (d f : D) → (k == s) ≡ false → slice_get old k ≡ Some d → slice_get new k ≡ Some f → faults f ≡ faults d
-
--- the error of a log is that of its handle
-abbrev pub with_handle : ℕ → CcError → CcError
-with_handle handle (error.LogFault other) = error.LogFault handle
-with_handle handle other = other
-
--- the numbers that a restart answered
-abbrev pub numbers_of : ℕ → Result Restarted CcError → Result Numbers CcError
-numbers_of handle (Ok done) = Ok (record { last = done.last; updates = done.updates })
-numbers_of handle (Err e) = Err (with_handle handle e)
-
--- A log was restarted: the records of its streams were read, and the restart was made with them, done or refused.
-pub record WasRestarted {D L : Type 0} (told : D → Option Disk) (faults : D → ℕ) (log_told : L → Option Log) (log_count : L → ℕ)
-    (handle : ℕ) (streams : List StreamLine) (ended : Result Numbers CcError) (old new : List D) (was now : L) : Type 0 where
-  pub given : List Redo
-  pub between : List D
-  pub answered : Result Restarted CcError
-  pub numbers : ended ≡ numbers_of handle answered
-  pub read : GivenTo told old handle 0 streams given
-  pub same : TellTheSame told old between
-  pub counted_same : CountTheSame faults old between
-  pub leaves : EachDisk given (λ redo before after. Leaves given (log_told was) answered redo (told before) (told after)) between new
-  pub answer : (done : Restarted) → answered ≡ Ok done → IfTold (log_told was) (λ is. IsAnswer given is done)
-  pub refused : (e : CcError) → answered ≡ Err e → IsRefused faults given (log_told was) between new e
-  pub log_stays : log_told now ≡ log_told was
-  pub log_counted : log_count now ≡ log_count was + log_faults answered
-  pub counted : EachDisk given (λ redo before after. IsCounted answered (faults before) (faults after)) between new
-
--- Or it was not, since a record could not be read, or memory was wanting.
-abbrev pub LogRestarted : {D L : Type 0} → (D → Option Disk) → (D → ℕ) → (L → Option Log) → (L → ℕ) → ℕ → List StreamLine
-    → Result Numbers CcError → List D → List D → L → L → Type 0
-LogRestarted told faults log_told log_count handle streams ended old new was now =
-    ((e : CcError) × (ended ≡ Err e) × (now ≡ was)
-    × (RecordFailed told faults handle streams e old new
-    ⊎ ((e ≡ error.NoMemory) × TellTheSame told old new × CountTheSame faults old new)))
-    ⊎ WasRestarted told faults log_told log_count handle streams ended old new was now
-
--- The restarts of a script's lines, one after the other, each of another log.
-abbrev pub LogsRestarted : {D L : Type 0} → (D → Option Disk) → (D → ℕ) → (L → Option Log) → (L → ℕ) → List StreamLine
-    → List RestartLine → List LogRestart → List D → List D → List L → List L → Type 0
-LogsRestarted told faults log_told log_count streams [] [] old new logs logs_after = (new ≡ old) × (logs_after ≡ logs)
-LogsRestarted {D} {L} told faults log_told log_count streams (restart ∷ restarts) (ended ∷ more) old new logs logs_after =
-    (between : List D) × (was : L) × (now : L)
-    × (ended.line ≡ restart.line) × (ended.handle ≡ restart.handle)
-    × (slice_get logs restart.handle ≡ Some was)
-    × LogRestarted told faults log_told log_count restart.handle streams ended.ended old between was now
-    × LogsRestarted told faults log_told log_count streams restarts more between new (slice_set logs restart.handle now) logs_after
-LogsRestarted told faults log_told log_count streams restarts ended old new logs logs_after = ⊥
-
--- the last LSN that a restart read is none, or one that an entry may have
-abbrev pub HasLast : LogRestart → Type 0
-HasLast ended = IfOk ended.ended (λ numbers. numbers.last ≤ 2 ^ 62)
-
--- the restarts of these lines ended so
-abbrev pub AreEnded : List RestartLine → List LogRestart → Type 0
-AreEnded restarts ended =
-    (map (λ restart. restart.line) ended ≡ map (λ restart. restart.line) restarts)
-    × (map (λ restart. restart.handle) ended ≡ map (λ restart. restart.handle) restarts) × All HasLast ended
-
--- the log is flushed up to its last LSN, where there is one
-abbrev pub EndTold : Setup → ℕ → ℕ → ℕ → Answer → Between
-EndTold u handle last updates (answer.Restarted n) old new = (n ≡ updates) × LastFlushed u handle last old new
-EndTold u handle last updates (answer.Refused e) old new = LogFlushLeft {T = Unit {0}} u 0 handle last (Err e) old new
-EndTold u handle last updates other old new = ⊥
-
--- what a restart answered before its log was flushed is told, or the flush's refusal is
+-- A restart that was done is answered with the number of its updates behind the flush of its log, or with the flush's refusal; one
+-- that was refused is answered so, and leaves nothing.
 abbrev pub TellsEnd : Setup → ℕ → Result Numbers CcError → Answer → Between
-TellsEnd u handle (Ok numbers) told old new = EndTold u handle numbers.last numbers.updates told old new
+TellsEnd u handle (Ok numbers) told old new = RestartEnded u handle (last_number numbers.last) numbers.updates told old new
 TellsEnd u handle (Err e) told old new = (told ≡ answer.Refused e) × IsIdle 0 old new
 
--- The restarts were ended one after the other, and each line was answered so.
+-- these are the ends of a script's restarts
+pub record AreEndsOf (restarts : List RestartLine) (ended : List LogRestart) : Type 0 where
+  pub lines : map (λ restart. restart.line) ended ≡ map (λ restart. restart.line) restarts
+  pub handles : map (λ restart. restart.handle) ended ≡ map (λ restart. restart.handle) restarts
+  pub refusals : AllByRecursion (λ restart. IsOwnRefusal restart.ended) ended
+
+-- the line of one restart, which says that the journal is full only where it was
+pub record EndLeft (u : Setup) (restart : LogRestart) (reply : LineReply) (old new : List Entry) : Type 0 where
+  pub line_is : reply.line ≡ restart.line
+  pub told : TellsEnd u restart.handle restart.ended reply.answer old new
+  pub room : HadNoRoom u 4 reply.answer old new
+
+-- the restarts were ended one after the other, and each line was answered so
 abbrev pub RestartsEnded : Setup → List LogRestart → List LineReply → Between
-RestartsEnded u [] [] old new = IsIdle 0 old new
+RestartsEnded u [] [] old new = new ≡ old
 RestartsEnded u (restart ∷ restarts) (reply ∷ replies) old new =
-    (between : List Entry) × (reply.line ≡ restart.line) × TellsEnd u restart.handle restart.ended reply.answer old between
-    × RestartsEnded u restarts replies between new
+    (between : List Entry) × EndLeft u restart reply old between × RestartsEnded u restarts replies between new
 RestartsEnded u restarts replies old new = ⊥
+
+-- The run tells the restarts by its first replies, and its journal begins with what their ends left.
+pub record RestartsTold (u : Setup) (ended : List LogRestart) (replies : List LineReply) (past : List Entry) : Type 0 where
+  pub first : List LineReply
+  pub others : List LineReply
+  pub begun : List Entry
+  pub later : List Entry
+  pub replies_are : replies ≡ first ++ others
+  pub grew : past ≡ later ++ begun
+  pub ended_are : RestartsEnded u ended first [] begun
+
+-- Between the disks and the logs that were handed in and those with which the run of a script began, its restarts were made, one
+-- after the other, and the run tells how they ended.
+pub record RanBehind {D L : Type 0} (told : D → Option Disk) (faults : D → ℕ) (log_told : L → Option Log) (log_faults : L → ℕ)
+    (u : Setup) (script : Script) (replies : List LineReply) (past : List Entry) (disks disks_begun : List D) (logs logs_begun : List L)
+    : Type 0 where
+  pub ended : List LogRestart
+  pub made : LogsRestarted told faults log_told log_faults script.streams script.restarts ended disks disks_begun logs logs_begun
+  pub told : RestartsTold u ended replies past
+
+-- The restarts of a script were made, and then memory was wanting for its run.
+pub record MadeAlone {D L : Type 0} (told : D → Option Disk) (faults : D → ℕ) (log_told : L → Option Log) (log_faults : L → ℕ)
+    (script : Script) (disks disks_begun : List D) (logs logs_begun : List L) : Type 0 where
+  pub ended : List LogRestart
+  pub made : LogsRestarted told faults log_told log_faults script.streams script.restarts ended disks disks_begun logs logs_begun
+
+-- those of the script that the words ask for, where the program ended for want of memory
+pub record MadeOf {D L : Type 0} (told : D → Option Disk) (faults : D → ℕ) (log_told : L → Option Log) (log_faults : L → ℕ)
+    (i : Input) (status : ℕ) (disks disks_begun : List D) (logs logs_begun : List L) : Type 0 where
+  pub status_is : status ≡ 6
+  pub script : Script
+  pub asked : IsAsked i script
+  pub alone : MadeAlone told faults log_told log_faults script disks disks_begun logs logs_begun
+
+-- disks and logs are as they were handed in
+pub record AreUntouched {D L : Type 0} (disks disks_begun : List D) (logs logs_begun : List L) : Type 0 where
+  pub disks_are : disks_begun ≡ disks
+  pub logs_are : logs_begun ≡ logs
+
+-- Without a run nothing was restarted, or memory was wanting behind the restarts.
+abbrev pub LeftAlone : {D L : Type 0} → (D → Option Disk) → (D → ℕ) → (L → Option Log) → (L → ℕ) → Input → ℕ → List D → List D
+    → List L → List L → Type 0
+LeftAlone told faults log_told log_faults i status disks disks_begun logs logs_begun =
+    AreUntouched disks disks_begun logs logs_begun
+    ⊎ MadeOf told faults log_told log_faults i status disks disks_begun logs logs_begun

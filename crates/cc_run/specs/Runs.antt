@@ -1,5 +1,5 @@
 -- What a script left that was run: what explains its answers, by its mode, and what comes back.
-use Rattle.std.specs.Prelude.{◌≡◌, ℕ, ◌*◌, List, [], ◌∷◌, Result, Ok, Err, IfSome, length, reverse}
+use Rattle.std.specs.Prelude.{◌≡◌, ℕ, ◌*◌, List, [], IfSome, drop, length, reverse}
 use Rattle.std.specs.declared.option.Option.{Option}
 use Rattle.std.specs.declared.option.Option.TheVariants.{Some, None}
 use Rattle.cc_entry.specs.declared.answer.LineReply.{LineReply}
@@ -23,12 +23,8 @@ use Rattle.cc_run.specs.Logs.{LogsLeft}
 use Rattle.cc_run.specs.Places.{AreAsyncQueued, AreQueued, taken_at}
 use Rattle.cc_run.specs.Setups.{setup_of}
 use Rattle.cc_run.specs.declared.modes.RunResult.{RunResult}
-use Rattle.cc_entry.specs.declared.answer.Answer.{Answer}
-use Rattle.cc_entry.specs.declared.answer.Answer.TheVariants as answer
-use Rattle.cc_entry.specs.declared.error.CcError.{CcError}
-use Rattle.cc_run.specs.declared.restarts.LogRestart.{LogRestart}
-use Rattle.cc_run.specs.declared.restarts.Numbers.{Numbers}
-use Rattle.cc_run.specs.Restarting.{LogsRestarted}
+use Rattle.cc_run.specs.declared.modes.RestartedRun.{RestartedRun}
+use Rattle.cc_run.specs.Restarting.{RanBehind}
 
 -- A past explains what a script was answered: in a run, by what each caller's lines left between two moments, and by these
 -- requests that the read-ahead worker took; in steps, by one event a line.
@@ -47,10 +43,14 @@ abbrev pub AreAsyncQueuedBy : Mode → Script → Answered → List (PlaceState 
 AreAsyncQueuedBy mode.Run script told places = AreAsyncQueued (given_of script) told places
 AreAsyncQueuedBy mode.Steps script told places = places ≡ []
 
+-- the replies of a script's lines behind those of its restarts, those of the streams first
+abbrev pub run_replies : Script → List LineReply → List LineReply
+run_replies script replies = drop (length script.restarts) replies
+
 -- the numbers of the deferred writes of a script's `defer` lines, where one was run
 abbrev pub deferrals_in : Option Script → List LineReply → List (Option ℕ)
 deferrals_in None replies = []
-deferrals_in (Some script) replies = deferrals_by script.streams script.lines replies
+deferrals_in (Some script) replies = deferrals_by script.streams script.lines (run_replies script replies)
 
 -- how many ticks a script asks for in its phases, where one was run; in steps there are none
 abbrev pub ticks_asked : Mode → Option Script → ℕ
@@ -78,26 +78,10 @@ pub record HasRun {D L Q : Type 0} (tells : Tells D L Q) (m : Mode) (script : Sc
   pub posts_left : PostsLeft tells.posted (deferrals_in (Some script) ran.replies.items) (reverse ran.journal.items)
       posts ran.posts.items
 
--- a restart that was done tells the number of its updates, or that its log was not flushed; one that was refused that
-abbrev pub TellsRestart : Result Numbers CcError → Answer → Type 0
-TellsRestart (Ok numbers) (answer.Restarted n) = n ≡ numbers.updates
-TellsRestart (Ok numbers) (answer.Refused e) = Unit {0}
-TellsRestart (Ok numbers) other = ⊥
-TellsRestart (Err e) told = told ≡ answer.Refused e
-
--- what the restarts of a script answered, by the first replies of its run
-abbrev pub TellRestarts : List LogRestart → List LineReply → Type 0
-TellRestarts [] replies = Unit {0}
-TellRestarts (ended ∷ more) [] = ⊥
-TellRestarts (ended ∷ more) (reply ∷ replies) = TellsRestart ended.ended reply.answer × TellRestarts more replies
-
--- A script was run behind its restarts: these left the disks and the logs over which it was run.
+-- A script was run behind its restarts, over the disks and the logs that these left.
 pub record HasRunBehind {D L Q : Type 0} (tells : Tells D L Q) (m : Mode) (script : Script) (disks : List D) (logs : List L)
-    (posts : List Q) (ran : RunResult D L Q) : Type 0 where
-  pub ended : List LogRestart
-  pub disks_begun : List D
-  pub logs_begun : List L
-  pub restarted : LogsRestarted tells.disk tells.disk_faults tells.log tells.log_faults script.streams script.restarts ended
-      disks disks_begun logs logs_begun
-  pub told : TellRestarts ended ran.replies.items
-  pub ran : HasRun tells m script disks_begun logs_begun posts ran
+    (posts : List Q) (done : RestartedRun D L Q) : Type 0 where
+  pub behind : RanBehind tells.disk tells.disk_faults tells.log tells.log_faults
+      (setup_of tells.disk tells.disk_faults script done.disks_begun.value.items done.logs_begun.value.items) script
+      done.ran.replies.items (reverse done.ran.journal.items) disks done.disks_begun.value.items logs done.logs_begun.value.items
+  pub ran : HasRun tells m script done.disks_begun.value.items done.logs_begun.value.items posts done.ran

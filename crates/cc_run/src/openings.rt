@@ -1,8 +1,12 @@
 //! The streams of a script on a desk, each of which is opened before the first line.
 
-ghost use Rattle.std.specs.Prelude.{◌≡◌, ◌≢◌, ℕ, ◌+◌, ◌<◌, ◌≤◌, length, vec_len, vec_capacity};
+ghost use Rattle.std.specs.Prelude.{◌≡◌, ◌≢◌, ℕ, ◌+◌, ◌<◌, ◌≤◌, None, length, vec_len, vec_capacity};
 ghost use Rattle.cc_effects.specs.Moments.{IsIdle};
 ghost use Rattle.cc_turns.specs.Desk.{standing_of};
+ghost use Rattle.cc_calls.specs.Answers.{CanCall};
+ghost use Rattle.cc_calls.specs.Pages.{WentOn};
+ghost use Rattle.cc_lines.specs.Line.{IsFullTold};
+ghost use Rattle.cc_pieces.specs.Openings.{OpeningBehind};
 ghost use Rattle.cc_run.specs.Desks.{IsReady, IsSameRun};
 ghost use Rattle.cc_run.specs.Lines.{StreamsOpened};
 ghost use Rattle.cc_pieces.specs.Restarts.{refused_for, refused_restart};
@@ -14,12 +18,13 @@ use cc_traits::{LogFile, PageDisk, PostRoutine};
 use cc_turns::Desk;
 use std::alloc::Global;
 
-/// Opens the streams in their order as pass 0, but those whose log was not restarted, and puts the answer of each line behind
-/// the replies, which begin with those of the restarts.
+/// Opens the streams in their order as pass 0, but those whose log was not restarted, by the replies of the restarts, and puts the
+/// answer of each line behind the replies that are there.
 pub(crate) fn open_streams<D: PageDisk, L: LogFile, Q: PostRoutine>(
     alloc: Global,
     desk: &mut Desk<D, L, Q>,
     restarts: &[RestartLine],
+    ended: &[LineReply],
     streams: &[StreamLine],
     replies: &mut Vec<LineReply>,
 )
@@ -28,9 +33,8 @@ pub(crate) fn open_streams<D: PageDisk, L: LogFile, Q: PostRoutine>(
     requires ready { IsReady (standing_of D.told D.faults L.told L.faults desk.old) }
     requires known { length streams.now ≤ (standing_of D.told D.faults L.told L.faults desk.old).streams }
     requires few { length streams.now ≤ 16 }
-    requires ended { vec_len replies.old ≡ length restarts.now }
     requires room { vec_len replies.old + length streams.now ≤ vec_capacity replies.old }
-    ensures opened { StreamsOpened (standing_of D.told D.faults L.told L.faults desk.old).setup restarts.now 0 streams.now
+    ensures opened { StreamsOpened (standing_of D.told D.faults L.told L.faults desk.old).setup restarts.now ended.now 0 streams.now
         replies.old.items replies.new.items desk.old.last.entries desk.new.last.entries }
     ensures alone { (me : ℕ) → me ≢ 0 → IsIdle me desk.old.last.entries desk.new.last.entries }
     ensures run { IsSameRun (standing_of D.told D.faults L.told L.faults desk.old)
@@ -40,10 +44,8 @@ pub(crate) fn open_streams<D: PageDisk, L: LogFile, Q: PostRoutine>(
 {
     let mut number = 0;
     for stream in streams {
-        let answer = match refused_for(stream.log, restarts, replies) {
-            Some(error) => Answer::Refused(error),
-            None => open_stream(alloc, desk, number, stream),
-        };
+        let refused = refused_for(stream.log, restarts, ended);
+        let answer = open_behind(alloc, desk, number, stream, refused);
         replies.push_reserved(LineReply {
             line: stream.line,
             answer,
@@ -51,6 +53,29 @@ pub(crate) fn open_streams<D: PageDisk, L: LogFile, Q: PostRoutine>(
         number += 1;
     }
     desk.own();
+}
+
+// Opens a stream, but where the restart of its log was refused: then its line is answered so.
+fn open_behind<D: PageDisk, L: LogFile, Q: PostRoutine>(
+    alloc: Global,
+    desk: &mut Desk<D, L, Q>,
+    number: u8,
+    stream: &StreamLine,
+    refused: Option<CcError>,
+) -> Answer
+    requires can { CanCall (standing_of D.told D.faults L.told L.faults desk.old) number }
+    requires first { desk.old.pass ≡ 0 }
+    requires few { number < 16 }
+    ensures opened { OpeningBehind (standing_of D.told D.faults L.told L.faults desk.old).setup number stream.now refused result
+        desk.old.last.entries desk.new.last.entries }
+    ensures full { refused ≡ None → IsFullTold (standing_of D.told D.faults L.told L.faults desk.new) result }
+    ensures goes_on { WentOn (standing_of D.told D.faults L.told L.faults desk.old)
+        (standing_of D.told D.faults L.told L.faults desk.new) }
+{
+    match refused {
+        Some(error) => Answer::Refused(error),
+        None => open_stream(alloc, desk, number, stream),
+    }
 }
 
 // By what the restart of a stream's log was refused, where the stream has one.

@@ -1,159 +1,24 @@
-//! The restarts of a script: before the desk is made, the streams that are stored are redone on their disks from their logs.
+//! The lines of the restarts of a script, whose restarts were made before the desk: each log is flushed, and each line answered.
 
-ghost use Rattle.std.specs.Prelude.{◌≡◌, ◌≢◌, ℕ, ◌+◌, ◌<◌, ◌≤◌, All, IfOk, IfErr, length, vec_capacity, vec_len};
+ghost use Rattle.std.specs.Prelude.{◌≡◌, ◌≢◌, ℕ, ◌+◌, ◌≤◌, [], length, vec_capacity};
 ghost use Rattle.cc_effects.specs.Moments.{IsIdle};
 ghost use Rattle.cc_turns.specs.Desk.{standing_of};
+ghost use Rattle.std.specs.List.{AllByRecursion};
+ghost use Rattle.cc_calls.specs.Answers.{IsFree};
+ghost use Rattle.cc_calls.specs.Pages.{WentOn};
+ghost use Rattle.cc_lines.specs.Line.{IsFullTold};
+ghost use Rattle.cc_restarts.specs.Restarting.{IsOwnRefusal};
 ghost use Rattle.cc_run.specs.Desks.{IsReady, IsSameRun};
-ghost use Rattle.cc_run.specs.Restarting.{GivenTo, HasLast, LogRestarted, LogsRestarted, RestartsEnded, TellTheSame, CountTheSame, is_restarted, with_handle};
+ghost use Rattle.cc_run.specs.Restarting.{RestartsEnded, TellsEnd, last_number};
 
-use cc_entry::{Answer, CcError, LineReply};
-use cc_format::StreamRecord;
+use cc_entry::{Answer, LineReply, Lsn};
 use cc_lines::end_restart;
-use cc_redo::{Redo, restart, stored_record};
-use cc_script::{RestartLine, StreamLine};
+use cc_restarts::LogRestart;
 use cc_traits::{LogFile, PageDisk, PostRoutine};
 use cc_turns::Desk;
-use std::alloc::Global;
 
-/// The greatest size of a stream, and one more: 2^63.
-const SIZES: u64 = 9223372036854775808;
-
-/// What a restart that was done answered.
-#[derive(Clone, Copy)]
-pub(crate) struct Numbers {
-    /// The greatest LSN that was read, 0 where there was none.
-    pub(crate) last: u64,
-    /// How many updates of the streams the log has.
-    pub(crate) updates: u64,
-}
-
-/// How the restart of a line ended.
-#[derive(Clone, Copy)]
-pub(crate) struct LogRestart {
-    pub(crate) line: u32,
-    pub(crate) handle: u8,
-    pub(crate) ended: Result<Numbers, CcError>,
-}
-
-/// Restarts the streams of each log that a line names, one line after the other, and puts how each ended behind those that are
+/// Ends the restarts as pass 0, each that was done by a flush of its log, and puts the answer of each line into the room that is
 /// there.
-pub(crate) fn restart_logs<D: PageDisk, L: LogFile>(
-    alloc: Global,
-    streams: &[StreamLine],
-    restarts: &[RestartLine],
-    logs: &mut [L],
-    disks: &mut [D],
-    ended: &mut Vec<LogRestart>,
-)
-    requires handles { All (λ restart. restart.handle < length logs.old) restarts.now }
-    requires enough { length streams.now ≤ length disks.old }
-    requires few { length streams.now ≤ 16 }
-    requires none { vec_len ended.old ≡ 0 }
-    requires room { length restarts.now ≤ vec_capacity ended.old }
-    ensures restarted { LogsRestarted D.told D.faults L.told L.faults streams.now restarts.now ended.new.items
-        disks.old disks.new logs.old logs.new }
-{
-    for restart in restarts {
-        let handle = restart.handle;
-        let log = &mut logs[usize::from(handle)];
-        ended.push_reserved(LogRestart {
-            line: restart.line,
-            handle,
-            ended: restart_log(alloc, streams, handle, log, disks),
-        });
-    }
-}
-
-// Restarts the stored streams of a log, with the numbers of their records.
-fn restart_log<D: PageDisk, L: LogFile>(
-    alloc: Global,
-    streams: &[StreamLine],
-    handle: u8,
-    log: &mut L,
-    disks: &mut [D],
-) -> Result<Numbers, CcError>
-    requires enough { length streams.now ≤ length disks.old }
-    requires few { length streams.now ≤ 16 }
-    ensures { LogRestarted D.told D.faults L.told L.faults handle streams.now result disks.old disks.new log.old log.new }
-{
-    let given = given_to(alloc, streams, handle, disks)?;
-    match restart(alloc, log, &given, disks) {
-        Ok(done) => Ok(Numbers {
-            last: done.last,
-            updates: done.updates,
-        }),
-        Err(error) => Err(with_handle(error, handle)),
-    }
-}
-
-// The error of a log as that of its handle.
-fn with_handle(error: CcError, handle: u8) -> CcError
-    ensures { result ≡ with_handle handle error }
-{
-    match error {
-        CcError::LogFault { .. } => CcError::LogFault {
-            handle: u64::from(handle),
-        },
-        _ => error,
-    }
-}
-
-// The streams that are given to the restart of a log. Their records are read for that.
-fn given_to<D: PageDisk>(
-    alloc: Global,
-    streams: &[StreamLine],
-    handle: u8,
-    disks: &mut [D],
-) -> Result<Vec<Redo>, CcError>
-    requires enough { length streams.now ≤ length disks.old }
-    requires few { length streams.now ≤ 16 }
-    ensures given { IfOk result (λ given. GivenTo D.told disks.old handle 0 streams.now given.items) }
-    ensures same { TellTheSame D.told disks.old disks.new }
-    ensures counted { IfOk result (λ given. CountTheSame D.faults disks.old disks.new) }
-{
-    let mut given = Vec::new(alloc);
-    let mut number = 0;
-    for stream in streams {
-        if is_restarted(stream, handle) {
-            let read = stored_record(&mut disks[usize::from(number)])?;
-            if let Some(redo) = redo_of(number, stream, read) {
-                given.push(redo)?;
-            }
-        }
-        number += 1;
-    }
-    Ok(given)
-}
-
-// Whether a stream is stored and has the log.
-fn is_restarted(stream: &StreamLine, handle: u8) -> bool
-    ensures { result ≡ is_restarted handle stream.now }
-{
-    match stream.log {
-        Some(log) => stream.stored && log == handle,
-        None => false,
-    }
-}
-
-// A stream with the numbers of its record, or else of its line, where they are sizes.
-fn redo_of(number: u8, stream: &StreamLine, read: Option<StreamRecord>) -> Option<Redo> {
-    let (size, valid) = match read {
-        Some(told) => (told.size(), told.valid()),
-        None => (stream.size, stream.valid),
-    };
-    if valid <= size && size < SIZES {
-        Some(Redo {
-            stream: number,
-            disk: number,
-            size,
-            valid,
-        })
-    } else {
-        None
-    }
-}
-
-/// Ends the restarts as pass 0, each by a flush of its log, and puts the answer of each line behind the replies.
 pub(crate) fn end_restarts<D: PageDisk, L: LogFile, Q: PostRoutine>(
     desk: &mut Desk<D, L, Q>,
     ended: &[LogRestart],
@@ -162,25 +27,55 @@ pub(crate) fn end_restarts<D: PageDisk, L: LogFile, Q: PostRoutine>(
     requires first { desk.old.pass ≡ 0 }
     requires begins { desk.old.since ≡ desk.old.last.entries }
     requires ready { IsReady (standing_of D.told D.faults L.told L.faults desk.old) }
-    requires none { vec_len replies.old ≡ 0 }
+    requires none { replies.old.items ≡ [] }
     requires room { length ended.now ≤ vec_capacity replies.old }
-    requires in_range { All HasLast ended.now }
+    requires refusals { AllByRecursion (λ restart. IsOwnRefusal restart.ended) ended.now }
     ensures ended { RestartsEnded (standing_of D.told D.faults L.told L.faults desk.old).setup ended.now
         replies.new.items desk.old.last.entries desk.new.last.entries }
     ensures alone { (me : ℕ) → me ≢ 0 → IsIdle me desk.old.last.entries desk.new.last.entries }
     ensures run { IsSameRun (standing_of D.told D.faults L.told L.faults desk.old)
         (standing_of D.told D.faults L.told L.faults desk.new) }
     ensures ready { IsReady (standing_of D.told D.faults L.told L.faults desk.new) }
-    ensures capacity { vec_capacity replies.new ≡ vec_capacity replies.old }
 {
     for restart in ended {
-        let answer = match restart.ended {
-            Ok(numbers) => end_restart(desk, restart.handle, numbers.last, numbers.updates),
-            Err(error) => Answer::Refused(error),
-        };
+        let answer = end_one(desk, restart);
         replies.push_reserved(LineReply {
             line: restart.line,
             answer,
         });
+    }
+    desk.own();
+}
+
+// Ends one restart, and answers its line.
+fn end_one<D: PageDisk, L: LogFile, Q: PostRoutine>(
+    desk: &mut Desk<D, L, Q>,
+    restart: &LogRestart,
+) -> Answer
+    requires can { IsFree (standing_of D.told D.faults L.told L.faults desk.old) }
+    requires first { desk.old.pass ≡ 0 }
+    ensures ended { TellsEnd (standing_of D.told D.faults L.told L.faults desk.old).setup restart.now.handle restart.now.ended result
+        desk.old.last.entries desk.new.last.entries }
+    ensures full { IsOwnRefusal restart.now.ended → IsFullTold (standing_of D.told D.faults L.told L.faults desk.new) result }
+    ensures goes_on { WentOn (standing_of D.told D.faults L.told L.faults desk.old)
+        (standing_of D.told D.faults L.told L.faults desk.new) }
+{
+    match restart.ended {
+        Ok(numbers) => {
+            let last = last_number(numbers.last);
+            end_restart(desk, restart.handle, last, numbers.updates)
+        }
+        Err(error) => Answer::Refused(error),
+    }
+}
+
+// The number of the last LSN that a restart read, 0 where there was none.
+fn last_number(last: Option<Lsn>) -> u64
+    ensures same { result ≡ last_number last }
+    ensures in_range { result ≤ 2 ^ 62 }
+{
+    match last {
+        Some(lsn) => lsn.number(),
+        None => 0,
     }
 }

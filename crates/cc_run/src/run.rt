@@ -19,15 +19,16 @@ ghost use Rattle.cc_run.specs.Places.{AreAsyncQueued, AreQueued, new_places, que
 ghost use Rattle.cc_queue.specs.Places.{new_place};
 ghost use Rattle.cc_turns.specs.Places.{IsRoomFor};
 ghost use Rattle.std.specs.List.{AllByRecursion};
-ghost use Rattle.cc_run.specs.Runs.{HasRunBehind};
-ghost use Rattle.cc_run.specs.Restarting.{AreEnded};
+ghost use Rattle.cc_run.specs.Runs.{HasRun, run_replies};
+ghost use Rattle.cc_run.specs.Restarting.{AreEndsOf, RestartsTold};
+ghost use Rattle.cc_run.specs.Setups.{setup_of};
 
 use crate::aheads::Aheads;
 use crate::modes::{MOST_DISKS, MOST_LOGS, RunResult};
 use crate::openings::open_streams;
 use crate::phases::serve_phases;
 use crate::posts::{Mark, settle};
-use crate::restarts::{LogRestart, end_restarts, restart_logs};
+use crate::restarts::end_restarts;
 use crate::row::{first_of, put_back};
 use crate::table::printed_rows;
 use crate::ticks::Ticks;
@@ -36,6 +37,7 @@ use cc_entry::{LineReply, NoMemory, Request};
 use cc_journal::Parts;
 use cc_lines::{Names, Places, Queues};
 use cc_queue::QueuePlace;
+use cc_restarts::LogRestart;
 use cc_script::Script;
 use cc_traits::{Gate, LogFile, PageDisk, PostRoutine, Setup};
 use cc_turns::Desk;
@@ -49,8 +51,8 @@ const CALLERS: usize = 16;
 /// The passes that have a place at the queue of read-ahead: the callers and the two workers.
 const PLACES: usize = CALLERS + 2;
 
-/// Runs a script over the first disks that are handed in, 16 at most, and the first logs, 4 at most, which come back
-/// with the others. Where memory is wanting before the run begins, they come back as they were.
+/// Runs a script, whose restarts ended so, over the first disks that are handed in, 16 at most, and the first logs, 4 at most,
+/// which come back with the others. Where memory is wanting before the run begins, they come back as they were.
 pub(crate) fn run_script<
     R: Threads + Wait + Sync,
     D: PageDisk + Send,
@@ -61,6 +63,7 @@ pub(crate) fn run_script<
     rt: &R,
     alloc: Global,
     script: &Script,
+    ended: &[LogRestart],
     gate: &P,
     disks: Vec<D>,
     logs: Vec<L>,
@@ -70,20 +73,22 @@ pub(crate) fn run_script<
     requires of_mode { IsOfMode mode.Run script.now }
     requires enough { has_devices (length disks.items) (length logs.items) (length posts.items) script.now ≡ true }
     requires posts { All (λ routine. Q.posted routine ≡ false) posts.items }
-    ensures ran { IfOk result (HasRunBehind (tells_of D.told D.faults L.told L.faults Q.posted) mode.Run script.now
+    requires ended { AreEndsOf script.now.restarts ended.now }
+    ensures ran { IfOk result (HasRun (tells_of D.told D.faults L.told L.faults Q.posted) mode.Run script.now
         disks.items logs.items posts.items) }
+    ensures told { IfOk result (λ ran. RestartsTold (setup_of D.told D.faults script.now disks.items logs.items) ended.now
+        ran.replies.items (reverse ran.journal.items)) }
     ensures kept { IfErr result (λ back. back.0.items ≡ disks.items) }
     ensures logs_kept { IfErr result (λ back. back.1.items ≡ logs.items) }
     ensures posts_kept { IfErr result (λ back. back.2.items ≡ posts.items) }
 {
     let mut rest = disks;
     let mut further = logs;
-    let restarts = script.restarts.as_slice();
-    let count = restarts.len() + script.streams.len() + script.lines.as_slice().len();
+    let count = ended.len() + script.streams.len() + script.lines.as_slice().len();
     let Ok(replies) = Vec::with_capacity(alloc, count) else {
         return Err((rest, further, posts));
     };
-    let Ok(mut ended) = Vec::with_capacity(alloc, restarts.len()) else {
+    let Ok(told) = Vec::with_capacity(alloc, ended.len()) else {
         return Err((rest, further, posts));
     };
     let Ok((queues, mut first)) = Queues::new(alloc) else {
@@ -109,20 +114,12 @@ pub(crate) fn run_script<
     let Ok(ticks) = Ticks::with_room(alloc, script.ticks, script.phases) else {
         return Err((rest, further, posts));
     };
-    let Ok(mut disks) = first_of(alloc, &mut rest, MOST_DISKS) else {
+    let Ok(disks) = first_of(alloc, &mut rest, MOST_DISKS) else {
         return Err((rest, further, posts));
     };
-    let Ok(mut logs) = first_of(alloc, &mut further, MOST_LOGS) else {
+    let Ok(logs) = first_of(alloc, &mut further, MOST_LOGS) else {
         return Err((put_back(disks, rest), further, posts));
     };
-    restart_logs(
-        alloc,
-        script.streams.as_slice(),
-        restarts,
-        &mut logs,
-        &mut disks,
-        &mut ended,
-    );
     let setup = Setup {
         disks,
         logs,
@@ -150,7 +147,8 @@ pub(crate) fn run_script<
                 desk,
                 &queues,
                 names,
-                &ended,
+                ended,
+                told,
                 replies,
                 ticks,
                 aheads,
@@ -219,6 +217,7 @@ fn run_on<
     queues: &Queues,
     names: Vec<Names>,
     ended: &[LogRestart],
+    told: Vec<LineReply>,
     replies: Vec<LineReply>,
     ticks: Ticks,
     aheads: Aheads,
@@ -235,8 +234,10 @@ fn run_on<
     requires deferring { defer_lines script.now.lines ≤ length posts.items }
     requires unposted { All (λ routine. Q.posted routine ≡ false) posts.items }
     requires none { replies.items ≡ [] }
-    requires ended { AreEnded script.now.restarts ended.now }
-    requires room { length script.now.restarts + (length script.now.streams + length script.now.lines) ≤ vec_capacity replies }
+    requires ended { AreEndsOf script.now.restarts ended.now }
+    requires none_told { told.items ≡ [] }
+    requires told_room { length ended.now ≤ vec_capacity told }
+    requires room { length ended.now + (length script.now.streams + length script.now.lines) ≤ vec_capacity replies }
     requires ticks { ticks.each ≡ script.now.ticks }
     requires no_ticks { ticks.answers.items ≡ [] }
     requires tick_room { script.now.ticks * script.now.phases ≤ vec_capacity ticks.answers }
@@ -253,6 +254,8 @@ fn run_on<
     ensures explained { IsExplained (standing_of D.told D.faults L.told L.faults desk).setup
         (given_of script.now) (run_answered result.replies.items result.ticks.items result.aheads.items)
         (taken_at result.places.items) (reverse result.journal.items) }
+    ensures told { RestartsTold (standing_of D.told D.faults L.told L.faults desk).setup ended.now result.replies.items
+        (reverse result.journal.items) }
     ensures queued { AreQueued (given_of script.now) (run_answered result.replies.items result.ticks.items result.aheads.items)
         result.places.items (reverse result.journal.items) }
     ensures async_queued { AreAsyncQueued (given_of script.now)
@@ -263,17 +266,21 @@ fn run_on<
         (length desk.begun.disks) (reverse result.journal.items) result.disks.items }
     ensures logs { LogsStand L.told L.faults (standing_of D.told D.faults L.told L.faults desk).logs
         (length desk.begun.logs) (reverse result.journal.items) result.logs.items }
-    ensures posts { PostsLeft Q.posted (deferrals_by script.now.streams script.now.lines result.replies.items)
+    ensures posts { PostsLeft Q.posted
+        (deferrals_by script.now.streams script.now.lines (run_replies script.now result.replies.items))
         (reverse result.journal.items) posts.items result.posts.items }
 {
     let mut desk = desk;
+    let mut told = told;
     let mut replies = replies;
     let mut ticks = ticks;
-    end_restarts(&mut desk, ended, &mut replies);
+    end_restarts(&mut desk, ended, &mut told);
+    desk.act_as(0);
     open_streams(
         alloc,
         &mut desk,
         script.restarts.as_slice(),
+        &told,
         script.streams.as_slice(),
         &mut replies,
     );
@@ -304,8 +311,9 @@ fn run_on<
         ..
     } = desk.end();
     let posts = settle(script, &mut replies, &journal, posts);
+    replies.reverse();
     RunResult {
-        replies,
+        replies: put_back(told, replies),
         ticks: ticks.answers,
         aheads,
         places,
