@@ -63,9 +63,10 @@ pub fn check_run(case: &Case, stage: &Stage, left: &Left) -> Result<()> {
     Ok(())
 }
 
-/// What a crash may leave of the record page of each disk is what the journal says, where the run gave that back.
+/// What a crash may leave of the record page of each disk is what the journal says, where the run gave that back and restarted
+/// nothing.
 fn check_records(case: &Case, left: &Left) -> Result<()> {
-    if left.status == 6 {
+    if left.status == 6 || left.restarts {
         return Ok(());
     }
     let plans = case.disks.iter().zip(left.disks.iter());

@@ -469,10 +469,10 @@ restart-gives n ws restart e =
     subst (λ (restart : RestartLine). restart.handle < 4) end.1 (omega (arith, most))
 
 restarts-onto : (restarts : List RestartLine) (last : RestartLine) → last.handle < 4 → has_restart last.handle restarts ≡ false → AreRestartsWithin restarts → AreRestartsWithin (restarts ++ last ∷ [])
-restarts-onto [] last low none all = (low, (refl, tt))
+restarts-onto [] last low none all = (low, refl, tt)
 restarts-onto (restart ∷ restarts) last low none all =
     let parts = neither (restart.handle == last.handle) (has_restart last.handle restarts) none in
-    (all.0, (other-onto restart.handle restarts last all.1.0 (other-way restart.handle last.handle parts.0), restarts-onto restarts last low parts.1 all.1.1))
+    (all.0, other-onto restart.handle restarts last all.1 (other-way restart.handle last.handle parts.0), restarts-onto restarts last low parts.1 all.2)
   where
     other-way : (a b : ℕ) → (a == b) ≡ false → (b == a) ≡ false
     other-way a b e = grind (arith, nat_tests, e)
@@ -495,7 +495,14 @@ restart-so_far m n restart r new in_mode low is e =
     subst (IsSoFar m n) same
     (record {
       within = record {
-        header = w.header;
+        header = record {
+          least_journal = w.header.least_journal;
+          most_journal = w.header.most_journal;
+          least_threshold = w.header.least_threshold;
+          most_threshold = w.header.most_threshold;
+          most_ticks = w.header.most_ticks;
+          most_aheads = w.header.most_aheads;
+        };
         first_phase = w.first_phase;
         last_phase = w.last_phase;
         few_streams = w.few_streams;
