@@ -3,9 +3,7 @@
 ghost use Rattle.std.specs.Prelude.{◌≡◌, ◌≢◌, ℕ, ◌+◌, ◌<◌, ◌≤◌, None, length, vec_len, vec_capacity};
 ghost use Rattle.cc_effects.specs.Moments.{IsIdle};
 ghost use Rattle.cc_turns.specs.Desk.{standing_of};
-ghost use Rattle.cc_calls.specs.Answers.{CanCall};
-ghost use Rattle.cc_calls.specs.Pages.{WentOn};
-ghost use Rattle.cc_lines.specs.Line.{IsFullTold};
+ghost use Rattle.cc_lines.specs.Line.{IsFullTold, WentOn};
 ghost use Rattle.cc_pieces.specs.Openings.{OpeningBehind};
 ghost use Rattle.cc_run.specs.Desks.{IsReady, IsSameRun};
 ghost use Rattle.cc_run.specs.Lines.{StreamsOpened};
@@ -63,8 +61,9 @@ fn open_behind<D: PageDisk, L: LogFile, Q: PostRoutine>(
     stream: &StreamLine,
     refused: Option<CcError>,
 ) -> Answer
-    requires can { CanCall (standing_of D.told D.faults L.told L.faults desk.old) number }
     requires first { desk.old.pass ≡ 0 }
+    requires ready { IsReady (standing_of D.told D.faults L.told L.faults desk.old) }
+    requires known { number < (standing_of D.told D.faults L.told L.faults desk.old).streams }
     requires few { number < 16 }
     ensures opened { OpeningBehind (standing_of D.told D.faults L.told L.faults desk.old).setup number stream.now refused result
         desk.old.last.entries desk.new.last.entries }

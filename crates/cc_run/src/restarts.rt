@@ -4,9 +4,7 @@ ghost use Rattle.std.specs.Prelude.{◌≡◌, ◌≢◌, ℕ, ◌+◌, ◌≤�
 ghost use Rattle.cc_effects.specs.Moments.{IsIdle};
 ghost use Rattle.cc_turns.specs.Desk.{standing_of};
 ghost use Rattle.std.specs.List.{AllByRecursion};
-ghost use Rattle.cc_calls.specs.Answers.{IsFree};
-ghost use Rattle.cc_calls.specs.Pages.{WentOn};
-ghost use Rattle.cc_lines.specs.Line.{IsFullTold};
+ghost use Rattle.cc_lines.specs.Line.{IsFree, IsFullTold, WentOn};
 ghost use Rattle.cc_restarts.specs.Restarting.{IsOwnRefusal};
 ghost use Rattle.cc_run.specs.Desks.{IsReady, IsSameRun};
 ghost use Rattle.cc_run.specs.Restarting.{RestartsEnded, TellsEnd, last_number};
