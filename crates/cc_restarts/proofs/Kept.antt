@@ -83,6 +83,17 @@ module _ {D L : Type 0} (told : D → Option Disk) (faults : D → ℕ) (log_tol
       (set-tells logs restart.handle restarted.1 restarted.2 restarted.5 (one-tells restart.handle streams one.ended old restarted.0 restarted.1 restarted.2 restarted.6))
       (all-tell streams restarts ended restarted.0 new (slice_set logs restart.handle restarted.2) logs_after restarted.7)
 
+  -- the log of no restart is as it was
+  pub all-logs_kept : (streams : List StreamLine) (restarts : List RestartLine) (ended : List LogRestart) (old new : List D) (logs logs_after : List L) →
+      LogsRestarted told faults log_told log_count streams restarts ended old new logs logs_after → (k : ℕ) → All (λ restart. restart.handle ≢ k) restarts →
+      slice_get logs_after k ≡ slice_get logs k
+  all-logs_kept streams [] [] old new logs logs_after restarted k apart = ap (λ (l : List L). slice_get l k) restarted.1
+  all-logs_kept streams [] (one ∷ ended) old new logs logs_after restarted k apart = absurd restarted
+  all-logs_kept streams (restart ∷ restarts) [] old new logs logs_after restarted k apart = absurd restarted
+  all-logs_kept streams (restart ∷ restarts) (one ∷ ended) old new logs logs_after restarted k apart =
+      all-logs_kept streams restarts ended restarted.0 new (slice_set logs restart.handle restarted.2) logs_after restarted.7 k (λ i d inside. apart (suc i) d (omega arith))
+      ∙ get-set_other logs restart.handle k restarted.2 (apart 0 restart (omega arith))
+
   pub all-lines : (streams : List StreamLine) (restarts : List RestartLine) (ended : List LogRestart) (old new : List D) (logs logs_after : List L) →
       LogsRestarted told faults log_told log_count streams restarts ended old new logs logs_after → map (λ restart. restart.line) ended ≡ map (λ restart. restart.line) restarts
   all-lines streams [] [] old new logs logs_after restarted = refl

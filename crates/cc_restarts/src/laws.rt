@@ -1,6 +1,6 @@
 //! What follows of all restarts of a script.
 
-ghost use Rattle.std.specs.Prelude.{◌≡◌, ℕ, List, false, map, slice_get};
+ghost use Rattle.std.specs.Prelude.{◌≡◌, ◌≢◌, ℕ, List, false, map, slice_get};
 ghost use Rattle.std.specs.List.{All, AllByRecursion, list_any};
 ghost use Rattle.cc_script.specs.declared.script.RestartLine.{RestartLine};
 ghost use Rattle.cc_script.specs.declared.script.StreamLine.{StreamLine};
@@ -35,8 +35,8 @@ pub fn restarts_have_refusals_of_their_own<D: PageDisk, L: LogFile>()
         AllByRecursion (λ restart. IsOwnRefusal restart.ended) ended }
 {}
 
-/// Restarts leave each log telling what it told, answer the lines of the script in their order, and leave the disk of a stream
-/// that is restarted from none of the logs as it was.
+/// Restarts leave each log telling what it told, answer the lines of the script in their order, and leave as they were the disk
+/// of a stream that is restarted from none of the logs, and the log of no restart.
 pub fn restarts_keep_what_they_are_not_given<D: PageDisk, L: LogFile>()
     ensures logs { (streams : List StreamLine) → (restarts : List RestartLine) → (ended : List LogRestart) →
         (old new : List D) → (logs logs_after : List L) →
@@ -54,4 +54,8 @@ pub fn restarts_keep_what_they_are_not_given<D: PageDisk, L: LogFile>()
         (old new : List D) → (logs logs_after : List L) →
         LogsRestarted D.told D.faults L.told L.faults streams restarts ended old new logs logs_after → (s : ℕ) →
         All (λ restart. IsApart restart.handle streams s) restarts → slice_get new s ≡ slice_get old s }
+    ensures others { (streams : List StreamLine) → (restarts : List RestartLine) → (ended : List LogRestart) →
+        (old new : List D) → (logs logs_after : List L) →
+        LogsRestarted D.told D.faults L.told L.faults streams restarts ended old new logs logs_after → (k : ℕ) →
+        All (λ restart. restart.handle ≢ k) restarts → slice_get logs_after k ≡ slice_get logs k }
 {}

@@ -1,8 +1,8 @@
 -- A run on a desk: where it begins, what it may serve, and the disks at its end.
-use Rattle.std.specs.Prelude.{◌≡◌, ℕ, ◌+◌, ◌≤◌, nat_le, Bool, true, false, ◌&&◌, List, length, take, slice_get, refl}
+use Rattle.std.specs.Prelude.{◌≡◌, ℕ, zero, suc, ◌+◌, ◌<◌, ◌≤◌, nat_le, nat_lt, Bool, true, false, ◌&&◌, List, [], ◌∷◌, All, length, take, slice_get, refl}
 use Rattle.std.specs.List.{AllByRecursion, list_all}
 use Rattle.std.proofs.Common.{sym, ap, subst, ◌∙◌, arith}
-use Rattle.std.proofs.lemmas.Bool.{leb-true}
+use Rattle.std.proofs.lemmas.Bool.{leb-true, ltb-true}
 use Rattle.std.proofs.lemmas.List.{length-map, length-append}
 use Rattle.cc_entry.specs.declared.answer.LineReply.{LineReply}
 use Rattle.cc_entry.specs.declared.entry.Entry.{Entry}
@@ -13,6 +13,7 @@ use Rattle.std.specs.declared.option.Option.{Option}
 use Rattle.cc_script.specs.declared.script.Action.{Action}
 use Rattle.cc_script.specs.declared.script.Action.TheVariants as action
 use Rattle.cc_script.specs.declared.script.ActionLine.{ActionLine}
+use Rattle.cc_script.specs.declared.script.RestartLine.{RestartLine}
 use Rattle.cc_script.specs.declared.script.StreamLine.{StreamLine}
 use Rattle.cc_script.specs.declared.script.Mode.TheVariants as mode
 use Rattle.cc_script.specs.EventActions.{defer_lines}
@@ -105,20 +106,47 @@ both-true : (a b : Bool) → (a && b) ≡ true → (a ≡ true) × (b ≡ true)
 both-true true b is = (refl, is)
 both-true false b is = absurd (cc is)
 
--- where there are devices for a script, there is a disk for each stream, and a routine for each line that defers a write
+-- each restart is of one of so many logs
+restarted-within : (logs : ℕ) (restarts : List RestartLine) → list_all (λ restart. nat_lt restart.handle logs) restarts ≡ true → All (λ restart. restart.handle < logs) restarts
+restarted-within logs [] is = λ i d inside. absurd (omega arith)
+restarted-within logs (restart ∷ restarts) is = at
+  where
+    parts : (nat_lt restart.handle logs ≡ true) × (list_all (λ (r : RestartLine). nat_lt r.handle logs) restarts ≡ true)
+    parts = both-true (nat_lt restart.handle logs) (list_all (λ (r : RestartLine). nat_lt r.handle logs) restarts) is
+
+    at : All (λ (r : RestartLine). r.handle < logs) (restart ∷ restarts)
+    at zero d inside = ltb-true restart.handle logs parts.0
+    at (suc i) d inside = restarted-within logs restarts parts.1 i d (omega arith)
+
+-- where there are devices for a script, there is a disk for each stream, a log for each restart, and a routine for each line that
+-- defers a write
 module _ (disks logs posts : ℕ) (script : Script) (enough : has_devices disks logs posts script ≡ true) where
-  rests : (nat_le (length script.streams) disks ≡ true) × ((list_all (λ stream. has_log logs stream.log) script.streams && nat_le (defer_lines script.lines) posts) ≡ true)
-  rests = both-true (nat_le (length script.streams) disks) (list_all (λ stream. has_log logs stream.log) script.streams && nat_le (defer_lines script.lines) posts) enough
+  abbrev have_logs : Bool
+  have_logs = list_all (λ stream. has_log logs stream.log) script.streams
+
+  abbrev have_restarted : Bool
+  have_restarted = list_all (λ restart. nat_lt restart.handle logs) script.restarts
+
+  abbrev have_posts : Bool
+  have_posts = nat_le (defer_lines script.lines) posts
+
+  rests : (nat_le (length script.streams) disks ≡ true) × ((have_logs && (have_restarted && have_posts)) ≡ true)
+  rests = both-true (nat_le (length script.streams) disks) (have_logs && (have_restarted && have_posts)) enough
+
+  further : (have_restarted ≡ true) × (have_posts ≡ true)
+  further = both-true have_restarted have_posts (both-true have_logs (have_restarted && have_posts) rests.1).1
 
   pub enough-disks : length script.streams ≤ disks
   enough-disks = leb-true (length script.streams) disks rests.0
 
-  pub enough-posts : defer_lines script.lines ≤ posts
-  enough-posts = leb-true (defer_lines script.lines) posts (both-true (list_all (λ stream. has_log logs stream.log) script.streams) (nat_le (defer_lines script.lines) posts) rests.1).1
+  pub enough-logs : All (λ restart. restart.handle < logs) script.restarts
+  enough-logs = restarted-within logs script.restarts further.0
 
+  pub enough-posts : defer_lines script.lines ≤ posts
+  enough-posts = leb-true (defer_lines script.lines) posts further.1
 -- each stream has a reply
-pub opened-long : (u : Setup) (s : ℕ) (streams : List StreamLine) (before after : List LineReply) (old new : List Entry) → StreamsOpened u s streams before after old new → length after ≡ length before + length streams
-opened-long u s streams before after old new opened =
+pub opened-long : (u : Setup) (restarts : List RestartLine) (ended : List LineReply) (s : ℕ) (streams : List StreamLine) (before after : List LineReply) (old new : List Entry) → StreamsOpened u restarts ended s streams before after old new → length after ≡ length before + length streams
+opened-long u restarts ended s streams before after old new opened =
     ap length opened.grew ∙ (length-append before opened.answers ∙ ap (λ n. length before + n) (sym (length-map opened.answers (λ r. r.line)) ∙ (ap length opened.lines_are ∙ length-map streams (λ s. s.line))))
 
 -- the disks that a desk gives back stand for its journal, each having begun as the run did

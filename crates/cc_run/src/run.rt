@@ -1,6 +1,6 @@
 //! The run of a script: on a desk its streams are opened, its phases are served, and all comes back.
 
-ghost use Rattle.std.specs.Prelude.{◌≡◌, ◌+◌, ◌*◌, ◌≤◌, ◌++◌, [], ◌∷◌, All, IfOk, IfErr, IfSome, length, map, reverse, true, false, vec_capacity};
+ghost use Rattle.std.specs.Prelude.{◌≡◌, List, ◌+◌, ◌*◌, ◌≤◌, ◌++◌, [], ◌∷◌, All, IfOk, IfErr, IfSome, length, map, reverse, true, false, vec_capacity};
 ghost use Rattle.cc_journal.specs.Capacity.{IsWithinCapacity};
 ghost use Rattle.cc_model.specs.Good.{IsGood};
 ghost use Rattle.cc_turns.specs.Desk.{IsFresh, standing_of, tells_of};
@@ -20,6 +20,9 @@ ghost use Rattle.cc_queue.specs.Places.{new_place};
 ghost use Rattle.cc_turns.specs.Places.{IsRoomFor};
 ghost use Rattle.std.specs.List.{AllByRecursion};
 ghost use Rattle.cc_run.specs.Runs.{HasRun, run_replies};
+ghost use Rattle.cc_entry.specs.declared.entry.Entry.{Entry};
+ghost use Rattle.cc_run.specs.Begun.{HasBegun};
+ghost use Rattle.cc_run.specs.Desks.{IsReady, IsSameRun};
 ghost use Rattle.cc_run.specs.Restarting.{AreEndsOf, RestartsTold};
 ghost use Rattle.cc_run.specs.Setups.{setup_of};
 
@@ -274,16 +277,7 @@ fn run_on<
     let mut told = told;
     let mut replies = replies;
     let mut ticks = ticks;
-    end_restarts(&mut desk, ended, &mut told);
-    desk.act_as(0);
-    open_streams(
-        alloc,
-        &mut desk,
-        script.restarts.as_slice(),
-        &told,
-        script.streams.as_slice(),
-        &mut replies,
-    );
+    begin_run(alloc, &mut desk, script, ended, &mut told, &mut replies);
     let (desk, names, aheads) = serve_phases(
         rt,
         alloc,
@@ -324,6 +318,45 @@ fn run_on<
         logs,
         posts,
     }
+}
+
+// Ends the restarts of a script and opens its streams, as pass 0, and puts the answers of their lines into the room that is there.
+fn begin_run<D: PageDisk, L: LogFile, Q: PostRoutine>(
+    alloc: Global,
+    desk: &mut Desk<D, L, Q>,
+    script: &Script,
+    ended: &[LogRestart],
+    told: &mut Vec<LineReply>,
+    replies: &mut Vec<LineReply>,
+)
+    requires first { desk.old.pass ≡ 0 }
+    requires begins { desk.old.since ≡ desk.old.last.entries }
+    requires ready { IsReady (standing_of D.told D.faults L.told L.faults desk.old) }
+    requires empty { desk.old.last.entries ≡ [] }
+    requires known { length script.now.streams ≤ (standing_of D.told D.faults L.told L.faults desk.old).streams }
+    requires few { length script.now.streams ≤ 16 }
+    requires ended { AreEndsOf script.now.restarts ended.now }
+    requires none_told { told.old.items ≡ [] }
+    requires told_room { length ended.now ≤ vec_capacity told.old }
+    requires none { replies.old.items ≡ [] }
+    requires room { length script.now.streams ≤ vec_capacity replies.old }
+    ensures begun { (ends : List Entry) × HasBegun (standing_of D.told D.faults L.told L.faults desk.old).setup script.now ended.now
+        told.new.items replies.new.items ends desk.new.last.entries }
+    ensures run { IsSameRun (standing_of D.told D.faults L.told L.faults desk.old)
+        (standing_of D.told D.faults L.told L.faults desk.new) }
+    ensures ready { IsReady (standing_of D.told D.faults L.told L.faults desk.new) }
+    ensures capacity { vec_capacity replies.new ≡ vec_capacity replies.old }
+{
+    end_restarts(desk, ended, told);
+    desk.act_as(0);
+    open_streams(
+        alloc,
+        desk,
+        script.restarts.as_slice(),
+        told,
+        script.streams.as_slice(),
+        replies,
+    );
 }
 
 // The places of all passes at each queue, from the first pass on: those of the callers, and at the queue of read-ahead that of the

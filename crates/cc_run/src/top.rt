@@ -132,6 +132,7 @@ fn refused<K: Sink, D, L, Q>(
     ensures disks { result.disks ≡ disks }
     ensures logs { result.logs ≡ logs }
     ensures posts { result.posts ≡ posts }
+    ensures status { why ≡ NoRun.NoMemory → result.status ≡ 6 }
     ensures disks_begun { result.disks_begun.value ≡ disks }
     ensures logs_begun { result.logs_begun.value ≡ logs }
     ensures refused { (i : Input) → IsCause i why → IsRefused i (output K.told K.faults K.stalls out.old out.new) result.status }
