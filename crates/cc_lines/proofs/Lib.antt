@@ -11,6 +11,7 @@ pub mod ShimCalls
 pub mod ShimServed
 pub mod SettleServed
 pub mod CheckpointServed
+pub mod RestartEnds
 pub mod StoredOpenings
 pub mod FullLines
 pub mod UseLines

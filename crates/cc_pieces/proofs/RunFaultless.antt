@@ -121,8 +121,7 @@ module _ (u : Setup) (n : ℕ) (handles : HasHandles u) where
     opened-none s (stream ∷ streams) [] old new few opened none = absurd opened
     opened-none s (stream ∷ streams) (reply ∷ replies) old new few opened none =
         let rest = left-opened u n handles restarts ended (suc s) streams replies opened.0 new (omega (arith, few)) opened.2 in
-        let front : ShowsNone opened.0 = none-front rest.during opened.0 (subst ShowsNone rest.grew none) in
-        (
+        let front : ShowsNone opened.0 = none-front rest.during opened.0 (subst ShowsNone rest.grew none) in (
           behind-none s stream (refused_for stream.log restarts ended) reply.answer old opened.0 (refused_for-none stream.log restarts ended calm) opened.1.opened front,
           opened-none (suc s) streams replies opened.0 new (omega (arith, few)) opened.2 none,
         )
@@ -193,7 +192,7 @@ explained-none u n handles given told taken past few below within is none calm =
     ended : TellNone is.ended
     ended =
         let first : take (length given.restarts) told.replies ≡ is.ended =
-            ap (take (length given.restarts)) is.replies_are ∙ take_at is.ended (is.setup ++ is.answers) (length given.restarts) as-many in
+        ap (take (length given.restarts)) is.replies_are ∙ take_at is.ended (is.setup ++ is.answers) (length given.restarts) as-many in
         subst TellNone first calm
 
     answers : TellNone is.answers

@@ -38,6 +38,8 @@ mod queued_reads;
 #[cfg(test)]
 mod readers;
 #[cfg(test)]
+mod redo;
+#[cfg(test)]
 mod script;
 #[cfg(test)]
 mod sent;

@@ -1,12 +1,15 @@
-//! What the lines of restarts leave between two moments, and those of streams behind them.
+//! What the lines of restarts leave between two moments, those of streams behind them, and a checkpoint.
 
-ghost use Rattle.std.specs.Prelude.{◌≡◌, [], Some, None};
+ghost use Rattle.std.specs.Prelude.{◌≡◌, [], ◌∷◌, Some, None};
 ghost use Rattle.cc_entry.specs.declared.error.CcError.TheVariants as error;
 ghost use Rattle.cc_entry.specs.declared.answer.Answer.TheVariants as answer;
+ghost use Rattle.cc_pieces.specs.Checkpoints.{record_of_rows};
 ghost use Rattle.cc_pieces.specs.Restarts.{refused_for};
 ghost use Rattle.cc_worked.specs.Values.{unit, Leaves, LeavesNothing};
 ghost use Rattle.cc_worked.specs.PiecesRuns.{full_at, opens, opens_with};
 ghost use Rattle.cc_worked.specs.PiecesRestarts.{OneRestart, OneStreamBehind, restart_flushes, restart_flush_fails, first_write_fails, two_restarts, second_refused};
+ghost use Rattle.cc_worked.specs.PiecesRestarts.{OneCheckpoint, first_dirty, one_row_record, checkpoint_made};
+ghost use Rattle.cc_worked.specs.PiecesShim.{logged};
 
 /// Pass 0 flushes a log that was restarted, where the log has an entry. A restart that was refused left nothing, or the failure
 /// of that flush.
@@ -31,4 +34,12 @@ pub fn streams_stay_closed_behind_a_refused_restart()
     ensures not_opened { Leaves (OneStreamBehind first_write_fails) unit [] (opens_with 0) → ⊥ }
     ensures no_other_refusal { LeavesNothing (OneStreamBehind first_write_fails) (answer.Refused error.NoMemory) [] → ⊥ }
     ensures calls_nothing { Leaves (OneStreamBehind first_write_fails) (answer.Refused first_write_fails) [] opens → ⊥ }
+{}
+
+/// A checkpoint asks for the table and for the states, syncs the streams of the log, and appends its record, up to which it
+/// flushes the log; the LSN of the record is its answer.
+pub fn checkpoint_makes_its_calls()
+    ensures record { record_of_rows (first_dirty ∷ []) ≡ one_row_record }
+    ensures made { Leaves OneCheckpoint (answer.NewLsn 3) (logged 8192) checkpoint_made }
+    ensures not_nothing { LeavesNothing OneCheckpoint unit (logged 8192) → ⊥ }
 {}
