@@ -4,6 +4,7 @@ use Rattle.std.specs.declared.option.Option.TheVariants.{Some}
 use Rattle.std.specs.List.{AllByRecursion, count_by}
 use Rattle.std.proofs.Common.{ap, sym, subst, ◌∙◌, arith}
 use Rattle.std.proofs.lemmas.List.{length-map}
+use Rattle.std.proofs.lemmas.List.Sums.{sum_by-append}
 use Rattle.std.proofs.lemmas.Option.{slice_get_within}
 use Rattle.cc_async.specs.declared.queue.QueuedRead.{QueuedRead}
 use Rattle.cc_entry.specs.declared.answer.Answer.{Answer}
@@ -44,6 +45,10 @@ record TellSame (after before : List (Action × Answer)) : Type 0 where
   empties : count_by finds_empty after ≡ count_by finds_empty before
   fulls : count_by finds_full after ≡ count_by finds_full before
 
+-- a line in front of others counts with them
+counted-more : (test : Action × Answer → Bool) (line : Action × Answer) (lines : List (Action × Answer)) → count_by test (line ∷ lines) ≡ count_by test (line ∷ []) + count_by test lines
+counted-more test line lines = sum_by-append (λ l. cond (test l) 1 0) (line ∷ []) lines
+
 same-line : (asked : Action) (told kept : Answer) (after before : List (Action × Answer)) → TellsPart asked told kept → TellSame after before → TellSame ((asked, kept) ∷ after) ((asked, told) ∷ before)
 same-line action.Post told kept after before part rest =
     record { queued = rest.queued; done = rest.done; empties = rest.empties; fulls = rest.fulls }
@@ -53,8 +58,12 @@ same-line asked told kept after before part rest =
     (record {
       queued = ap (with_queued asked told) rest.queued;
       done = ap (with_done asked told) rest.done;
-      empties = ap (λ n. cond (finds_empty (asked, told)) 1 0 + n) rest.empties;
-      fulls = ap (λ n. cond (finds_full (asked, told)) 1 0 + n) rest.fulls;
+      empties =
+          counted-more finds_empty (asked, told) after
+          ∙ (ap (λ n. count_by finds_empty ((asked, told) ∷ []) + n) rest.empties ∙ sym (counted-more finds_empty (asked, told) before));
+      fulls =
+          counted-more finds_full (asked, told) after
+          ∙ (ap (λ n. count_by finds_full ((asked, told) ∷ []) + n) rest.fulls ∙ sym (counted-more finds_full (asked, told) before));
     })
 
 none-same : TellSame [] []

@@ -38,3 +38,4 @@ pub mod Working
 pub mod Queued
 pub mod Copied
 pub mod Untold
+pub mod StoredLines

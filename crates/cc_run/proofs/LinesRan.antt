@@ -1,11 +1,12 @@
 -- The run of the callers of a phase, from what its lines left one after the other.
 use Rattle.std.specs.declared.option.Option.TheVariants.{Some}
-use Rattle.std.specs.Prelude.{◌≡◌, ◌≢◌, ℕ, zero, suc, ◌<◌, ◌≤◌, ◌==◌, ◌&&◌, Bool, true, false, List, [], ◌∷◌, ◌++◌, length, map, slice_get, slice_set, refl, if◌then◌else◌}
+use Rattle.std.specs.Prelude.{◌≡◌, ◌≢◌, ℕ, zero, suc, ◌<◌, ◌≤◌, ◌==◌, ◌&&◌, Bool, true, false, List, [], ◌∷◌, ◌++◌, length, map, slice_get, slice_set, Result, Err, refl, if◌then◌else◌}
 use Rattle.std.specs.List.{AllByRecursion}
 use Rattle.std.proofs.Common.{sym, ap, subst, ◌∙◌, arith, append_assoc, get_or}
 use Rattle.std.proofs.lemmas.Bool.{eqb-true, eqb-false, eq-eqb, ne_eqb}
 use Rattle.std.proofs.lemmas.List.{length-map}
 use Rattle.std.proofs.lemmas.Option.{slice_get_within}
+use Rattle.cc_entry.specs.declared.error.CcError.{CcError}
 use Rattle.cc_entry.specs.declared.error.CcError.TheVariants as error
 use Rattle.cc_entry.specs.declared.answer.Answer.{Answer}
 use Rattle.cc_entry.specs.declared.answer.Answer.TheVariants as answer
@@ -18,7 +19,7 @@ use Rattle.cc_effects.specs.Moments.{IsIdle}
 use Rattle.cc_effects.proofs.Stretches.{idle-none, idle-then}
 use Rattle.cc_pieces.specs.Bindings.{Binding}
 use Rattle.cc_pieces.specs.Served.{bindings_after}
-use Rattle.cc_pieces.specs.Rooms.{WasFull, HadNoRoom, is_alone, room_limit}
+use Rattle.cc_pieces.specs.Rooms.{WasFull, HadNoRoom, ToldNoRoom, is_alone, room_limit}
 use Rattle.cc_pieces.specs.Runs.{Explains, Ran, asked_of}
 use Rattle.cc_pieces.specs.Phases.{is_of_phase, lazy_writer, read_ahead_worker}
 use Rattle.cc_pieces.specs.Explained.{answered_lines}
@@ -69,6 +70,11 @@ full-more u limit more entries old new least was = record {
 room-more : (u : Setup) (limit more : ℕ) (told : Answer) (old new : List Entry) → limit ≤ more → HadNoRoom u limit told old new → HadNoRoom u more told old new
 room-more u limit more (answer.Refused (error.JournalFull entries)) old new least had = full-more u limit more entries old new least had
 room-more u limit more (answer.NcRefused done (error.JournalFull entries)) old new least had = full-more u limit more entries old new least had
+room-more u limit more (answer.Completed (Some done)) old new least had = by done.answer had
+  where
+    by : (o : Result (List ℕ) CcError) → ToldNoRoom u limit o old new → ToldNoRoom u more o old new
+    by (Err (error.JournalFull entries)) had = full-more u limit more entries old new least had
+    by other had = tt
 room-more u limit more other old new least had = tt
 
 least-limit : (ticks aheads : ℕ) (alone : Bool) → 4 ≤ room_limit ticks aheads alone

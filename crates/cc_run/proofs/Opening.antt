@@ -95,14 +95,14 @@ seen-migration u s (answer.Given reply.Unit) old new left = seen-settle u (first
 seen-migration u s (answer.Refused e) old new left = seen-settle u (first_object_of s) (Err e) old new left
 seen-migration u s other old new left = absurd left
 
-seen-recorded : (u : Setup) (s : ℕ) (stream : StreamLine) (read : Option StreamRecord) (told : Answer) (old new : List Entry) → RecordedOpening u s stream read told old new → HasSeen old new
+pub seen-recorded : (u : Setup) (s : ℕ) (stream : StreamLine) (read : Option StreamRecord) (told : Answer) (old new : List Entry) → RecordedOpening u s stream read told old new → HasSeen old new
 seen-recorded u s stream None told old new opened = seen-logged u s (recorded_call s stream None) stream.log told old new opened
 seen-recorded u s stream (Some (V2 size valid)) told old new opened = seen-logged u s (recorded_call s stream (Some (V2 size valid))) stream.log told old new opened
 seen-recorded u s stream (Some (V1 size)) told old new (inl refused) = seen-logged u s (recorded_call s stream (Some (V1 size))) stream.log told old new refused.2
 seen-recorded u s stream (Some (V1 size)) told old new (inr done) =
     grew-then old done.0 new (seen-logged u s (recorded_call s stream (Some (V1 size))) stream.log (answer.Given reply.Unit) old done.0 done.1) (seen-migration u s told done.0 new done.2)
 
-seen-opening : (u : Setup) (s : ℕ) (stream : StreamLine) (stored : Bool) (told : Answer) (old new : List Entry) → StreamOpening u s stream stored told old new → HasSeen old new
+pub seen-opening : (u : Setup) (s : ℕ) (stream : StreamLine) (stored : Bool) (told : Answer) (old new : List Entry) → StreamOpening u s stream stored told old new → HasSeen old new
 seen-opening u s stream false told old new opened = seen-logged u s (opening_call s stream) stream.log told old new opened
 seen-opening u s stream true told old new (inl unread) = seen-load {A = Option StreamRecord} s (Err unread.0) old new unread.2
 seen-opening u s stream true told old new (inr is) =

@@ -47,6 +47,7 @@ room-stepped old new (Some request) (answer.Refused (error.JournalFull entries))
     (full-at new 32 entries 3 (omega arith) answered.during old.seen answered.grew idle (omega (arith, others, most, few)) full)
 room-stepped old new None (answer.Refused e) answered full others went none few = absurd answered
 room-stepped old new taken (answer.NcRefused done cause) answered full others went none few = absurd answered
+room-stepped old new taken (answer.Completed done) answered full others went none few = absurd answered
 room-stepped old new taken other answered full others went none few = tt
 
 -- ---- the steps so far, of which each took a request

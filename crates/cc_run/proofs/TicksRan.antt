@@ -58,6 +58,7 @@ room-ticked old new (answer.Refused (error.JournalFull entries)) answered full o
     subst (λ u. HadNoRoom u 32 (answer.Refused (error.JournalFull entries)) old.seen new.seen) setup
     (full-at new 32 entries 3 (omega arith) grew.0 old.seen grew.1 idle (omega (arith, others, most, few)) full)
 room-ticked old new (answer.NcRefused done cause) answered full others went none few = absurd answered
+room-ticked old new (answer.Completed done) answered full others went none few = absurd answered
 room-ticked old new other answered full others went none few = tt
 
 -- none were made yet

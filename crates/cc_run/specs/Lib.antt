@@ -21,3 +21,4 @@ pub mod Callers
 pub mod Threads
 pub mod Workers
 pub mod Once
+pub mod StoredLines

@@ -4,18 +4,22 @@ ghost use Rattle.std.specs.Prelude.{◌≡◌, ◌⊎◌, ◌<◌, ◌≤◌, �
 ghost use Rattle.std.specs.declared.option.Option.{Option};
 ghost use Rattle.cc_entry.specs.declared.answer.LineReply.{LineReply};
 ghost use Rattle.cc_entry.specs.declared.entry.Entry.{Entry};
+ghost use Rattle.cc_entry.specs.declared.place.Request.{Request};
 ghost use Rattle.cc_script.specs.declared.script.Script.{Script};
+ghost use Rattle.cc_script.specs.declared.script.StreamLine.{StreamLine};
 ghost use Rattle.cc_format.specs.Spelling.{IsReadAs};
 ghost use Rattle.cc_format.specs.declared.record.StreamRecord.{StreamRecord};
 ghost use Rattle.cc_model.specs.Good.{IsGood};
 ghost use Rattle.cc_model.specs.History.{history};
 ghost use Rattle.cc_model.specs.Records.{first_valid};
 ghost use Rattle.cc_model.specs.Setup.{Setup};
+ghost use Rattle.cc_pieces.specs.Explained.{Answered, Given, IsExplained};
 ghost use Rattle.cc_records.specs.Recorded.{told_valid, WasByte};
 ghost use Rattle.cc_traits.specs.Disk.{Disk, page_of, may_of};
 ghost use Rattle.cc_turns.specs.RecordPage.{record_number};
 ghost use Rattle.cc_run.specs.Disks.{DisksLeft};
 ghost use Rattle.cc_run.specs.Setups.{run_disks};
+ghost use Rattle.cc_run.specs.StoredLines.{StoredLine};
 ghost use Rattle.cc_run.specs.Ends.{Input, Output, HasFailed, HasTooFewDevices, IsAsked, IsEnded, IsPut, IsWrong, TookMany, printed_by};
 ghost use Rattle.cc_run.specs.Words.{command_of, is_command};
 
@@ -66,4 +70,14 @@ pub fn records_tell_what_was_there<D: PageDisk>()
         Contains (may_of now record_number) content → IsReadAs content read → i < told_valid read →
         4096 * p ≤ i → i < 4096 * p + 4096 → Contains (may_of now p) bytes →
         WasByte (page_of opening) past s i (slice_index bytes (i - 4096 * p)) }
+{}
+
+/// What follows of the clause `explained` of the program's call, of the line of a stored stream: where its record was read, what was
+/// read is what the record's page spelled at first, where the disk told its pages. For no record of the stream stands in the
+/// journal before its line.
+pub fn stored_streams_open_as_spelled()
+    ensures { (u : Setup) (given : Given) (told : Answered) (taken : List Request) (past : List Entry) →
+        IsExplained u given told taken past → (s : ℕ) (stream : StreamLine) (reply : LineReply) →
+        slice_get given.streams s ≡ Some stream → slice_get told.replies s ≡ Some reply → stream.stored ≡ true →
+        StoredLine u s stream reply.answer past }
 {}

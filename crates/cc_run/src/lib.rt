@@ -51,6 +51,9 @@ mod top;
 mod words;
 mod workers;
 
-pub use laws::{records_tell_what_was_there, runs_are_of_the_script, statuses_have_causes};
+pub use laws::{
+    records_tell_what_was_there, runs_are_of_the_script, statuses_have_causes,
+    stored_streams_open_as_spelled,
+};
 pub use no_run::NoRun;
 pub use top::{Ended, cache_main};

@@ -21,15 +21,15 @@ loop-own-preserved c =
     let own = c.in-Some.own in
     record {
       taken =
-          rw (c.push_reserved.ensures.items, c.into_places.ensures)
+          rw (c.push_reserved.ensures.items, c.into_places-ahead.ensures)
           (append_assoc c.loop-own.places.items (own.places.ahead ∷ []) (map (λ (own : NamesState). own.places.ahead) (reverse c.pop.new.self.items))
           ∙ (ap (λ l. c.loop-own.places.items ++ map (λ (own : NamesState). own.places.ahead) l) (sym (last_first c.loop-own.names.items c.pop.new.self.items own c.in-Some.ensures.items)) ∙ before.taken));
       copied =
-          rw (c.push_reserved-2.ensures.items, c.into_places.ensures)
+          rw (c.push_reserved-in-Some.ensures.items, c.into_places-ahead.ensures)
           (append_assoc c.loop-own.async_places.items (own.places.copies ∷ []) (map (λ (own : NamesState). own.places.copies) (reverse c.pop.new.self.items))
           ∙ (ap (λ l. c.loop-own.async_places.items ++ map (λ (own : NamesState). own.places.copies) l) (sym (last_first c.loop-own.names.items c.pop.new.self.items own c.in-Some.ensures.items)) ∙ before.copied));
-      async_counted = omega (arith, longer _ _ _ c.push_reserved-2.ensures.items, longer _ _ _ c.in-Some.ensures.items, before.async_counted);
-      async_room = rw c.push_reserved-2.ensures.capacity before.async_room;
+      async_counted = omega (arith, longer _ _ _ c.push_reserved-in-Some.ensures.items, longer _ _ _ c.in-Some.ensures.items, before.async_counted);
+      async_room = rw c.push_reserved-in-Some.ensures.capacity before.async_room;
       counted = omega (arith, longer _ _ _ c.push_reserved.ensures.items, longer _ _ _ c.in-Some.ensures.items, before.counted);
       room = rw c.push_reserved.ensures.capacity before.room;
     }

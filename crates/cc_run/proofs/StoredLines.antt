@@ -1,0 +1,152 @@
+-- At the line of a stored stream no record of it was written yet, so what the line read is what the page spelled at first.
+use Rattle.std.specs.Prelude.{◌≡◌, ◌≢◌, ℕ, zero, suc, ◌+◌, ◌<◌, ◌≤◌, true, false, List, [], ◌∷◌, ◌++◌, length, map, slice_get, refl}
+use Rattle.std.specs.declared.option.Option.TheVariants.{Some}
+use Rattle.std.specs.List.{list_any}
+use Rattle.std.proofs.Common.{sym, ap, subst, ◌∙◌, append_assoc, arith, inl, inr}
+use Rattle.std.proofs.lemmas.List.{append_cancel_right, length-map}
+use Rattle.std.proofs.lemmas.Option.{slice_get_within}
+use Rattle.cc_entry.specs.declared.answer.Answer.{Answer}
+use Rattle.cc_entry.specs.declared.answer.LineReply.{LineReply}
+use Rattle.cc_entry.specs.declared.entry.Entry.{Entry}
+use Rattle.cc_entry.specs.declared.place.Request.{Request}
+use Rattle.cc_script.specs.declared.script.StreamLine.{StreamLine}
+use Rattle.cc_model.specs.Passes.{HasSeen, is_mine}
+use Rattle.cc_model.specs.Setup.{Setup}
+use Rattle.cc_effects.specs.Moments.{IsIdle, Others}
+use Rattle.cc_effects.proofs.Stretches.{idle-none}
+use Rattle.cc_pieces.specs.Explained.{Answered, Given, IsExplained}
+use Rattle.cc_pieces.specs.Openings.{Opened, StreamOpening, is_record_of}
+use Rattle.cc_pieces.specs.Phases.{PhasesRan, Plan}
+use Rattle.cc_pieces.proofs.Grown.{grew-then}
+use Rattle.cc_pieces.proofs.LeftStreams.{IsLeft}
+use Rattle.cc_turns.proofs.Handles.{handle-below}
+use Rattle.cc_pieces.proofs.TickSteps.{left-ticks}
+use Rattle.cc_pieces.proofs.Unrecorded.{lines-unrecorded}
+use Rattle.cc_run.specs.StoredLines.{OpensAsSpelled, StoredLine}
+use Rattle.cc_run.proofs.Lists.{all-back, all-front, there}
+use Rattle.cc_run.proofs.Opening.{seen-opening, seen-recorded}
+use Rattle.cc_run.proofs.Rooms.{before}
+
+-- ---- a stretch in which a pass placed nothing, at a moment between
+
+idle-parts : (me : ℕ) (old between new : List Entry) → HasSeen old between → HasSeen between new → IsIdle me old new → IsIdle me old between × IsIdle me between new
+idle-parts me old between new first second idle = (
+  record { during = first.later; grew = first.grew; others = all-back (λ e. is_mine me e ≡ false) second.later first.later others },
+  record { during = second.later; grew = second.grew; others = all-front (λ e. is_mine me e ≡ false) second.later first.later others },
+)
+  where
+    grew : new ≡ (second.later ++ first.later) ++ old
+    grew = second.grew ∙ (ap (λ l. second.later ++ l) first.grew ∙ sym (append_assoc second.later first.later old))
+
+    others : Others me (second.later ++ first.later)
+    others = subst (Others me) (append_cancel_right idle.during (second.later ++ first.later) old (sym idle.grew ∙ grew)) idle.others
+
+-- pass 0 alone placed anything, and so it is up to a moment between, and from there on
+abbrev Alone : List Entry → List Entry → Type 0
+Alone old new = (me : ℕ) → me ≢ 0 → IsIdle me old new
+
+alone-front : (old between new : List Entry) → HasSeen old between → HasSeen between new → Alone old new → Alone old between
+alone-front old between new first second alone me other = (idle-parts me old between new first second (alone me other)).0
+
+alone-back : (old between new : List Entry) → HasSeen old between → HasSeen between new → Alone old new → Alone between new
+alone-back old between new first second alone me other = (idle-parts me old between new first second (alone me other)).1
+
+-- ---- the lines of the streams
+
+module _ (u : Setup) where
+  seen-opened : (s : ℕ) (streams : List StreamLine) (replies : List LineReply) (old new : List Entry) → Opened u s streams replies old new → HasSeen old new
+  seen-opened s [] [] old new opened = record { later = opened.during; grew = opened.grew }
+  seen-opened s [] (reply ∷ replies) old new opened = absurd opened
+  seen-opened s (stream ∷ streams) [] old new opened = absurd opened
+  seen-opened s (stream ∷ streams) (reply ∷ replies) old new opened =
+      grew-then old opened.0 new (seen-opening u s stream stream.stored reply.answer old opened.0 opened.1.opened)
+      (seen-opened (suc s) streams replies opened.0 new opened.2)
+
+  -- the line of a stored stream of which no record was written before
+  line-at : (s : ℕ) (stream : StreamLine) (told : Answer) (old new past : List Entry) → Alone old new → HasSeen new past → list_any (is_record_of s) old ≡ false → StreamOpening u s stream true told old new → StoredLine u s stream told past
+  line-at s stream told old new past alone since none (inl unread) = record { old = old; new = new; since = since; left = inl unread }
+  line-at s stream told old new past alone since none (inr is) = record {
+    old = old;
+    new = new;
+    since = since;
+    left = inr
+        (record {
+          read = is.read;
+          spelled = λ pages opens. is.at_first pages opens (lines-unrecorded u s s [] [] old is.loaded is.load first (omega arith) none);
+          loaded = is.loaded;
+          load = is.load;
+          opened = is.opened;
+        });
+  }
+    where
+      first : Alone old is.loaded
+      first =
+          alone-front old is.loaded new (record { later = is.load.during; grew = is.load.grew })
+          (seen-recorded u s stream is.read told is.loaded new is.opened) alone
+
+  -- and each of several, numbered from one on
+  lines-at : (s : ℕ) (streams : List StreamLine) (replies : List LineReply) (old new past : List Entry) → Opened u s streams replies old new → Alone old new → HasSeen new past → ((t : ℕ) → s ≤ t → list_any (is_record_of t) old ≡ false) → (n : ℕ) (stream : StreamLine) (reply : LineReply) → slice_get streams n ≡ Some stream → slice_get replies n ≡ Some reply → stream.stored ≡ true → StoredLine u (s + n) stream reply.answer past
+  lines-at s [] replies old new past opened alone since none n stream reply at answered stored = absurd (cc at)
+  lines-at s (first ∷ streams) [] old new past opened alone since none n stream reply at answered stored = absurd (cc answered)
+  lines-at s (first ∷ streams) (told ∷ replies) old new past opened alone since none n stream reply at answered stored =
+      by (λ n at answered. lines-at (suc s) streams replies opened.0 new past opened.2 (alone-back old opened.0 new here behind alone) since unwritten n stream reply at answered stored) n at answered
+    where
+      here : HasSeen old opened.0
+      here = seen-opening u s first first.stored told.answer old opened.0 opened.1.opened
+
+      behind : HasSeen opened.0 new
+      behind = seen-opened (suc s) streams replies opened.0 new opened.2
+
+      alone_here : Alone old opened.0
+      alone_here = alone-front old opened.0 new here behind alone
+
+      unwritten : (t : ℕ) → suc s ≤ t → list_any (is_record_of t) opened.0 ≡ false
+      unwritten t less =
+          lines-unrecorded u t s (first ∷ []) (told ∷ []) old opened.0 (opened.0, opened.1, idle-none 0 opened.0) alone_here
+          (omega (arith, less)) (none t (omega (arith, less)))
+
+      by : ((n : ℕ) → slice_get streams n ≡ Some stream → slice_get replies n ≡ Some reply → StoredLine u (suc s + n) stream reply.answer past) → (n : ℕ) → slice_get (first ∷ streams) n ≡ Some stream → slice_get (told ∷ replies) n ≡ Some reply → StoredLine u (s + n) stream reply.answer past
+      by later zero at answered =
+          let is : first ≡ stream = cc at in
+          let same : told ≡ reply = cc answered in
+          let left : StreamOpening u s stream stream.stored reply.answer old opened.0 =
+          subst (λ (r : LineReply). StreamOpening u s stream stream.stored r.answer old opened.0) same
+          (subst (λ (l : StreamLine). StreamOpening u s l l.stored told.answer old opened.0) is opened.1.opened) in
+          let number : s ≡ s + 0 = omega arith in
+          subst (λ m. StoredLine u m stream reply.answer past) number
+          (line-at s stream reply.answer old opened.0 past alone_here (grew-then opened.0 new past behind since) (none s (omega arith))
+          (subst (λ b. StreamOpening u s stream b reply.answer old opened.0) stored left))
+      by later (suc n) at answered =
+          let number : suc s + n ≡ s + suc n = omega arith in
+          subst (λ m. StoredLine u m stream reply.answer past) number (later n at answered)
+
+  -- the journal grew by the phases
+  left-seen : (me : ℕ) (old new : List Entry) → IsLeft u 0 me old new → HasSeen old new
+  left-seen me old new left = record { later = left.during; grew = left.grew }
+
+  seen-phases : (plan : Plan) (phase left : ℕ) (ticked stepped : List LineReply) (taken : List Request) (old new : List Entry) → PhasesRan u plan phase left ticked stepped taken old new → HasSeen old new
+  seen-phases plan phase zero ticked stepped taken old new ran = record { later = []; grew = ran.3 }
+  seen-phases plan phase (suc left) ticked stepped taken old new ran =
+      grew-then old ran.0 new (left-seen _ old ran.0 (left-ticks u 0 (λ past s handle legal is. handle-below u past s handle legal is) 32 phase _ old ran.0 ran.3.ticks))
+      (seen-phases plan (suc phase) left _ _ _ ran.0 new ran.4)
+
+-- So it is in a run.
+pub stored-lines : (u : Setup) (given : Given) (told : Answered) (taken : List Request) (past : List Entry) → IsExplained u given told taken past → (s : ℕ) (stream : StreamLine) (reply : LineReply) → slice_get given.streams s ≡ Some stream → slice_get told.replies s ≡ Some reply → stream.stored ≡ true → StoredLine u s stream reply.answer past
+stored-lines u given told taken past is s stream reply at answered stored =
+    let number : 0 + s ≡ s = omega arith in
+    subst (λ m. StoredLine u m stream reply.answer past) number
+    (lines-at u 0 given.streams is.setup [] is.begun past is.opened is.alone (seen-phases u _ 1 given.phases told.ticked told.stepped taken is.begun past is.ran)
+    (λ t less. refl) s stream reply at own stored)
+  where
+    long : length is.setup ≡ length given.streams
+    long = sym (length-map is.setup (λ r. r.line)) ∙ (ap length is.setup_lines ∙ length-map given.streams (λ l. l.line))
+
+    one : (r : LineReply) × (slice_get is.setup s ≡ Some r)
+    one = there is.setup s (omega (arith, slice_get_within given.streams s stream at, long))
+
+    own : slice_get is.setup s ≡ Some reply
+    own =
+        let whole : slice_get told.replies s ≡ Some one.0 =
+        subst (λ l. slice_get l s ≡ Some one.0) (sym is.replies_are) (before is.setup is.answers one.0 s one.1) in
+        let same : one.0 ≡ reply = cc (whole, answered) in
+        subst (λ (r : LineReply). slice_get is.setup s ≡ Some r) same one.1
