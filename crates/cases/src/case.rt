@@ -107,9 +107,9 @@ pub enum Sweep {
     Fails,
     /// Each of them but a log's flush finds no memory once.
     NoMemory,
-    /// The disks and logs stop together after each number of calls.
+    /// The disks and logs stop together after each number of calls, from none to all.
     StopsTogether,
-    /// Each of them stops after each number of its calls.
+    /// Each of them stops after each number of its calls, likewise.
     StopsAlone,
 }
 

@@ -10,24 +10,35 @@ use anyhow::{Context, Error, Result, anyhow, bail, ensure};
 use std::alloc::Global;
 
 /// Whether a trouble came.
-pub fn was_reached(trouble: Trouble, stage: &Stage, left: &Left) -> bool {
+fn was_reached(trouble: Trouble, stage: &Stage, left: &Left) -> bool {
     match trouble {
         Trouble::Fails(place) | Trouble::NoMemory(place) => match left.calls(place.device) {
             Some(calls) => place.number <= calls.made(place.kind),
             None => false,
         },
-        Trouble::Stops(device, after) => match left.calls(device) {
-            Some(calls) => after < calls.all(),
-            None => false,
-        },
-        Trouble::AllStop(after) => after < stage.calls(),
+        stop => { matches!(stop_in(stop, stage, left), Some((after, calls)) if after < calls) }
     }
 }
 
-/// What has to hold in every run: each trouble came and each fault was counted, nothing waited in vain, the gate was told of
-/// each call's two moments, and what was handed in is back in its order.
+/// Whether a sweep has a run with a trouble: it came, or it is the stop behind all the calls that there are.
+pub fn is_of_sweep(trouble: Trouble, stage: &Stage, left: &Left) -> bool {
+    was_reached(trouble, stage, left)
+        || matches!(stop_in(trouble, stage, left), Some((after, calls)) if after == calls)
+}
+
+/// After how many calls a stop comes, and how many there were that it could meet.
+fn stop_in(trouble: Trouble, stage: &Stage, left: &Left) -> Option<(u64, u64)> {
+    match trouble {
+        Trouble::Stops(device, after) => Some((after, left.calls(device)?.all())),
+        Trouble::AllStop(after) => Some((after, stage.calls())),
+        _ => None,
+    }
+}
+
+/// What has to hold in every run: each trouble of the case came and each fault was counted, nothing waited in vain, the gate was
+/// told of each call's two moments, what was handed in is back in its order, and the record pages are as the journal says.
 pub fn check_run(case: &Case, stage: &Stage, left: &Left) -> Result<()> {
-    for trouble in stage.troubles.iter() {
+    for trouble in case.troubles.iter() {
         ensure!(
             was_reached(*trouble, stage, left),
             "never reached: {trouble}"
@@ -63,10 +74,9 @@ pub fn check_run(case: &Case, stage: &Stage, left: &Left) -> Result<()> {
     Ok(())
 }
 
-/// What a crash may leave of the record page of each disk is what the journal says, where the run gave that back and restarted
-/// nothing.
+/// What a crash may leave of the record page of each disk is what the journal says, where the run restarted nothing.
 fn check_records(case: &Case, left: &Left) -> Result<()> {
-    if left.status == 6 || left.restarts {
+    if left.restarts {
         return Ok(());
     }
     let plans = case.disks.iter().zip(left.disks.iter());
@@ -82,7 +92,11 @@ fn check_records(case: &Case, left: &Left) -> Result<()> {
 
 /// The record page of a disk as the run finds it.
 fn opening_record(plan: &DiskPlan) -> [u8; 4096] {
-    let found = plan.pages.iter().find(|(page, _)| *page == RECORD_PAGE);
+    let found = plan
+        .pages
+        .iter()
+        .rev()
+        .find(|(page, _)| *page == RECORD_PAGE);
     match found {
         Some((_, bytes)) => whole_page(plan.fill, bytes),
         None => [plan.fill; 4096],
@@ -274,7 +288,10 @@ fn check_count(count: Count, wanted: u64, left: &Left) -> Result<()> {
             was == wanted,
             "{word} {device} {kind}: {was}, wanted {wanted}"
         ),
-        Count::Empties(pass) | Count::Fulls(pass) => ensure!(
+        Count::Empties(pass)
+        | Count::Fulls(pass)
+        | Count::AsyncEmpties(pass)
+        | Count::AsyncFulls(pass) => ensure!(
             was == wanted,
             "pass {pass} {word}: {was}, wanted {wanted}"
         ),

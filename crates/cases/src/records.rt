@@ -83,16 +83,17 @@ impl MayTell {
         Ok(())
     }
 
-    /// Whether what a disk may leave of the page, which the run found so, is what the entries say: among it, and all of it where
-    /// no transfer is open and everything ended well.
+    /// Whether what a disk may leave of the page, which the run found so, is what the entries say: each content is among those
+    /// that they tell, and it is all of them, in their order, where no transfer is open and everything ended well.
     pub fn fits(&self, may: &[[u8; 4096]], opening: &[u8; 4096]) -> bool {
-        let settled = self.open == 0 && self.well;
-        may.iter().all(|page| self.contents.iter().any(|one| is_told(*one, page, opening)))
-            && (!settled
-                || self
-                    .contents
+        if self.open == 0 && self.well {
+            return may.len() == self.contents.len()
+                && may
                     .iter()
-                    .all(|one| may.iter().any(|page| is_told(*one, page, opening))))
+                    .zip(self.contents.iter())
+                    .all(|(page, one)| is_told(*one, page, opening));
+        }
+        may.iter().all(|page| self.contents.iter().any(|one| is_told(*one, page, opening)))
     }
 }
 

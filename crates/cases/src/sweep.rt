@@ -2,7 +2,7 @@
 //! more call has trouble.
 
 use crate::case::{Case, Sweep, Want};
-use crate::expect::{check_failures, check_run, check_status, check_wants, was_reached};
+use crate::expect::{check_failures, check_run, check_status, check_wants, is_of_sweep};
 use crate::moments::Moments;
 use crate::run::run_once;
 use crate::stage::{Order, Stage};
@@ -95,7 +95,7 @@ fn push_first(
     Ok(())
 }
 
-/// Makes a run with each trouble from the first on, until one is not reached, and notes those that were.
+/// Makes a run with each trouble from the first on, until the sweep has none with the next, and notes those that it has.
 fn run_from<R: Threads + Wait + Sync>(
     rt: &R,
     alloc: Global,
@@ -116,8 +116,8 @@ fn run_from<R: Threads + Wait + Sync>(
     bail!("more than {MOST} runs from that where {first}")
 }
 
-/// Makes one run, in which a trouble comes beside those of the case, and checks it. Answers whether the trouble came: where
-/// it did not nothing is checked.
+/// Makes one run, in which a trouble comes beside those of the case, and checks it. Answers whether the sweep has such a run:
+/// where it has not, nothing is checked.
 fn run_with<R: Threads + Wait + Sync>(
     rt: &R,
     alloc: Global,
@@ -130,7 +130,7 @@ fn run_with<R: Threads + Wait + Sync>(
     let left = run_once(rt, alloc, case, script, &stage)?;
     let wants = match more {
         Some(trouble) => {
-            if !was_reached(trouble, &stage, &left) {
+            if !is_of_sweep(trouble, &stage, &left) {
                 return Ok(false);
             }
             wants_at(case, trouble)

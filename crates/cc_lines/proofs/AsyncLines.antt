@@ -1,6 +1,6 @@
 -- The lines of queued copied reads: where one is told of a full journal it found it so, what it leaves explains it, in the journal and
 -- at the queue, and the words stand on.
-use Rattle.std.specs.Prelude.{◌≡◌, ℕ, suc, Bool, true, false, Result, Ok, Err, List, [], ◌∷◌, ◌++◌, length, map, refl}
+use Rattle.std.specs.Prelude.{◌≡◌, ℕ, suc, true, false, Result, Ok, Err, List, [], ◌∷◌, refl}
 use Rattle.std.specs.declared.option.Option.{Option}
 use Rattle.std.specs.declared.option.Option.TheVariants.{Some, None}
 use Rattle.std.proofs.Common.{ap, arith, inl, subst, sym, ◌∙◌}
@@ -9,7 +9,6 @@ use Rattle.cc_entry.specs.Place.{File}
 use Rattle.cc_entry.specs.declared.answer.Answer.{Answer}
 use Rattle.cc_entry.specs.declared.answer.Answer.TheVariants as answer
 use Rattle.cc_entry.specs.declared.answer.AsyncDone.{AsyncDone}
-use Rattle.cc_entry.specs.declared.answer.AsyncId.{AsyncId}
 use Rattle.cc_entry.specs.declared.answer.AsyncStart.{AsyncStart}
 use Rattle.cc_entry.specs.declared.answer.AsyncStart.TheVariants as start
 use Rattle.cc_entry.specs.declared.call.Call.TheVariants as call

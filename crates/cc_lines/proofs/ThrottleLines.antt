@@ -27,7 +27,7 @@ use Rattle.cc_calls.specs.Pages.{StaysGood, WentOn}
 use Rattle.cc_calls.specs.Throttle.{DeferEnds, PostEnds}
 use Rattle.cc_lines.specs.Holds.{NamesState}
 use Rattle.cc_lines.specs.Line.{IsFullTold, LineServed}
-use Rattle.cc_lines.proofs.WordLines.{full-told, stand-on, went-on}
+use Rattle.cc_lines.proofs.WordLines.{stand-on}
 
 -- ---- the answer of a deferral
 

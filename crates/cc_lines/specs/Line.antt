@@ -10,7 +10,6 @@ use Rattle.cc_entry.specs.declared.answer.AheadDone.{AheadDone}
 use Rattle.cc_entry.specs.declared.answer.AsyncStart.{AsyncStart}
 use Rattle.cc_entry.specs.declared.answer.Answer.{Answer}
 use Rattle.cc_entry.specs.declared.answer.Answer.TheVariants as answer
-use Rattle.cc_entry.specs.declared.entry.Entry.{Entry}
 use Rattle.cc_entry.specs.declared.error.CcError.{CcError}
 use Rattle.cc_entry.specs.declared.reply.Reply.TheVariants as reply
 use Rattle.cc_entry.specs.declared.call.Call.{Call}

@@ -1,5 +1,5 @@
 -- Where the journal of a run shows no failure, no answer tells one.
-use Rattle.std.specs.Prelude.{◌≡◌, ◌≢◌, ℕ, zero, suc, ◌+◌, ◌<◌, ◌≤◌, Bool, true, false, List, [], ◌∷◌, ◌++◌, length, take, drop, map, refl, ◌⊎◌, if◌then◌else◌}
+use Rattle.std.specs.Prelude.{◌≡◌, ◌≢◌, ℕ, zero, suc, ◌+◌, ◌<◌, ◌≤◌, Bool, true, false, ◌==◌, List, [], ◌∷◌, ◌++◌, length, take, drop, map, refl, ◌⊎◌, if◌then◌else◌}
 use Rattle.std.specs.declared.option.Option.{Option}
 use Rattle.std.specs.declared.option.Option.TheVariants.{Some, None}
 use Rattle.std.specs.List.{AllByRecursion}
@@ -71,11 +71,12 @@ told-none other e none is = absurd (cc is)
 refused-none : (handle : ℕ) (restarts : List RestartLine) (ended : List LineReply) → TellNone ended → (e : CcError) → refused_restart handle restarts ended ≡ Some e → is_fault e ≡ false
 refused-none handle [] ended none e is = absurd (cc is)
 refused-none handle (restart ∷ restarts) [] none e is = absurd (cc is)
-refused-none handle (restart ∷ restarts) (reply ∷ ended) none e is = by (restart.handle == handle) is
+refused-none handle (restart ∷ restarts) (reply ∷ ended) none e is =
+    by (restart.handle == handle) (refused-none handle restarts ended none.1 e) is
   where
-    by : (b : Bool) → (if b then refusal_told reply.answer else refused_restart handle restarts ended) ≡ Some e → is_fault e ≡ false
-    by true is = told-none reply.answer e none.0 is
-    by false is = refused-none handle restarts ended none.1 e is
+    by : (b : Bool) → (refused_restart handle restarts ended ≡ Some e → is_fault e ≡ false) → (if b then refusal_told reply.answer else refused_restart handle restarts ended) ≡ Some e → is_fault e ≡ false
+    by true rest is = told-none reply.answer e none.0 is
+    by false rest is = rest is
 
 refused_for-none : (log : Option ℕ) (restarts : List RestartLine) (ended : List LineReply) → TellNone ended → (e : CcError) → refused_for log restarts ended ≡ Some e → is_fault e ≡ false
 refused_for-none None restarts ended none e is = absurd (cc is)

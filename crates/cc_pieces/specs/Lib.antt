@@ -8,6 +8,7 @@ pub mod Locks
 pub mod Served
 pub mod Rooms
 pub mod Restarts
+pub mod PlainReads
 pub mod PlainPages
 pub mod Runs
 pub mod Openings

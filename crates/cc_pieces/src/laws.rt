@@ -1,7 +1,7 @@
 //! How a caller's run grows, what a read in it answers, which test tells of a lock, and which holds words name. Each function does
 //! nothing: its contract is the law.
 
-ghost use Rattle.std.specs.Prelude.{◌≡◌, ◌≢◌, ◌≤◌, ◌+◌, ℕ, Bool, false, not, Some, None, List, [], ◌∷◌, ◌++◌, length, true, Err};
+ghost use Rattle.std.specs.Prelude.{◌≡◌, ◌≢◌, ◌≤◌, ◌+◌, ℕ, Bool, false, not, Some, None, List, [], ◌∷◌, ◌++◌, length, true, Ok, Err};
 ghost use Rattle.std.specs.List.{list_any};
 ghost use Rattle.std.specs.declared.option.Option.{Option};
 ghost use Rattle.cc_entry.specs.Kinds.{is_map, is_pin};
@@ -15,6 +15,8 @@ ghost use Rattle.cc_entry.specs.declared.reply.Reply.TheVariants as reply;
 ghost use Rattle.cc_entry.specs.declared.reply.Outcome.TheVariants as outcome;
 ghost use Rattle.cc_entry.specs.declared.answer.Answer.{Answer};
 ghost use Rattle.cc_entry.specs.declared.answer.Answer.TheVariants as answer;
+ghost use Rattle.cc_entry.specs.declared.answer.AsyncDone.{AsyncDone};
+ghost use Rattle.cc_entry.specs.declared.answer.AsyncStart.TheVariants as start;
 ghost use Rattle.cc_entry.specs.declared.answer.LineReply.{LineReply};
 ghost use Rattle.cc_entry.specs.declared.entry.Entry.{Entry};
 ghost use Rattle.cc_entry.specs.declared.entry.Entry.TheVariants as entry;
@@ -25,7 +27,6 @@ ghost use Rattle.cc_script.specs.declared.script.Action.TheVariants as action;
 ghost use Rattle.cc_model.specs.Setup.{Setup};
 ghost use Rattle.cc_model.specs.History.{Did, history};
 ghost use Rattle.cc_model.specs.Touches.{is_mapped};
-ghost use Rattle.cc_model.specs.Replies.{Reads};
 ghost use Rattle.cc_model.specs.Good.{IsGood};
 ghost use Rattle.cc_effects.specs.Moments.{IsIdle};
 ghost use Rattle.cc_effects.specs.Noncached.{pages_from};
@@ -35,6 +36,7 @@ ghost use Rattle.cc_pieces.specs.Openings.{Opened, is_record_of};
 ghost use Rattle.cc_pieces.specs.Restarts.{Restarted};
 ghost use Rattle.cc_pieces.specs.Locks.{TestLeft, tested_range};
 ghost use Rattle.cc_pieces.specs.PlainPages.{ArePlainPages};
+ghost use Rattle.cc_pieces.specs.PlainReads.{IsPlainRead};
 ghost use Rattle.cc_pieces.specs.Runs.{Explains, Ran, bindings_of};
 
 /// What explains a line explains it in every longer stretch in which the caller placed nothing else.
@@ -70,11 +72,22 @@ pub fn reads_answer_the_plain_file()
         (old new newer : List Entry) →
         IsGood u (newer ++ new) →
         Explains u limit me bindings (action.CopyRead file at len wait) (answer.Given (reply.Read bytes)) old new →
-        (nth : ℕ) × (later : List Entry) × (earlier : List Entry)
-        × (new ≡ later
-        ++ (entry.Call me nth (Some file.stream) (call.CopyRead file at len wait) (outcome.Done (reply.Read bytes))
-        ∷ (earlier ++ old)))
-        × Reads (u.opening file.stream) (history (earlier ++ old) file.stream) at len (reply.Read bytes) }
+        IsPlainRead u me file at len wait bytes old new }
+{}
+
+/// The same of a read that may be queued and was answered at once, and of the completion of a queued one: its bytes are those
+/// at the place of the completion's entry, not at that of the line that queued it (`CcAsyncCopyRead`).
+pub fn queued_reads_answer_the_plain_file()
+    ensures ready { (u : Setup) (limit me : ℕ) (bindings : List Binding) (file : File) (at len : ℕ) (bytes : List ℕ)
+        (old new newer : List Entry) →
+        IsGood u (newer ++ new) →
+        Explains u limit me bindings (action.AsyncRead file at len) (answer.Started (start.Ready bytes)) old new →
+        IsPlainRead u me file at len false bytes old new }
+    ensures completed { (u : Setup) (limit me : ℕ) (bindings : List Binding) (done : AsyncDone) (bytes : List ℕ)
+        (old new newer : List Entry) →
+        IsGood u (newer ++ new) → done.answer ≡ Ok bytes →
+        Explains u limit me bindings action.Complete (answer.Completed (Some done)) old new →
+        IsPlainRead u me done.file done.at done.len true bytes old new }
 {}
 
 /// In a good journal, each page that a noncached read answered has its entry in the piece of the line, and is whole but for

@@ -17,7 +17,8 @@
 mod laws;
 
 pub use laws::{
-    lines_without_hold_leave_nothing, no_record_is_written_before_its_line,
+    conflicts_are_tested, lines_without_hold_leave_nothing, no_record_is_written_before_its_line,
     noncached_reads_answer_the_plain_file, one_more_piece, others_go_on, pieces_stay_explained,
-    reads_answer_the_plain_file, uninitialise_tells_whether_the_map_went, words_name_holds,
+    queued_reads_answer_the_plain_file, reads_answer_the_plain_file,
+    uninitialise_tells_whether_the_map_went, words_name_holds,
 };

@@ -4,7 +4,7 @@ ghost use Rattle.std.specs.Prelude.{◌≡◌, false};
 ghost use Rattle.cc_calls.specs.Answers.{CanCall};
 ghost use Rattle.cc_turns.specs.Desk.{standing_of};
 
-use crate::desk::{desk_of, object};
+use crate::desk::{desk_of, disk, object};
 use cc_calls::{defer, initialize};
 use cc_entry::{CcError, FileId, FileSizes, Quota};
 use cc_journal::Parts;
@@ -65,7 +65,7 @@ fn a_routine_comes_back_from_a_full_queue(rt: HostRuntime) -> Result<(), Fail> {
         size: 8192,
         valid: 8192,
     };
-    let mut desk = desk_of(alloc, 128)?;
+    let mut desk = desk_of(alloc, vec![in alloc; disk(alloc)]?, 128)?;
     desk.act_as(1);
     assert_eq!(rt;
         initialize(alloc, &mut desk, file, sizes, quota, false),

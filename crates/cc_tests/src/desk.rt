@@ -1,10 +1,10 @@
-//! A test of a desk that is made, acted on and ended, and of the calls over it that no script makes.
+//! A test of a desk that is made, acted on and ended, and of a log that it has not, which no script names.
 
 ghost use Rattle.std.specs.Prelude.{◌≡◌, ◌≤◌, length, IfOk};
 ghost use Rattle.cc_turns.specs.Desk.{IsFresh};
 
 use crate::devices::Routine;
-use cc_calls::{initialize, set_attributes, set_granularity, set_log_handle, set_threshold};
+use cc_calls::{initialize, set_log_handle};
 use cc_entry::{CcError, FileId, FileSizes, Quota};
 use cc_journal::Parts;
 use cc_memdev::{DiskFails, LogFails, MemDisk, MemLog};
@@ -13,7 +13,7 @@ use cc_turns::{Desk, Turns};
 use std::alloc::Global;
 use std::test::Fail;
 
-fn disk(alloc: Global) -> MemDisk {
+pub(crate) fn disk(alloc: Global) -> MemDisk {
     let fails = DiskFails {
         reads: Vec::new(alloc),
         writes: Vec::new(alloc),
@@ -35,19 +35,21 @@ fn log(alloc: Global) -> MemLog {
 pub(crate) fn desk(alloc: Global) -> Result<Desk<MemDisk, MemLog, Routine>, Fail>
     ensures { IfOk result (λ desk. IsFresh desk.begun desk × (length desk.begun.disks ≡ 1)) }
 {
-    desk_of(alloc, 64)
+    desk_of(alloc, vec![in alloc; disk(alloc)]?, 64)
 }
 
-/// The same over other post routines, with a journal of so many entries.
+/// The same of these disks, over other post routines, with a journal of so many entries.
 pub(crate) fn desk_of<Q: PostRoutine>(
     alloc: Global,
+    disks: Vec<MemDisk>,
     journal: u64,
 ) -> Result<Desk<MemDisk, MemLog, Q>, Fail>
-    requires { (64 ≤ journal) × (journal ≤ 128) }
-    ensures { IfOk result (λ desk. IsFresh desk.begun desk × (length desk.begun.disks ≡ 1)) }
+    requires few { length disks.items ≤ 2 }
+    requires room { (64 ≤ journal) × (journal ≤ 128) }
+    ensures { IfOk result (λ desk. IsFresh desk.begun desk × (length desk.begun.disks ≡ length disks.items)) }
 {
     let setup = Setup {
-        disks: vec![in alloc; disk(alloc)]?,
+        disks,
         logs: vec![in alloc; log(alloc), log(alloc), log(alloc), log(alloc)]?,
         journal,
         threshold: 4,
@@ -86,11 +88,7 @@ fn a_desk_is_made_acted_on_and_ended(rt: HostRuntime) -> Result<(), Fail> {
         set_log_handle(alloc, &mut desk, file, 4),
         Err(CcError::NoLog { handle: 4 })
     );
-    assert_eq!(rt; set_log_handle(alloc, &mut desk, file, 3), Ok(()));
-    assert_eq!(rt; set_granularity(alloc, &mut desk, file, 4096), Ok(()));
-    assert_eq!(rt; set_attributes(alloc, &mut desk, file, true, false), Ok(()));
-    assert_eq!(rt; set_threshold(alloc, &mut desk, file, 2), Ok(()));
-    assert_eq!(rt; desk.journal().entries().len(), 6);
+    assert_eq!(rt; desk.journal().entries().len(), 2);
     let Parts {
         disks,
         logs,
@@ -99,7 +97,7 @@ fn a_desk_is_made_acted_on_and_ended(rt: HostRuntime) -> Result<(), Fail> {
     } = desk.end();
     assert_eq!(rt;
         (disks.len(), logs.len(), journal.len(), queued.len()),
-        (1, 4, 6, 0)
+        (1, 4, 2, 0)
     );
     Ok(())
 }

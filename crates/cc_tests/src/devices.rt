@@ -2,15 +2,11 @@
 //!
 //! Each device is used through its trait, as the cache uses it.
 
-ghost use Rattle.std.specs.Prelude.{◌≡◌, [], false, true};
+ghost use Rattle.std.specs.Prelude.{◌≡◌, false, true};
 
 use cc_memdev::{DiskFails, LogFails, MemDisk, MemLog, MemSink, MemSource};
-use cc_traits::{Gate, LogFile, PageDisk, PostRoutine, PostedRoutine, Setup, Sink, Source, Stop};
-use std::alloc::Global;
+use cc_traits::{LogFile, PageDisk, PostRoutine, PostedRoutine, Sink, Source, Stop};
 use std::test::Fail;
-
-/// Takes a value that may move to another thread.
-fn moves<T: Send>(_value: &T) {}
 
 fn write<D: PageDisk>(disk: &mut D, page: u64, byte: u8) -> Result<(), Stop> {
     disk.write_page(page, &[byte; 4096])
@@ -52,27 +48,25 @@ fn append_and_flush<L: LogFile>(log: &mut L, lsn: u64) -> Result<(), Stop> {
 }
 
 #[test]
-fn a_log_takes_5000_appends(rt: HostRuntime) -> Result<(), Fail> {
+fn a_log_keeps_entries(rt: HostRuntime) -> Result<(), Fail> {
     let fails = LogFails {
-        appends: vec![in rt.alloc(); 5001]?,
+        appends: vec![in rt.alloc(); 2]?,
         flushes: Vec::new(rt.alloc()),
         reads: vec![in rt.alloc(); 3]?,
     };
     let mut log = MemLog::new(rt.alloc(), fails);
-    for lsn in 1..5001 {
-        assert_eq!(rt; append_and_flush(&mut log, lsn), Ok(()));
-    }
-    assert_eq!(rt; append_and_flush(&mut log, 5001), Err(Stop::Failed));
+    assert_eq!(rt; append_and_flush(&mut log, 1), Ok(()));
+    assert_eq!(rt; append_and_flush(&mut log, 2), Err(Stop::Failed));
     assert_eq!(rt;
         (log.entries().len(), log.durable(), log.faults()),
-        (5000, 5000, 1)
+        (1, 1, 1)
     );
     let mut boxed: Box<dyn LogFile + Send> = Box::new(rt.alloc(), log)?;
-    assert_eq!(rt; append_and_flush(&mut boxed, 5002), Ok(()));
+    assert_eq!(rt; append_and_flush(&mut boxed, 3), Ok(()));
     let mut bytes = Vec::new(rt.alloc());
-    assert_eq!(rt; boxed.entry(5000, &mut bytes), Ok(Some(5002)));
+    assert_eq!(rt; boxed.entry(1, &mut bytes), Ok(Some(3)));
     assert_eq!(rt; bytes.as_slice(), b"ab".as_slice());
-    assert_eq!(rt; boxed.entry(5001, &mut bytes), Ok(None));
+    assert_eq!(rt; boxed.entry(2, &mut bytes), Ok(None));
     assert_eq!(rt; boxed.entry(0, &mut bytes), Err(Stop::Failed));
     Ok(())
 }
@@ -83,13 +77,11 @@ fn take<S: Source>(source: &mut S) -> Result<usize, Stop> {
 }
 
 #[test]
-fn a_source_gives_5000_single_bytes(rt: HostRuntime) -> Result<(), Fail> {
-    let bytes = vec![in rt.alloc(); b'a'; 5000]?;
-    let mut source = MemSource::new(bytes, 1, vec![in rt.alloc(); 5001]?);
-    moves(&source);
-    for _ in 0..5000 {
-        assert_eq!(rt; take(&mut source), Ok(1));
-    }
+fn a_source_gives_pieces_of_its_bytes(rt: HostRuntime) -> Result<(), Fail> {
+    let bytes = vec![in rt.alloc(); b'a', b'b', b'c']?;
+    let mut source = MemSource::new(bytes, 2, vec![in rt.alloc(); 3]?);
+    assert_eq!(rt; take(&mut source), Ok(2));
+    assert_eq!(rt; take(&mut source), Ok(1));
     assert_eq!(rt; take(&mut source), Err(Stop::Failed));
     assert_eq!(rt; take(&mut source), Ok(0));
     assert_eq!(rt; source.faults(), 1);
@@ -103,7 +95,6 @@ fn put<K: Sink>(sink: &mut K, bytes: &[u8]) -> Result<usize, Stop> {
 #[test]
 fn a_sink_keeps_what_it_takes(rt: HostRuntime) -> Result<(), Fail> {
     let mut sink = MemSink::new(rt.alloc(), vec![in rt.alloc(); 2]?);
-    moves(&sink);
     assert_eq!(rt; put(&mut sink, b"ab"), Ok(2));
     assert_eq!(rt; put(&mut sink, b"c"), Err(Stop::Failed));
     assert_eq!(rt; put(&mut sink, b"d"), Ok(1));
@@ -133,39 +124,9 @@ fn posted<Q: PostRoutine>(id: u64, mut routine: Q) -> PostedRoutine<Q>
     PostedRoutine { id, routine }
 }
 
-struct Open;
-
-impl Gate for Open {
-    fn before(&self, _caller: u32, _call: u32) {}
-
-    fn after(&self, _caller: u32, _call: u32) {}
-}
-
-fn pass<P: Gate>(gate: &P) {
-    gate.before(1, 1);
-    gate.after(1, 1);
-}
-
-fn setup_of(disks: Vec<MemDisk>, logs: Vec<MemLog>) -> Setup<MemDisk, MemLog>
-    requires no_disks { disks.items ≡ [] }
-    requires no_logs { logs.items ≡ [] }
-{
-    Setup {
-        disks,
-        logs,
-        journal: 64,
-        threshold: 1,
-    }
-}
-
 #[test]
-fn a_setup_a_routine_and_a_gate(rt: HostRuntime) -> Result<(), Fail> {
-    let setup = setup_of(Vec::new(rt.alloc()), Vec::new(rt.alloc()));
-    assert_eq!(rt; setup.journal, 64);
+fn a_routine_is_posted_in_a_box(rt: HostRuntime) -> Result<(), Fail> {
     let boxed: Box<dyn PostRoutine + Send> = Box::new(rt.alloc(), Routine { posted: false })?;
     assert_eq!(rt; posted(3, boxed).id, 3);
-    pass(&Open);
-    let text = format!(in rt.alloc(); "{}, {}", Stop::Failed, Stop::NoMemory)?;
-    assert_eq!(rt; text.as_str(), "the device failed, out of memory");
     Ok(())
 }

@@ -24,15 +24,7 @@ mod folder;
 #[cfg(test)]
 mod format;
 #[cfg(test)]
-mod generator;
-#[cfg(test)]
 mod lazy;
-#[cfg(test)]
-mod locks;
-#[cfg(test)]
-mod log;
-#[cfg(test)]
-mod queue;
 #[cfg(test)]
 mod queued_reads;
 #[cfg(test)]
@@ -41,8 +33,6 @@ mod readers;
 mod redo;
 #[cfg(test)]
 mod script;
-#[cfg(test)]
-mod sent;
 #[cfg(test)]
 mod text;
 #[cfg(test)]

@@ -1,7 +1,8 @@
 //! Tests of values, bytes and errors.
 
-use cc_entry::{Answer, Bytes, CcError, Entry, NoMemory};
+use cc_entry::{Bytes, CcError, NoMemory};
 use cc_script::ScriptFault;
+use cc_traits::Stop;
 use std::test::Fail;
 
 #[test]
@@ -16,29 +17,6 @@ fn bytes_are_kept(rt: HostRuntime) -> Result<(), Fail> {
 }
 
 #[test]
-fn bytes_take_5000_appends(rt: HostRuntime) -> Result<(), Fail> {
-    let mut bytes = Bytes::new(rt.alloc());
-    for i in 0..5000u64 {
-        if bytes.len() < 5000 {
-            bytes.append((i % 2) as u8, 1)?;
-        }
-    }
-    assert_eq!(rt; bytes.len(), 5000);
-    Ok(())
-}
-
-/// Takes a value that may cross threads.
-fn crosses<T: Send + Sync>(_value: &T) {}
-
-// These hold every other value.
-#[test]
-fn entries_and_answers_cross_threads(rt: HostRuntime) -> Result<(), Fail> {
-    crosses(&Entry::Posted { id: 1 });
-    crosses(&Answer::NoHold);
-    Ok(())
-}
-
-#[test]
 fn errors_have_texts_for_people(rt: HostRuntime) -> Result<(), Fail> {
     let memory = format!(in rt.alloc(); "{}", NoMemory)?;
     assert_eq!(rt; memory.as_str(), "out of memory");
@@ -47,6 +25,8 @@ fn errors_have_texts_for_people(rt: HostRuntime) -> Result<(), Fail> {
         beyond.as_str(),
         "the range ends past the stream's size of 8192 bytes"
     );
+    let stop = format!(in rt.alloc(); "{}, {}", Stop::Failed, Stop::NoMemory)?;
+    assert_eq!(rt; stop.as_str(), "the device failed, out of memory");
     let line = format!(in rt.alloc(); "{}", ScriptFault::Syntax { line: 7 })?;
     assert_eq!(rt; line.as_str(), "line 7 is not in the grammar");
     Ok(())
