@@ -124,13 +124,13 @@ each-fallen {D} faults given answered old new each = record {
   count = each.count;
   each = λ s was now is now_is. elim (given-at given s) [
     | inl there ↦
-      let was_is : slice_get old there.1.disk ≡ Some was = ap (λ (k : ℕ). slice_get old k) there.3 ∙ is in
-      let new_is : slice_get new there.1.disk ≡ Some now = ap (λ (k : ℕ). slice_get new k) there.3 ∙ now_is in
-      counted-up answered (faults was) (faults now) (each.given there.0 there.1 was now there.2 was_is new_is)
+        let was_is : slice_get old there.1.disk ≡ Some was = ap (λ (k : ℕ). slice_get old k) there.3 ∙ is in
+        let new_is : slice_get new there.1.disk ≡ Some now = ap (λ (k : ℕ). slice_get new k) there.3 ∙ now_is in
+        counted-up answered (faults was) (faults now) (each.given there.0 there.1 was now there.2 was_is new_is)
     | inr none ↦
-      let one : now ≡ was = same_Some now was (sym now_is ∙ each.others s none ∙ is) in
-      let counts : faults now ≡ faults was = ap faults one in
-      omega arith
+        let one : now ≡ was = same_Some now was (sym now_is ∙ each.others s none ∙ is) in
+        let counts : faults now ≡ faults was = ap faults one in
+        omega arith
   ];
 }
 
@@ -190,16 +190,16 @@ module _ {D L : Type 0} (told : D → Option Disk) (faults : D → ℕ) (log_tol
     count = length-set logs handle now;
     each = λ k before after before_is after_is. elim (cases_eq handle k) [
       | inl same ↦
-        let inside = slice_get_within logs handle was is in
-        let one : before ≡ was = same_Some before was (sym before_is ∙ sym (ap (λ (i : ℕ). slice_get logs i) same) ∙ is) in
-        let other : after ≡ now = same_Some after now (sym after_is ∙ sym (ap (λ (i : ℕ). slice_get (slice_set logs handle now) i) same) ∙ get-set_same logs handle now inside) in
-        let low : log_count before ≡ log_count was = ap log_count one in
-        let high : log_count after ≡ log_count now = ap log_count other in
-        omega arith
+          let inside = slice_get_within logs handle was is in
+          let one : before ≡ was = same_Some before was (sym before_is ∙ sym (ap (λ (i : ℕ). slice_get logs i) same) ∙ is) in
+          let other : after ≡ now = same_Some after now (sym after_is ∙ sym (ap (λ (i : ℕ). slice_get (slice_set logs handle now) i) same) ∙ get-set_same logs handle now inside) in
+          let low : log_count before ≡ log_count was = ap log_count one in
+          let high : log_count after ≡ log_count now = ap log_count other in
+          omega arith
       | inr apart ↦
-        let one : after ≡ before = same_Some after before (sym after_is ∙ get-set_other logs handle k now apart ∙ before_is) in
-        let counts : log_count after ≡ log_count before = ap log_count one in
-        omega arith
+          let one : after ≡ before = same_Some after before (sym after_is ∙ get-set_other logs handle k now apart ∙ before_is) in
+          let counts : log_count after ≡ log_count before = ap log_count one in
+          omega arith
     ];
   }
 

@@ -25,11 +25,15 @@ given-more {D} told disks handle s n [] stream given one disk is before here of_
     append-nil : (l : List Redo) → l ++ [] ≡ l
     append-nil [] = refl
     append-nil (x ∷ l) = ap (λ (m : List Redo). x ∷ m) (append-nil l)
-given-more told disks handle s n (first ∷ streams) stream given one disk is before here of_it =
-    (before.0, before.1, before.2 ++ one, before.3,
-      ap (λ (l : List Redo). l ++ one) before.4 ∙ append_assoc before.1 before.2 one,
-      before.5,
-      given-more told disks handle (suc s) n streams stream before.2 one disk (omega (arith, is)) before.6 here of_it)
+given-more told disks handle s n (first ∷ streams) stream given one disk is before here of_it = (
+  before.0,
+  before.1,
+  before.2 ++ one,
+  before.3,
+  ap (λ (l : List Redo). l ++ one) before.4 ∙ append_assoc before.1 before.2 one,
+  before.5,
+  given-more told disks handle (suc s) n streams stream before.2 one disk (omega (arith, is)) before.6 here of_it,
+)
 
 -- a stream that is given is restarted, and its disk is that of its number
 one-named : (told : Option Disk) (s : ℕ) (stream : StreamLine) (b : Bool) (one : List Redo) (i : ℕ) (redo : Redo) → GivenOf told s stream b one → slice_get one i ≡ Some redo →
@@ -58,8 +62,8 @@ module _ {D : Type 0} (told : D → Option Disk) (disks : List D) (handle : ℕ)
   given-named s (stream ∷ streams) given are i redo is = elim (get-append are.1 are.2 i redo (sym (ap (λ (l : List Redo). slice_get l i) are.4) ∙ is)) [
     | inl here ↦ let of_it = one-named (told are.0) s stream (is_restarted handle stream) are.1 i redo are.5 here in (0, stream, let place = of_it.1 in omega arith, refl, of_it.3)
     | inr there ↦
-      let named = given-named (suc s) streams are.2 are.6 there.0 redo there.2 in
-      (suc named.0, named.1, let place = named.2 in omega arith, named.3, named.4)
+        let named = given-named (suc s) streams are.2 are.6 there.0 redo there.2 in
+        (suc named.0, named.1, let place = named.2 in omega arith, named.3, named.4)
   ]
 
   -- the disk of each is one of the script's streams
@@ -82,23 +86,23 @@ module _ {D : Type 0} (told : D → Option Disk) (disks : List D) (handle : ℕ)
       elim (get-append are.1 are.2 i one (sym (ap (λ (l : List Redo). slice_get l i) are.4) ∙ is)) [
         | inl here ↦ elim (get-append are.1 are.2 j other (sym (ap (λ (l : List Redo). slice_get l j) are.4) ∙ also)) [
           | inl there ↦
-            let first = (one-named (told are.0) s stream (is_restarted handle stream) are.1 i one are.5 here).0 in
-            let second = (one-named (told are.0) s stream (is_restarted handle stream) are.1 j other are.5 there).0 in
-            first ∙ sym second
+              let first = (one-named (told are.0) s stream (is_restarted handle stream) are.1 i one are.5 here).0 in
+              let second = (one-named (told are.0) s stream (is_restarted handle stream) are.1 j other are.5 there).0 in
+              first ∙ sym second
           | inr there ↦
-            let first = (one-named (told are.0) s stream (is_restarted handle stream) are.1 i one are.5 here).1 in
-            let second = (given-named (suc s) streams are.2 are.6 there.0 other there.2).2 in
-            absurd (omega (arith, first, second, same))
+              let first = (one-named (told are.0) s stream (is_restarted handle stream) are.1 i one are.5 here).1 in
+              let second = (given-named (suc s) streams are.2 are.6 there.0 other there.2).2 in
+              absurd (omega (arith, first, second, same))
         ]
         | inr here ↦ elim (get-append are.1 are.2 j other (sym (ap (λ (l : List Redo). slice_get l j) are.4) ∙ also)) [
           | inl there ↦
-            let first = (given-named (suc s) streams are.2 are.6 here.0 one here.2).2 in
-            let second = (one-named (told are.0) s stream (is_restarted handle stream) are.1 j other are.5 there).1 in
-            absurd (omega (arith, first, second, same))
+              let first = (given-named (suc s) streams are.2 are.6 here.0 one here.2).2 in
+              let second = (one-named (told are.0) s stream (is_restarted handle stream) are.1 j other are.5 there).1 in
+              absurd (omega (arith, first, second, same))
           | inr there ↦
-            let places : here.0 ≡ there.0 = given-differ (suc s) streams are.2 are.6 here.0 there.0 one other here.2 there.2 same in
-            let first = here.1 in
-            let second = there.1 in
-            omega (arith, places, first, second)
+              let places : here.0 ≡ there.0 = given-differ (suc s) streams are.2 are.6 here.0 there.0 one other here.2 there.2 same in
+              let first = here.1 in
+              let second = there.1 in
+              omega (arith, places, first, second)
         ]
       ]

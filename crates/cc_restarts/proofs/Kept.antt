@@ -36,9 +36,9 @@ module _ {D L : Type 0} (told : D → Option Disk) (faults : D → ℕ) (log_tol
   one-others handle streams ended old new was now s (inr restarted) apart =
       restarted.leaves.others s
       (λ i redo is same.
-        let named = given-named told old handle 0 streams restarted.given restarted.given_are i redo is in
-        let at_s : slice_get streams s ≡ Some named.1 = ap (λ (k : ℕ). slice_get streams k) (let place = named.2 in omega (arith, same, place)) ∙ named.3 in
-        false≢true (sym (apart named.1 at_s) ∙ named.4))
+      let named = given-named told old handle 0 streams restarted.given restarted.given_are i redo is in
+      let at_s : slice_get streams s ≡ Some named.1 = ap (λ (k : ℕ). slice_get streams k) (let place = named.2 in omega (arith, same, place)) ∙ named.3 in
+      false≢true (sym (apart named.1 at_s) ∙ named.4))
       ∙ restarted.read.others s apart
 
   pub one-tells : (handle : ℕ) (streams : List StreamLine) (ended : Result Numbers CcError) (old new : List D) (was now : L) →
@@ -59,10 +59,10 @@ module _ {D L : Type 0} (told : D → Option Disk) (faults : D → ℕ) (log_tol
   set-tells : (logs : List L) (handle : ℕ) (was now : L) → slice_get logs handle ≡ Some was → log_told now ≡ log_told was → LogsTell log_told logs (slice_set logs handle now)
   set-tells logs handle was now is same = λ k before after before_is after_is. elim (cases_eq handle k) [
     | inl here ↦
-      let inside = slice_get_within logs handle was is in
-      let one : before ≡ was = same_Some before was (sym before_is ∙ sym (ap (λ (i : ℕ). slice_get logs i) here) ∙ is) in
-      let other : after ≡ now = same_Some after now (sym after_is ∙ sym (ap (λ (i : ℕ). slice_get (slice_set logs handle now) i) here) ∙ get-set_same logs handle now inside) in
-      ap log_told other ∙ same ∙ sym (ap log_told one)
+        let inside = slice_get_within logs handle was is in
+        let one : before ≡ was = same_Some before was (sym before_is ∙ sym (ap (λ (i : ℕ). slice_get logs i) here) ∙ is) in
+        let other : after ≡ now = same_Some after now (sym after_is ∙ sym (ap (λ (i : ℕ). slice_get (slice_set logs handle now) i) here) ∙ get-set_same logs handle now inside) in
+        ap log_told other ∙ same ∙ sym (ap log_told one)
     | inr apart ↦ ap log_told (same_Some after before (sym after_is ∙ get-set_other logs handle k now apart ∙ before_is))
   ]
 

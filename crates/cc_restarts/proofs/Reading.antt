@@ -58,29 +58,29 @@ module _ {D : Type 0} (told : D → Option Disk) (faults : D → ℕ) (handle : 
     count = length-set now n next ∙ at_it.read.count;
     tells = λ s was after is after_is. elim (cases_eq n s) [
       | inl same ↦
-        let after_next : after ≡ next = same_Some after next (sym after_is ∙ sym (ap (λ (k : ℕ). slice_get (set now n next) k) same) ∙ get-set_same now n next inside) in
-        let was_here : slice_get old n ≡ Some was = ap (λ (k : ℕ). slice_get old k) same ∙ is in
-        ap told after_next ∙ stays ∙ at_it.read.tells n was here was_here here_is
+          let after_next : after ≡ next = same_Some after next (sym after_is ∙ sym (ap (λ (k : ℕ). slice_get (set now n next) k) same) ∙ get-set_same now n next inside) in
+          let was_here : slice_get old n ≡ Some was = ap (λ (k : ℕ). slice_get old k) same ∙ is in
+          ap told after_next ∙ stays ∙ at_it.read.tells n was here was_here here_is
       | inr apart ↦ at_it.read.tells s was after is (sym (get-set_other now n s next apart) ∙ after_is)
     ];
     counted = λ s was after is after_is. elim (cases_eq n s) [
       | inl same ↦
-        let after_next : after ≡ next = same_Some after next (sym after_is ∙ sym (ap (λ (k : ℕ). slice_get (set now n next) k) same) ∙ get-set_same now n next inside) in
-        let was_here : slice_get old n ≡ Some was = ap (λ (k : ℕ). slice_get old k) same ∙ is in
-        let before : faults here ≡ faults was + no_rise n = at_it.read.counted n was here was_here here_is in
-        let counts : faults after ≡ faults next = ap faults after_next in
-        let place : rise n ≡ rise s = ap rise same in
-        omega arith
+          let after_next : after ≡ next = same_Some after next (sym after_is ∙ sym (ap (λ (k : ℕ). slice_get (set now n next) k) same) ∙ get-set_same now n next inside) in
+          let was_here : slice_get old n ≡ Some was = ap (λ (k : ℕ). slice_get old k) same ∙ is in
+          let before : faults here ≡ faults was + no_rise n = at_it.read.counted n was here was_here here_is in
+          let counts : faults after ≡ faults next = ap faults after_next in
+          let place : rise n ≡ rise s = ap rise same in
+          omega arith
       | inr apart ↦
-        let before : faults after ≡ faults was + no_rise s = at_it.read.counted s was after is (sym (get-set_other now n s next apart) ∙ after_is) in
-        let zero_here = none s (λ e. apart (sym e)) in
-        omega arith
+          let before : faults after ≡ faults was + no_rise s = at_it.read.counted s was after is (sym (get-set_other now n s next apart) ∙ after_is) in
+          let zero_here = none s (λ e. apart (sym e)) in
+          omega arith
     ];
     others = λ s apart_it. elim (cases_eq n s) [
       | inl same ↦
-        let quiet : is_restarted handle stream ≡ false = apart_it stream (sym (ap (λ (k : ℕ). slice_get streams k) same) ∙ named) in
-        sym (ap (λ (k : ℕ). slice_get (set now n next) k) same) ∙ get-set_same now n next inside ∙ ap Some (untouched quiet) ∙ sym here_is ∙ ap (λ (k : ℕ). slice_get now k) same
-        ∙ at_it.read.others s apart_it
+          let quiet : is_restarted handle stream ≡ false = apart_it stream (sym (ap (λ (k : ℕ). slice_get streams k) same) ∙ named) in
+          sym (ap (λ (k : ℕ). slice_get (set now n next) k) same) ∙ get-set_same now n next inside ∙ ap Some (untouched quiet) ∙ sym here_is ∙ ap (λ (k : ℕ). slice_get now k) same
+          ∙ at_it.read.others s apart_it
       | inr apart ↦ get-set_other now n s next apart ∙ at_it.read.others s apart_it
     ];
   }

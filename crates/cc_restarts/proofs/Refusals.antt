@@ -46,6 +46,7 @@ module _ {D L : Type 0} (told : D → Option Disk) (faults : D → ℕ) (log_tol
   all-own streams [] [] old new logs logs_after restarted = tt
   all-own streams [] (one ∷ ended) old new logs logs_after restarted = absurd restarted
   all-own streams (restart ∷ restarts) [] old new logs logs_after restarted = absurd restarted
-  all-own streams (restart ∷ restarts) (one ∷ ended) old new logs logs_after restarted =
-      (one-own restart.handle streams one.ended old restarted.0 restarted.1 restarted.2 restarted.6,
-        all-own streams restarts ended restarted.0 new (slice_set logs restart.handle restarted.2) logs_after restarted.7)
+  all-own streams (restart ∷ restarts) (one ∷ ended) old new logs logs_after restarted = (
+    one-own restart.handle streams one.ended old restarted.0 restarted.1 restarted.2 restarted.6,
+    all-own streams restarts ended restarted.0 new (slice_set logs restart.handle restarted.2) logs_after restarted.7,
+  )

@@ -22,16 +22,28 @@ module _ {D L : Type 0} (told : D → Option Disk) (faults : D → ℕ) (log_tol
       LogsRestarted told faults log_told log_count streams (restarts ++ restart ∷ []) (ended ++ one ∷ []) old new logs (slice_set logs_between restart.handle now)
   restarted-more [] [] old between new logs logs_between restart one was now before line handle held left =
       let disks_same : between ≡ old = before.0 in
-      let logs_same : logs_between ≡ logs = before.1 in
-      (new, was, now, line, handle,
+      let logs_same : logs_between ≡ logs = before.1 in (
+        new,
+        was,
+        now,
+        line,
+        handle,
         sym (ap (λ (l : List L). slice_get l restart.handle) logs_same) ∙ held,
         subst (λ (d : List D). LogRestarted told faults log_told log_count restart.handle streams one.ended d new was now) disks_same left,
-        (refl, ap (λ (l : List L). slice_set l restart.handle now) logs_same))
+        (refl, ap (λ (l : List L). slice_set l restart.handle now) logs_same),
+      )
   restarted-more [] (first ∷ ended) old between new logs logs_between restart one was now before line handle held left = absurd before
   restarted-more (first ∷ restarts) [] old between new logs logs_between restart one was now before line handle held left = absurd before
-  restarted-more (first ∷ restarts) (head ∷ ended) old between new logs logs_between restart one was now before line handle held left =
-      (before.0, before.1, before.2, before.3, before.4, before.5, before.6,
-        restarted-more restarts ended before.0 between new (slice_set logs first.handle before.2) logs_between restart one was now before.7 line handle held left)
+  restarted-more (first ∷ restarts) (head ∷ ended) old between new logs logs_between restart one was now before line handle held left = (
+    before.0,
+    before.1,
+    before.2,
+    before.3,
+    before.4,
+    before.5,
+    before.6,
+    restarted-more restarts ended before.0 between new (slice_set logs first.handle before.2) logs_between restart one was now before.7 line handle held left,
+  )
 
   -- the same of the next of a script's restarts
   pub restarted-next : (restarts : List RestartLine) (n : ℕ) (d : RestartLine) (ended more : List LogRestart) (old between new : List D) (logs logs_between : List L) (from : ℕ) (one now : L) (answer : Result Numbers CcError) →

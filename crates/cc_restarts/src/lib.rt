@@ -16,6 +16,7 @@ mod logs;
 
 pub use ended::{LogRestart, Numbers};
 pub use laws::{
-    restarts_are_counted, restarts_have_refusals_of_their_own, restarts_keep_what_they_are_not_given,
+    restarts_are_counted, restarts_have_refusals_of_their_own,
+    restarts_keep_what_they_are_not_given,
 };
 pub use logs::restart_script;

@@ -1,4 +1,4 @@
-use Rattle.std.proofs.Common.{ℕ, ◌≡◌, ◌+◌, ◌<◌, length, get_or, set, take, subst, sym, ap, ◌∙◌, arith}
+use Rattle.std.proofs.Common.{ℕ, ◌≡◌, ◌+◌, ◌<◌, length, get_or, set, take, subst, sym, ◌∙◌, arith}
 use Rattle.std.specs.Prelude.{IfErr}
 use Rattle.cc_redo.proofs.Steps.{handed-on}
 use Rattle.cc_restarts.specs.Given.{GivenTo, Gives}

@@ -1,4 +1,4 @@
-use Rattle.std.proofs.Common.{ℕ, ◌≡◌, ◌+◌, ◌<◌, List, All, length, slice_index_or, subst, sym, arith, inr}
+use Rattle.std.proofs.Common.{◌+◌, ◌<◌, List, All, length, slice_index_or, subst, sym, arith, inr}
 use Rattle.std.specs.Prelude.{IfOk, IfErr}
 use Rattle.cc_traits.specs.Told.{IfTold}
 use Rattle.cc_redo.specs.declared.redo.Redo.{Redo}
@@ -14,10 +14,10 @@ restart-answer-requires-clause-disks g c =
     subst (λ (l : List Redo). All (λ redo. redo.disk < 0 + length streams) l) (sym c.deref.ensures.value)
     (given-below g.D.Told.told c.args.disks.now c.args.handle 0 streams c.in_ok-given.given.items c.in_ok-given.ensures.given) in
     λ k d inside.
-      let below : (slice_index_or c.deref.result.now k d).disk < 0 + length streams = all k d inside in
-      let count = c.in_ok-given.ensures.read.count in
-      let enough = c.requires.enough in
-      omega (arith, below, count, enough)
+    let below : (slice_index_or c.deref.result.now k d).disk < 0 + length streams = all k d inside in
+    let count = c.in_ok-given.ensures.read.count in
+    let enough = c.requires.enough in
+    omega (arith, below, count, enough)
 
 pub restart-answer-requires-clause-differ : goal.restart-answer-requires-clause-differ
 restart-answer-requires-clause-differ g c =
