@@ -1,8 +1,10 @@
 -- The restarts of a script's lines, one after the other.
-use Rattle.std.specs.Prelude.{◌≡◌, ℕ, ◌+◌, ◌<◌, ◌≤◌, List, [], ◌∷◌, ◌++◌, length, slice_get, slice_set, Result, refl}
+use Rattle.std.specs.Prelude.{◌≡◌, ℕ, ◌+◌, ◌<◌, ◌≤◌, List, [], ◌∷◌, ◌++◌, All, length, slice_get, slice_set, Result, refl}
 use Rattle.std.specs.declared.option.Option.{Option}
 use Rattle.std.specs.declared.option.Option.TheVariants.{Some}
-use Rattle.std.proofs.Common.{ap, sym, subst, ◌∙◌, arith}
+use Rattle.std.proofs.Common.{ap, sym, subst, ◌∙◌, arith, get_or, take}
+use Rattle.std.proofs.lemmas.List.{take_more}
+use Rattle.std.proofs.lemmas.Option.{slice_get-get_or}
 use Rattle.cc_entry.specs.declared.error.CcError.{CcError}
 use Rattle.cc_traits.specs.Disk.{Disk}
 use Rattle.cc_traits.specs.Log.{Log}
@@ -30,3 +32,21 @@ module _ {D L : Type 0} (told : D → Option Disk) (faults : D → ℕ) (log_tol
   restarted-more (first ∷ restarts) (head ∷ ended) old between new logs logs_between restart one was now before line handle held left =
       (before.0, before.1, before.2, before.3, before.4, before.5, before.6,
         restarted-more restarts ended before.0 between new (slice_set logs first.handle before.2) logs_between restart one was now before.7 line handle held left)
+
+  -- the same of the next of a script's restarts
+  pub restarted-next : (restarts : List RestartLine) (n : ℕ) (d : RestartLine) (ended more : List LogRestart) (old between new : List D) (logs logs_between : List L) (from : ℕ) (one now : L) (answer : Result Numbers CcError) →
+      n < length restarts → All (λ restart. restart.handle < length logs) restarts → length logs_between ≡ length logs →
+      LogsRestarted told faults log_told log_count streams (take n restarts) ended old between logs logs_between → from ≡ (get_or restarts n d).handle →
+      more ≡ ended ++ record { line = (get_or restarts n d).line; handle = (get_or restarts n d).handle; ended = answer } ∷ [] →
+      LogRestarted told faults log_told log_count (get_or restarts n d).handle streams answer between new (get_or logs_between from one) now →
+      LogsRestarted told faults log_told log_count streams (take (n + 1) restarts) more old new logs (slice_set logs_between from now)
+  restarted-next restarts n d ended more old between new logs logs_between from one now answer less within long before place items left =
+      let restart : RestartLine = get_or restarts n d in
+      let last : LogRestart = record { line = restart.line; handle = restart.handle; ended = answer } in
+      let below : restart.handle < length logs = within n d less in
+      let held : slice_get logs_between restart.handle ≡ Some (get_or logs_between from one) =
+      subst (λ (k : ℕ). slice_get logs_between k ≡ Some (get_or logs_between from one)) place (slice_get-get_or logs_between from one (omega (arith, place, below, long))) in
+      let all = restarted-more (take n restarts) ended old between new logs logs_between restart last (get_or logs_between from one) now before refl refl held left in
+      subst (λ (l : List RestartLine). LogsRestarted told faults log_told log_count streams l more old new logs (slice_set logs_between from now)) (sym (take_more restarts n d less))
+      (subst (λ (l : List LogRestart). LogsRestarted told faults log_told log_count streams (take n restarts ++ restart ∷ []) l old new logs (slice_set logs_between from now)) (sym items)
+      (subst (λ (k : ℕ). LogsRestarted told faults log_told log_count streams (take n restarts ++ restart ∷ []) (ended ++ last ∷ []) old new logs (slice_set logs_between k now)) (sym place) all))

@@ -39,3 +39,4 @@ pub mod Queued
 pub mod Copied
 pub mod Untold
 pub mod StoredLines
+pub mod Refusing

@@ -108,7 +108,7 @@ seen-opening u s stream true told old new (inl unread) = seen-load {A = Option S
 seen-opening u s stream true told old new (inr is) =
     grew-then old is.loaded new (seen-load {A = Option StreamRecord} s (Ok is.read) old is.loaded is.load) (seen-recorded u s stream is.read told is.loaded new is.opened)
 
-seen-behind : (u : Setup) (s : ℕ) (stream : StreamLine) (refused : Option CcError) (told : Answer) (old new : List Entry) → OpeningBehind u s stream refused told old new → HasSeen old new
+pub seen-behind : (u : Setup) (s : ℕ) (stream : StreamLine) (refused : Option CcError) (told : Answer) (old new : List Entry) → OpeningBehind u s stream refused told old new → HasSeen old new
 seen-behind u s stream (Some e) told old new opened = seen-idle old new opened.1
 seen-behind u s stream None told old new opened = seen-opening u s stream stream.stored told old new opened
 

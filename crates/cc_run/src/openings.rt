@@ -7,7 +7,7 @@ ghost use Rattle.cc_lines.specs.Line.{IsFullTold, WentOn};
 ghost use Rattle.cc_pieces.specs.Openings.{OpeningBehind};
 ghost use Rattle.cc_run.specs.Desks.{IsReady, IsSameRun};
 ghost use Rattle.cc_run.specs.Lines.{StreamsOpened};
-ghost use Rattle.cc_pieces.specs.Restarts.{refused_for, refused_restart};
+ghost use Rattle.cc_pieces.specs.Restarts.{refusal_told, refused_for, refused_restart};
 
 use cc_entry::{Answer, CcError, LineReply};
 use cc_lines::open_stream;
@@ -91,12 +91,23 @@ fn refused_for(log: Option<u8>, restarts: &[RestartLine], replies: &[LineReply])
 fn refused_restart(handle: u8, restarts: &[RestartLine], replies: &[LineReply]) -> Option<CcError>
     ensures { result ≡ refused_restart handle restarts.now replies.now }
 {
-    match (restarts, replies) {
-        ([restart, ..], [reply, ..]) if restart.handle == handle => match reply.answer {
-            Answer::Refused(error) => Some(error),
-            _ => None,
-        },
-        ([_, restarts @ ..], [_, replies @ ..]) => refused_restart(handle, restarts, replies),
+    for number in 0..restarts.len() {
+        let Some(reply) = replies.get(number) else {
+            return None;
+        };
+        if restarts[number].handle == handle {
+            return refusal_told(&reply.answer);
+        }
+    }
+    None
+}
+
+// The refusal that an answer tells.
+fn refusal_told(answer: &Answer) -> Option<CcError>
+    ensures { result ≡ refusal_told answer.now }
+{
+    match answer {
+        Answer::Refused(error) => Some(*error),
         _ => None,
     }
 }
