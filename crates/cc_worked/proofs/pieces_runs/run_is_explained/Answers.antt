@@ -2,7 +2,7 @@
 use Rattle.std.specs.Prelude.{◌≡◌, ◌≢◌, ℕ, ◌==◌, Bool, true, false, List, [], ◌∷◌, ◌++◌, refl}
 use Rattle.std.specs.declared.option.Option.TheVariants.{Some}
 use Rattle.std.specs.List.{IsDistinct}
-use Rattle.std.proofs.Common.{arith, sym}
+use Rattle.std.proofs.Common.{◌∙◌, ap, arith, sym}
 use Rattle.std.proofs.lemmas.Bool.{eqb-true}
 use Rattle.cc_entry.specs.declared.answer.LineReply.{LineReply}
 use Rattle.cc_entry.specs.declared.reply.Reply.TheVariants as reply
@@ -12,7 +12,7 @@ use Rattle.cc_pieces.specs.Explained.{answered_lines}
 use Rattle.cc_effects.proofs.Starts.{begins, ends_done}
 use Rattle.cc_effects.proofs.Stretches.{idle-none}
 use Rattle.cc_worked.specs.Values.{setup}
-use Rattle.cc_worked.specs.PiecesRuns.{initialises, opens, caller_opens, unit_at, of_one_answered, plan_with, all_replies, reads_and_asks}
+use Rattle.cc_worked.specs.PiecesRuns.{initialises, opens, caller_opens, unit_at, of_one_answered, plan_with, all_replies, one_unanswered, reads_and_asks, stream_last}
 use Rattle.cc_worked.proofs.Marks.{marks, marked-then, marked-idle, shows}
 use Rattle.cc_worked.proofs.RunMarks.{read_mark, state_mark, phases-ran}
 use Rattle.cc_worked.proofs.RunsRight.{two-phases}
@@ -44,6 +44,29 @@ returns-clause-explained c = record {
   ran = two-phases;
   posted_once = tt;
 }
+
+-- the replies answer the lines in the order of the script
+lines-told : (replies ended its answers : List LineReply) → answered_lines ended ≡ [] → answered_lines its ≡ 1 ∷ [] → answered_lines answers ≡ 2 ∷ 3 ∷ [] → replies ≡ ended ++ (its ++ answers) → answered_lines replies ≡ 1 ∷ 2 ∷ 3 ∷ []
+lines-told replies (first ∷ ended) its answers none one more same = absurd (cc)
+lines-told replies [] [] answers none one more same = absurd (cc)
+lines-told replies [] (first ∷ next ∷ its) answers none one more same = absurd (cc)
+lines-told replies [] (first ∷ []) answers none one more same =
+    let line : first.line ≡ 1 = cc in
+    ap answered_lines same ∙ rw (line, more) refl
+
+pub returns-clause-streams_first : goal.returns-clause-streams_first
+returns-clause-streams_first c left =
+    other (lines-told stream_last left.ended left.setup left.answers left.restart_lines left.setup_lines left.answer_lines left.replies_are)
+  where
+    other : answered_lines stream_last ≡ 1 ∷ 2 ∷ 3 ∷ [] → ⊥
+    other same = let first : ◌≡◌ {A = ℕ} 2 1 = cc in omega (arith, first)
+
+pub returns-clause-each_line : goal.returns-clause-each_line
+returns-clause-each_line c left =
+    other (lines-told one_unanswered left.ended left.setup left.answers left.restart_lines left.setup_lines left.answer_lines left.replies_are)
+  where
+    other : answered_lines one_unanswered ≡ 1 ∷ 2 ∷ 3 ∷ [] → ⊥
+    other same = absurd (cc)
 
 -- no reply is that of a restart
 no-ended : (ended its answers : List LineReply) → answered_lines ended ≡ [] → all_replies ≡ ended ++ (its ++ answers) → all_replies ≡ its ++ answers

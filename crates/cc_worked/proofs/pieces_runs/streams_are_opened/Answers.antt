@@ -1,17 +1,19 @@
 -- The calls of pass 0, by their ends.
-use Rattle.std.specs.Prelude.{◌≡◌, ℕ, false, [], ◌∷◌, ◌++◌, refl}
+use Rattle.std.specs.Prelude.{◌≡◌, ℕ, ◌<◌, false, [], ◌∷◌, ◌++◌, length, refl}
 use Rattle.std.specs.declared.option.Option.TheVariants.{Some, None}
 use Rattle.std.proofs.Common.{inl, inr, arith, ap}
 use Rattle.cc_entry.specs.declared.call.Call.TheVariants as call
 use Rattle.cc_entry.specs.declared.error.CcError.TheVariants as error
 use Rattle.cc_entry.specs.declared.reply.Reply.TheVariants as reply
 use Rattle.cc_entry.specs.declared.reply.Outcome.TheVariants as outcome
+use Rattle.cc_model.specs.Room.{room_in}
 use Rattle.cc_effects.specs.Calls.{CallLeft}
+use Rattle.cc_effects.proofs.Licences.{some-here}
 use Rattle.cc_effects.proofs.Starts.{begins, ends_done, ends_refused}
 use Rattle.cc_effects.proofs.Stretches.{idle-none}
 use Rattle.cc_worked.specs.Values.{setup, a, b, sized, opened}
 use Rattle.cc_worked.specs.PiecesRuns.{stream_with, initialises, opens, opens_with, caller_opens, log_all_the_same, opens_both, opens_first_twice}
-use Rattle.cc_worked.proofs.PiecesOpened.{neither}
+use Rattle.cc_worked.proofs.PiecesOpened.{computed, neither}
 use Rattle.cc_worked.proofs.Marks.{Ended, marks, shows, marked-then, marked-idle}
 use Rattle.cc_worked.proofs.RunMarks.{opened_marks, opening-marked, refused-opening}
 use Rattle.cc_worked.proofs.pieces_runs.streams_are_opened.Goals as goal
@@ -76,6 +78,15 @@ returns-clause-no_more c left =
 
     done : marks 0 log_all_the_same ≡ Ended initialises (outcome.Done reply.Unit) ∷ Ended (call.SetLog a 0) (outcome.Failed (error.NoVacbs 3)) ∷ [] → ⊥
     done same = absurd (cc)
+
+pub returns-clause-not_full : goal.returns-clause-not_full
+unfolding computed
+returns-clause-not_full c left =
+    let here = some-here (λ moment. (0 ≡ length moment) × (room_in setup moment 0 < 4)) [] (left.room refl) in
+    far here.1
+  where
+    far : room_in setup [] 0 < 4 → ⊥
+    far less = omega (arith, less)
 
 pub returns-clause-by_their_number : goal.returns-clause-by_their_number
 returns-clause-by_their_number c left =
