@@ -47,15 +47,15 @@ module _ {D : Type 0} (faults : D → ℕ) (n : ℕ) (old begun new : List D) (f
   pub not-risen : HaveNotRisen faults old begun
   not-risen s was now is now_is = elim (cases_lt s n) [
     | inl low ↦
-      let inside : s < length new = let within = slice_get_within begun s now now_is in omega arith in
-      let last = held new s inside in
-      let up = risen s now last.0 now_is last.1 in
-      let all = stayed s was last.0 (get-take n old s was low is) (get-take n new s last.0 low last.1) in
-      omega arith
+        let inside : s < length new = let within = slice_get_within begun s now now_is in omega arith in
+        let last = held new s inside in
+        let up = risen s now last.0 now_is last.1 in
+        let all = stayed s was last.0 (get-take n old s was low is) (get-take n new s last.0 low last.1) in
+        omega arith
     | inr high ↦
-      let same : now ≡ was = same_Some now was (sym now_is ∙ kept s high ∙ is) in
-      let counts : faults now ≡ faults was = ap faults same in
-      omega arith
+        let same : now ≡ was = same_Some now was (sym now_is ∙ kept s high ∙ is) in
+        let counts : faults now ≡ faults was = ap faults same in
+        omega arith
   ]
 
 -- no stream is past the sixteenth, and no log that is restarted past the fourth

@@ -62,8 +62,7 @@ restarted-ended u (restart ∷ restarts) [] replies old new handles left = absur
 restarted-ended u (restart ∷ restarts) (one ∷ ended) [] old new handles left = absurd left
 restarted-ended u (restart ∷ restarts) (one ∷ ended) (r ∷ replies) old new handles left =
     let head : one.handle ≡ restart.handle = cc handles in
-    let tail : map (λ (x : LogRestart). x.handle) ended ≡ map (λ (x : RestartLine). x.handle) restarts = cc handles in
-    (
+    let tail : map (λ (x : LogRestart). x.handle) ended ≡ map (λ (x : RestartLine). x.handle) restarts = cc handles in (
       left.0,
       record {
         left = subst (λ (h : ℕ). RestartAnswered u h r.answer old left.0) head (answered-end u one.handle one.ended r.answer old left.0 left.1.told);

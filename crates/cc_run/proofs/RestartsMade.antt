@@ -23,5 +23,7 @@ module _ {D L : Type 0} (told : D → Option Disk) (faults : D → ℕ) (log_tol
   -- there are as many disks and logs
   pub begun-enough : (posts : ℕ) → has_devices (length disks) (length logs) posts script ≡ true → has_devices (length begun) (length logs_begun) posts script ≡ true
   begun-enough posts enough =
-      rw ((all-fallen told faults log_told log_faults script.streams script.restarts ended disks begun logs logs_begun made).count,
-        (all-logs_fallen told faults log_told log_faults script.streams script.restarts ended disks begun logs logs_begun made).count) enough
+      rw (
+        (all-fallen told faults log_told log_faults script.streams script.restarts ended disks begun logs logs_begun made).count,
+        (all-logs_fallen told faults log_told log_faults script.streams script.restarts ended disks begun logs logs_begun made).count,
+      ) enough

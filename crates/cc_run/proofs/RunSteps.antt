@@ -144,6 +144,7 @@ module _ (disks logs posts : ℕ) (script : Script) (enough : has_devices disks 
 
   pub enough-posts : defer_lines script.lines ≤ posts
   enough-posts = leb-true (defer_lines script.lines) posts further.1
+
 -- each stream has a reply
 pub opened-long : (u : Setup) (restarts : List RestartLine) (ended : List LineReply) (s : ℕ) (streams : List StreamLine) (before after : List LineReply) (old new : List Entry) → StreamsOpened u restarts ended s streams before after old new → length after ≡ length before + length streams
 opened-long u restarts ended s streams before after old new opened =

@@ -14,9 +14,9 @@ pub returns-clause-begun : goal.returns-clause-begun
 returns-clause-begun g c = (
   c.end_restarts.new.desk.last.entries,
   begun-so g.D.Told.told g.D.Told.faults g.L.LogFile.told g.L.LogFile.faults c.args.desk.now c.end_restarts.new.desk c.act_as.new.self c.open_streams.new.desk c.act_as.ensures c.end_restarts.ensures.run
-  c.args.script.now c.args.ended.now c.end_restarts.new.replies.items c.args.replies.now.items c.open_streams.new.replies.items
-  c.requires.empty c.requires.none c.requires.ended c.end_restarts.ensures.ended c.end_restarts.ensures.alone
-  (rw (c.as_slice.ensures, c.as_slice-2.ensures.same) at c.open_streams.ensures.opened) c.open_streams.ensures.alone,
+      c.args.script.now c.args.ended.now c.end_restarts.new.replies.items c.args.replies.now.items c.open_streams.new.replies.items
+      c.requires.empty c.requires.none c.requires.ended c.end_restarts.ensures.ended c.end_restarts.ensures.alone
+      (rw (c.as_slice.ensures, c.as_slice-2.ensures.same) at c.open_streams.ensures.opened) c.open_streams.ensures.alone,
 )
 
 pub returns-clause-run : goal.returns-clause-run
