@@ -1,0 +1,15 @@
+-- Lemmas.
+mod LastOwn
+mod Silent
+mod Keeping
+mod Owed
+mod Growing
+mod Replies
+mod LogCalls
+mod Recorded
+mod Said
+mod Updates
+mod Checkpoints
+mod Whole
+mod Devices
+mod Within
