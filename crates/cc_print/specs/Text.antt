@@ -4,6 +4,7 @@ use Rattle.std.specs.List.{flat_map, find, range_with_len}
 use Rattle.cc_entry.specs.declared.answer.LineReply.{LineReply}
 use Rattle.cc_entry.specs.declared.entry.Entry.{Entry}
 use Rattle.cc_script.specs.declared.script.StreamLine.{StreamLine}
+use Rattle.cc_script.specs.declared.script.RestartLine.{RestartLine}
 use Rattle.cc_script.specs.declared.script.ActionLine.{ActionLine}
 use Rattle.cc_script.specs.declared.script.Script.{Script}
 use Rattle.cc_print.specs.Append.{◌&◌}
@@ -31,9 +32,15 @@ told streams None = []
 abbrev pub reply_line : List StreamLine → List LineReply → ℕ → List ℕ
 reply_line streams replies line = told streams (find (λ reply. reply.line == line) replies)
 
--- one line for each stream of the script
-abbrev pub setup_lines : List StreamLine → List LineReply → List ℕ
-setup_lines streams replies = flat_map (λ stream. reply_line streams replies stream.line) streams
+-- one line for each restart of the script, and one for each stream
+abbrev pub restart_lines : List RestartLine → List StreamLine → List LineReply → List ℕ
+restart_lines restarts streams replies = flat_map (λ restart. reply_line streams replies restart.line) restarts
+
+abbrev pub stream_lines : List StreamLine → List LineReply → List ℕ
+stream_lines streams replies = flat_map (λ stream. reply_line streams replies stream.line) streams
+
+abbrev pub setup_lines : List RestartLine → List StreamLine → List LineReply → List ℕ
+setup_lines restarts streams replies = restart_lines restarts streams replies ++ stream_lines streams replies
 
 -- one line for each action of a caller
 abbrev pub caller_lines : List StreamLine → List ActionLine → List LineReply → ℕ → List ℕ
@@ -75,7 +82,7 @@ trace_lines streams journal = flat_map (λ entry. trace_line streams entry) jour
 -- the sections in their order
 unfoldable pub text_of : Script → List LineReply → List Entry → List TableRow → List ℕ
 text_of script replies journal table =
-    section (codes "setup") (setup_lines script.streams replies)
+    section (codes "setup") (setup_lines script.restarts script.streams replies)
     ++ callers_text script.streams script.lines replies
     ++ section (codes "journal") (journal_from script.streams 1 journal)
     ++ section (codes "table") (table_lines script.streams table)

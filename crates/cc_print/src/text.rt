@@ -2,7 +2,7 @@
 
 ghost use Rattle.std.specs.Prelude.{◌≡◌, ◌++◌, IfOk, OnOk, codes, string_bytes};
 ghost use Rattle.cc_print.specs.Entries.{entry_text};
-ghost use Rattle.cc_print.specs.Text.{numbered, section, reply_line, setup_lines, caller_lines, each_caller, callers_text, caller_heading, journal_from, table_lines, trace_lines, text_of};
+ghost use Rattle.cc_print.specs.Text.{numbered, section, reply_line, restart_lines, stream_lines, setup_lines, caller_lines, each_caller, callers_text, caller_heading, journal_from, table_lines, trace_lines, text_of};
 
 use crate::answer::push_answer;
 use crate::entry::push_entry;
@@ -10,7 +10,7 @@ use crate::replies::Replies;
 use crate::table::{TableRow, push_table_line};
 use crate::trace::push_trace_line;
 use cc_entry::{Entry, LineReply, NoMemory};
-use cc_script::{ActionLine, Script, StreamLine};
+use cc_script::{ActionLine, RestartLine, Script, StreamLine};
 use std::alloc::{AllocError, Global};
 
 /// The callers of a script, in their order.
@@ -48,17 +48,46 @@ fn push_reply_line(
     }
 }
 
+fn push_restart_lines(
+    text: &mut String,
+    restarts: &[RestartLine],
+    streams: &[StreamLine],
+    replies: &Replies,
+) -> Result<(), AllocError>
+    ensures { OnOk result
+        (string_bytes text.new ≡ string_bytes text.old ++ restart_lines restarts.now streams.now replies.now) }
+{
+    for restart in restarts {
+        push_reply_line(text, streams, replies, restart.line)?;
+    }
+    Ok(())
+}
+
+fn push_stream_lines(
+    text: &mut String,
+    streams: &[StreamLine],
+    replies: &Replies,
+) -> Result<(), AllocError>
+    ensures { OnOk result
+        (string_bytes text.new ≡ string_bytes text.old ++ stream_lines streams.now replies.now) }
+{
+    for stream in streams {
+        push_reply_line(text, streams, replies, stream.line)?;
+    }
+    Ok(())
+}
+
 fn setup_lines(
     alloc: Global,
+    restarts: &[RestartLine],
     streams: &[StreamLine],
     replies: &Replies,
 ) -> Result<String, AllocError>
-    ensures { IfOk result (λ text. string_bytes text ≡ setup_lines streams.now replies.now) }
+    ensures { IfOk result (λ text. string_bytes text ≡ setup_lines restarts.now streams.now replies.now) }
 {
     let mut text = String::new(alloc);
-    for stream in streams {
-        push_reply_line(&mut text, streams, replies, stream.line)?;
-    }
+    push_restart_lines(&mut text, restarts, streams, replies)?;
+    push_stream_lines(&mut text, streams, replies)?;
     Ok(text)
 }
 
@@ -205,7 +234,7 @@ fn whole_text(
 {
     let streams = script.streams.as_slice();
     let replies = Replies::new(alloc, replies)?;
-    let setup = setup_lines(alloc, streams, &replies)?;
+    let setup = setup_lines(alloc, script.restarts.as_slice(), streams, &replies)?;
     let rows = table_lines(alloc, streams, table)?;
     let trace = trace_lines(alloc, streams, journal)?;
     let mut text = String::new(alloc);

@@ -13,14 +13,14 @@ use Rattle.cc_script.specs.HoldNames.{word_of, new_word}
 use Rattle.cc_script.specs.Actions.{next, flag, ended, file_of, span_of, optional_span_of, optional_number_of, quota_of, sizes_of, initialise_of, uninitialise_of, copy_read_of, copy_write_of, zero_of, nc_read_of, nc_write_of, set_sizes_of, state_of, flush_of, purge_of, discard_of, set_log_of, append_of, log_flush_of, dirty_pages_of, lsn_for_file_of}
 use Rattle.cc_script.specs.HoldActions.{stretch_of, map_of, pin_read_of, pin_mapped_of, prepare_pin_of, held_read_of, pinned_write_of, stamp_of, set_dirty_of, unpin_of, repin_of, unpin_repinned_of, mdl_read_of, mdl_write_of, mdl_bytes_of, mdl_store_of, mdl_done_of, mdl_abort_of}
 use Rattle.cc_script.specs.EventActions.{nc_read_in, nc_write_in, nc_store_page_of, ask_ahead_of, set_granularity_of, set_attributes_of, set_threshold_of, fill_of, drop_of, write_begin_of, write_end_of, sync_of, can_write_of, defer_of, async_read_of}
-use Rattle.cc_script.specs.ShimActions.{read_of, write_of, update_of, levels_of, settle_of, lock_of, unlock_of}
+use Rattle.cc_script.specs.ShimActions.{read_of, write_of, update_of, levels_of, settle_of, checkpoint_of, lock_of, unlock_of}
 use Rattle.cc_script.specs.ActionTable.{action_of}
 use Rattle.cc_script.specs.Modes.{Both, RunAlone, stands, verb_modes}
 use Rattle.cc_script.specs.Within.{IsFileWithin}
 use Rattle.cc_script.proofs.Steps.{then-gives, next-gives, ended-gives, between-gives, file-gives, bytes-give}
 use Rattle.cc_script.proofs.Plain.{IsRead, IsPlain, none-bound}
 use Rattle.cc_script.proofs.EventsRead.{nc_read_page-gives, nc_store_page-gives, nc_write_page-gives, set_granularity-gives, set_attributes-gives, set_threshold-gives, fill-gives, drop-gives, write_begin-gives, write_end-gives, sync-gives, scan-gives, ask_ahead-gives, ahead_step-gives, tick-gives, can_write-gives, defer-gives, post-gives, async_read-gives, complete-gives}
-use Rattle.cc_script.proofs.ShimRead.{read-gives, write-gives, update-gives, levels-gives, settle-gives, lock-gives, unlock-gives}
+use Rattle.cc_script.proofs.ShimRead.{read-gives, write-gives, update-gives, levels-gives, settle-gives, checkpoint-gives, lock-gives, unlock-gives}
 
 -- a new word has the next number
 new-gives : (names : List (List ℕ)) (name : List ℕ) (found : ℕ × List (List ℕ)) → new_word names name ≡ Some found → (found.0 ≡ length names) × (length found.1 ≡ suc (length names))
@@ -414,6 +414,7 @@ action-gives m streams names verb.Lock ws found in_mode e = none-bound m streams
 action-gives m streams names verb.Unlock ws found in_mode e = none-bound m streams names (unlock_of streams ws) found (unlock-gives m streams ws in_mode) e
 action-gives m streams names verb.Levels ws found in_mode e = none-bound m streams names (levels_of streams ws) found (levels-gives m streams ws in_mode) e
 action-gives m streams names verb.Settle ws found in_mode e = none-bound m streams names (settle_of streams ws) found (settle-gives m streams ws in_mode) e
+action-gives m streams names verb.Checkpoint ws found in_mode e = none-bound m streams names (checkpoint_of streams ws) found (checkpoint-gives m streams ws in_mode) e
 action-gives m streams names verb.IsDirtyData ws found in_mode e = none-bound m streams names (ended ws action.IsDirtyData) found (is_dirty-gives m streams ws) e
 action-gives m streams names verb.SetLog ws found in_mode e = none-bound m streams names (set_log_of streams ws) found (set_log-gives m streams ws) e
 action-gives m streams names verb.Append ws found in_mode e = none-bound m streams names (append_of ws) found (append-gives m streams ws) e
@@ -458,5 +459,6 @@ action-gives m streams names verb.Stream ws found in_mode e = absurd (cc)
 action-gives m streams names verb.Journal ws found in_mode e = absurd (cc)
 action-gives m streams names verb.Threshold ws found in_mode e = absurd (cc)
 action-gives m streams names verb.Workers ws found in_mode e = absurd (cc)
+action-gives m streams names verb.Restart ws found in_mode e = absurd (cc)
 action-gives m streams names verb.Phase ws found in_mode e = absurd (cc)
 action-gives m streams names verb.Fail ws found in_mode e = absurd (cc)

@@ -10,6 +10,7 @@ use Rattle.cc_script.specs.declared.script.Action.{Action}
 use Rattle.cc_script.specs.declared.script.ActionLine.{ActionLine}
 use Rattle.cc_script.specs.ActionTable.{bytes_moved}
 use Rattle.cc_script.specs.HoldWords.{bound_after, bound_if, IsRightIf, UsesRight, AreUsedRight}
+use Rattle.cc_script.specs.Checkpoints.{is_checkpoint, StandApart, CheckpointsStandApart}
 use Rattle.cc_script.specs.Modes.{stands, action_modes, IsLineOf, IsOfMode}
 use Rattle.cc_script.specs.Within.{IsFileWithin, IsPageWithin, IsActionWithin, IsLineWithin, PhasesAscend, IsWithin}
 use Rattle.cc_script.specs.Generator.{state_after, draw_of, caller_state, stream_state, page_state, byte_state, draws_of, drawn_file, drawn_page, drawn_action, drawn_caller, drawn_line, drawn_lines, drawn_streams, generated}
@@ -43,6 +44,7 @@ record IsDrawn (a : Action) : Type 0 where
   in_mode : stands (action_modes a) mode.Steps ≡ true
   right : UsesRight [] a
   after : bound_after a [] ≡ []
+  plain : is_checkpoint a ≡ false
 
 either-drawn : (t : Bool) (a b : Action) → IsDrawn a → IsDrawn b → IsDrawn (if t then a else b)
 either-drawn true a b is other = is
@@ -53,14 +55,14 @@ unfolding drawn_action
 action-drawn d is =
     let in_page : IsPageWithin drawn_streams (drawn_page d) = record { stream = is.stream; number = low } in
     let in_file : IsFileWithin drawn_streams (drawn_file d) = record { stream = is.stream; object = lit≤ tt } in
-    either-drawn (d.verb == 0) _ _ (record { within = in_page; moved = lit≤ tt; in_mode = refl; right = tt; after = refl })
-    (either-drawn (d.verb == 1) _ _ (record { within = in_page; moved = lit≤ tt; in_mode = refl; right = tt; after = refl })
-    (either-drawn (d.verb == 2) _ _ (record { within = in_page; moved = lit≤ tt; in_mode = refl; right = tt; after = refl })
-    (either-drawn (d.verb == 3) _ _ (record { within = in_page; moved = lit≤ tt; in_mode = refl; right = tt; after = refl })
-    (either-drawn (d.verb == 4) _ _ (record { within = in_file; moved = lit≤ tt; in_mode = refl; right = tt; after = refl })
-    (either-drawn (d.verb == 5) _ _ (record { within = in_file; moved = lit≤ tt; in_mode = refl; right = tt; after = refl })
-    (either-drawn (d.verb == 6) _ _ (record { within = tt; moved = lit≤ tt; in_mode = refl; right = tt; after = refl })
-    (record { within = tt; moved = lit≤ tt; in_mode = refl; right = tt; after = refl })))))))
+    either-drawn (d.verb == 0) _ _ (record { within = in_page; moved = lit≤ tt; in_mode = refl; right = tt; after = refl; plain = refl })
+    (either-drawn (d.verb == 1) _ _ (record { within = in_page; moved = lit≤ tt; in_mode = refl; right = tt; after = refl; plain = refl })
+    (either-drawn (d.verb == 2) _ _ (record { within = in_page; moved = lit≤ tt; in_mode = refl; right = tt; after = refl; plain = refl })
+    (either-drawn (d.verb == 3) _ _ (record { within = in_page; moved = lit≤ tt; in_mode = refl; right = tt; after = refl; plain = refl })
+    (either-drawn (d.verb == 4) _ _ (record { within = in_file; moved = lit≤ tt; in_mode = refl; right = tt; after = refl; plain = refl })
+    (either-drawn (d.verb == 5) _ _ (record { within = in_file; moved = lit≤ tt; in_mode = refl; right = tt; after = refl; plain = refl })
+    (either-drawn (d.verb == 6) _ _ (record { within = tt; moved = lit≤ tt; in_mode = refl; right = tt; after = refl; plain = refl })
+    (record { within = tt; moved = lit≤ tt; in_mode = refl; right = tt; after = refl; plain = refl })))))))
   where
     low : d.page < 2 ^ 51
     low = let page = is.page in omega (arith, page)
@@ -101,6 +103,27 @@ lines-of_steps zero number x = tt
 lines-of_steps (suc more) number x =
     let a = action-drawn (draws_of x) (draws-are x) in
     (record { in_mode = a.in_mode; fails = λ f. absurd (cc) }, lines-of_steps more (suc number) (byte_state x))
+
+-- none is a checkpoint
+lines-plain : (more number x : ℕ) → AllByRecursion (λ line. is_checkpoint line.action ≡ false) (drawn_lines more number x)
+unfolding drawn_lines
+lines-plain zero number x = tt
+lines-plain (suc more) number x =
+    let a = action-drawn (draws_of x) (draws-are x) in (a.plain, lines-plain more (suc number) (byte_state x))
+
+neither-is : (one other : Bool) → one ≡ false → other ≡ false → (one || other) ≡ true → ⊥
+neither-is true other e f g = absurd (cc)
+neither-is false true e f g = absurd (cc)
+neither-is false false e f g = absurd (cc)
+
+plain-apart : (line : ActionLine) (lines : List ActionLine) → is_checkpoint line.action ≡ false → AllByRecursion (λ line. is_checkpoint line.action ≡ false) lines → AllByRecursion (StandApart line) lines
+plain-apart line [] plain all = tt
+plain-apart line (other ∷ lines) plain all =
+    (λ same one. absurd (neither-is (is_checkpoint line.action) (is_checkpoint other.action) plain all.0 one), plain-apart line lines plain all.1)
+
+all-apart : (lines : List ActionLine) → AllByRecursion (λ line. is_checkpoint line.action ≡ false) lines → CheckpointsStandApart lines
+all-apart [] all = tt
+all-apart (line ∷ lines) all = (plain-apart line lines all.0 all.1, all-apart lines all.1)
 
 lines-counted : (more number x : ℕ) → length (drawn_lines more number x) ≡ more
 unfolding drawn_lines
@@ -147,11 +170,13 @@ generated_within n =
       lines = lines-within 4000 3 n;
       in_order = phases-ascend 4000 3 n;
       words = λ caller. words-right caller 4000 3 n;
+      restarts = tt;
+      apart = all-apart (drawn_lines 4000 3 n) (lines-plain 4000 3 n);
     }
 
 pub generated_of_steps : (n : ℕ) → IsOfMode mode.Steps (generated n)
 unfolding generated
-generated_of_steps n = record { streams = (refl, (refl, tt)); lines = lines-of_steps 4000 3 n; phases = refl }
+generated_of_steps n = record { streams = (refl, (refl, tt)); lines = lines-of_steps 4000 3 n; phases = refl; restarts = refl }
 
 first_drawn : (more number x : ℕ) → drawn_lines (suc more) number x ≡ (drawn_line number (draws_of x) ∷ []) ++ drawn_lines more (suc number) (byte_state x)
 unfolding drawn_lines

@@ -5,7 +5,7 @@ use Rattle.cc_script.specs.declared.script.StreamLine.{StreamLine}
 use Rattle.cc_script.specs.declared.script.Action.{Action}
 use Rattle.cc_script.specs.Words.{number_of, number_between, bytes_of}
 use Rattle.cc_script.specs.Actions.{next, file_of, span_of}
-use Rattle.cc_script.specs.ShimActions.{path_of, read_of, write_of, update_of, levels_of, settle_of, lock_of, unlock_of}
+use Rattle.cc_script.specs.ShimActions.{path_of, read_of, write_of, update_of, levels_of, settle_of, checkpoint_of, lock_of, unlock_of}
 use Rattle.cc_script.specs.Modes.{RunAlone, stands}
 use Rattle.cc_script.proofs.Steps.{then-gives, next-gives, ended-gives, between-gives, file-gives, bytes-give}
 use Rattle.cc_script.proofs.Plain.{IsPlain}
@@ -85,3 +85,11 @@ settle-gives m streams ws in_mode a e =
     let f = next-gives (file_of streams) ws file.0.0 file.0.1 file.1 in
     subst (IsPlain m streams) end.1
     (record { file = file-gives streams f.word file.0.0 f.reads; moved = omega arith; numbered = λ n. refl; in_mode = in_mode })
+
+pub checkpoint-gives : (m : Mode) (streams : List StreamLine) (ws : List (List ℕ)) → stands RunAlone m ≡ true → (a : Action) → checkpoint_of streams ws ≡ Some a → IsPlain m streams a
+unfolding checkpoint_of
+checkpoint-gives m streams ws in_mode a e =
+    let log = then-gives (next (number_between 0 3) ws) _ a e in
+    let end = ended-gives _ _ a log.2 in
+    subst (IsPlain m streams) end.1
+    (record { file = refl; moved = omega arith; numbered = λ n. refl; in_mode = in_mode })

@@ -13,7 +13,7 @@ use Rattle.cc_script.specs.HoldWords.{meets, covers, is_open, has_range, may_use
 use Rattle.cc_script.proofs.Steps.{both}
 use Rattle.cc_script.proofs.Plain.{IsNumbered}
 
-no_no : (t : Bool) → not t ≡ true → t ≡ false
+pub no_no : (t : Bool) → not t ≡ true → t ≡ false
 no_no true e = absurd (cc)
 no_no false e = refl
 

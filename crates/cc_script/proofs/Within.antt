@@ -10,29 +10,32 @@ use Rattle.cc_script.specs.declared.script.Mode.{Mode}
 use Rattle.cc_script.specs.declared.script.Mode.TheVariants as mode
 use Rattle.cc_script.specs.declared.script.Script.{Script}
 use Rattle.cc_script.specs.declared.script.StreamLine.{StreamLine}
+use Rattle.cc_script.specs.declared.script.RestartLine.{RestartLine}
 use Rattle.cc_script.specs.declared.script.Action.{Action}
 use Rattle.cc_script.specs.declared.script.ActionLine.{ActionLine}
 use Rattle.cc_script.specs.declared.verb.Verb.{Verb}
 use Rattle.cc_script.specs.declared.verb.Verb.TheVariants as verb
 use Rattle.cc_script.specs.declared.reading.Reading.{Reading}
 use Rattle.cc_script.specs.declared.reading.Workers.{Workers}
+use Rattle.cc_script.specs.declared.phase_lines.PhaseLines.{PhaseLines}
 use Rattle.cc_script.specs.Text.{lines, words}
 use Rattle.cc_script.specs.Words.{number_of, number_between, name_of, caller_of}
-use Rattle.cc_script.specs.Modes.{RunAlone, StepsAlone, stands, verb_modes, is_call, IsLineOf, HasPhases, IsOfMode, IsStreamOf}
+use Rattle.cc_script.specs.Modes.{RunAlone, StepsAlone, stands, verb_modes, is_call, IsLineOf, HasPhases, HasRestarts, IsOfMode, IsStreamOf}
 use Rattle.cc_script.specs.Verbs.{takes_caller, verb_in}
 use Rattle.cc_script.specs.declared.bound.Bound.{Bound}
 use Rattle.cc_script.specs.declared.caller_words.CallerWords.{CallerWords}
 use Rattle.cc_script.specs.Actions.{next, flag, quota_of}
 use Rattle.cc_script.specs.ActionTable.{action_of, bytes_counted, dirty_lines}
 use Rattle.cc_script.specs.HoldWords.{may_use, bound_after, IsRightIf, bound_so_far, UsesRight}
-use Rattle.cc_script.specs.Grammar.{nothing_read, may_add, with_stream, log_of, stored_of, stream_of, setting_of, with_journal, with_threshold, workers_of, with_workers, with_phase, placed, no_words, words_by, keeps_totals, with_action, action_line, caller_line, verb_line, called_line, uncalled_line, line_by, words_line, is_printable, text_line, line_of, or_wrong, lines_of, script_of}
+use Rattle.cc_script.specs.Checkpoints.{is_checkpoint, no_lines_yet, is_other, phase_with, is_kept_apart, StandApart, CheckpointsStandApart}
+use Rattle.cc_script.specs.Grammar.{nothing_read, may_add, with_stream, log_of, stored_of, stream_of, setting_of, with_journal, with_threshold, workers_of, with_workers, restart_of, has_restart, with_restart, with_phase, placed, no_words, words_by, keeps_totals, keeps_apart, with_action, action_line, caller_line, verb_line, called_line, uncalled_line, line_by, words_line, is_printable, text_line, line_of, or_wrong, lines_of, script_of}
 use Rattle.cc_script.specs.declared.script.ScriptFault.{ScriptFault}
 use Rattle.cc_script.specs.Answers.{Reads}
-use Rattle.cc_script.specs.Within.{IsStreamWithin, IsLineWithin, PhasesAscend, IsWithin}
+use Rattle.cc_script.specs.Within.{IsStreamWithin, IsLineWithin, PhasesAscend, AreRestartsWithin, IsWithin}
 use Rattle.cc_script.proofs.Steps.{then-gives, if-gives, both, next-gives, ended-gives, between-gives, verb-gives, caller-gives}
 use Rattle.cc_script.proofs.Plain.{IsNumbered}
 use Rattle.cc_script.proofs.ActionsRead.{action-gives}
-use Rattle.cc_script.proofs.UsedRight.{used-right, after-length, numbered-length, so_far-onto, right-onto}
+use Rattle.cc_script.proofs.UsedRight.{no_no, used-right, after-length, numbered-length, so_far-onto, right-onto}
 
 -- a quota is in its range
 quota-gives : (ws : List (List ℕ)) (q : ℕ) (more : List (List ℕ)) → quota_of ws ≡ Some (q, more) → (8 ≤ q) × (q ≤ 64)
@@ -145,6 +148,93 @@ in-steps : (m : Mode) → stands StepsAlone m ≡ true → m ≡ mode.Steps
 in-steps mode.Run e = absurd (cc)
 in-steps mode.Steps e = refl
 
+-- and only a run has a restart
+no-restarts : (m : Mode) → HasRestarts m []
+no-restarts mode.Run = tt
+no-restarts mode.Steps = refl
+
+more-restarts : (m : Mode) (restarts : List RestartLine) → stands RunAlone m ≡ true → HasRestarts m restarts
+more-restarts mode.Run restarts e = tt
+more-restarts mode.Steps restarts e = absurd (cc)
+
+-- What the reader keeps of the phase that is under way, of a line of it: no other caller has had one while they are of one
+-- alone, and it is no checkpoint while none was.
+record IsInPhase (phases : ℕ) (phase : PhaseLines) (line : ActionLine) : Type 0 where
+  caller : line.phase ≡ phases → phase.many ≡ false → phase.caller ≡ Some line.caller
+  checkpoint : line.phase ≡ phases → phase.checkpoint ≡ false → is_checkpoint line.action ≡ false
+
+neither : (s t : Bool) → (s || t) ≡ false → (s ≡ false) × (t ≡ false)
+neither false false e = (refl, refl)
+neither false true e = absurd (cc)
+neither true t e = absurd (cc)
+
+same-as : (last : Option ℕ) (first caller : ℕ) → last ≡ Some first → is_other last caller ≡ false → first ≡ caller
+same-as None first caller is e = absurd (cc)
+same-as (Some last) first caller is e = either (last == caller) refl e
+  where
+    either : (t : Bool) → (last == caller) ≡ t → not t ≡ false → first ≡ caller
+    either true f g = let same = eqb-true last caller f in cc
+    either false f g = absurd (cc)
+
+phase-kept : (phases : ℕ) (phase : PhaseLines) (caller : ℕ) (a : Action) (line : ActionLine) → IsInPhase phases phase line → IsInPhase phases (phase_with caller a phase) line
+phase-kept phases phase caller a line is = record {
+  caller = λ here few.
+      let one = neither phase.many (is_other phase.caller caller) few in
+      ap Some (sym (same-as phase.caller line.caller caller (is.caller here one.0) one.1));
+  checkpoint = λ here none. is.checkpoint here (neither phase.checkpoint (is_checkpoint a) none).0;
+}
+
+phase-kept-all : (phases : ℕ) (phase : PhaseLines) (caller : ℕ) (a : Action) (lines : List ActionLine) → AllByRecursion (IsInPhase phases phase) lines → AllByRecursion (IsInPhase phases (phase_with caller a phase)) lines
+phase-kept-all phases phase caller a lines all =
+    all-weaker (IsInPhase phases phase) (IsInPhase phases (phase_with caller a phase)) (phase-kept phases phase caller a) lines all
+
+phase-has : (phases : ℕ) (phase : PhaseLines) (line : ActionLine) → IsInPhase phases (phase_with line.caller line.action phase) line
+phase-has phases phase line = record {
+  caller = λ here few. refl;
+  checkpoint = λ here none. (neither phase.checkpoint (is_checkpoint line.action) none).1;
+}
+
+-- a phase has no line before its first
+phase-begun : (streams : List StreamLine) (phases : ℕ) (line : ActionLine) → IsLineWithin streams phases line → IsInPhase (phases + 1) no_lines_yet line
+phase-begun streams phases line is =
+    let last = is.last_phase in
+    record {
+      caller = λ here few. absurd (omega (arith, last, here));
+      checkpoint = λ here none. absurd (omega (arith, last, here));
+    }
+
+-- so a line that is added stands apart from those before it
+one-caller : (many checkpoint : Bool) → not (many && checkpoint) ≡ true → checkpoint ≡ true → many ≡ false
+one-caller false checkpoint e is = refl
+one-caller true true e is = absurd (cc)
+one-caller true false e is = absurd (cc)
+
+has-one : (before one other : Bool) → (before ≡ false → one ≡ false) → (one || other) ≡ true → (before || other) ≡ true
+has-one true one other none e = refl
+has-one false one other none e = either one (none refl) e
+  where
+    either : (one : Bool) → one ≡ false → (one || other) ≡ true → other ≡ true
+    either false f g = g
+    either true f g = absurd (cc)
+
+stands-apart : (phases : ℕ) (phase : PhaseLines) (last line : ActionLine) → last.phase ≡ phases → is_kept_apart (phase_with last.caller last.action phase) ≡ true → IsInPhase phases phase line → StandApart line last
+stands-apart phases phase last line now kept is =
+    λ same one.
+    let here : line.phase ≡ phases = same ∙ now in
+    let checkpoint = has-one phase.checkpoint (is_checkpoint line.action) (is_checkpoint last.action) (is.checkpoint here) one in
+    let few = one-caller (phase.many || is_other phase.caller last.caller) (phase.checkpoint || is_checkpoint last.action) kept checkpoint in
+    let parts = neither phase.many (is_other phase.caller last.caller) few in
+    same-as phase.caller line.caller last.caller (is.caller here parts.0) parts.1
+
+apart-before : (phases : ℕ) (phase : PhaseLines) (last : ActionLine) → last.phase ≡ phases → is_kept_apart (phase_with last.caller last.action phase) ≡ true → (lines : List ActionLine) → AllByRecursion (IsInPhase phases phase) lines → AllByRecursion (λ line. StandApart line last) lines
+apart-before phases phase last now kept lines all =
+    all-weaker (IsInPhase phases phase) (λ line. StandApart line last) (λ line is. stands-apart phases phase last line now kept is) lines all
+
+apart-onto : (lines : List ActionLine) (last : ActionLine) → CheckpointsStandApart lines → AllByRecursion (λ line. StandApart line last) lines → CheckpointsStandApart (lines ++ last ∷ [])
+apart-onto [] last apart all = (tt, tt)
+apart-onto (line ∷ lines) last apart all =
+    (all-onto (StandApart line) lines last apart.0 all.0, apart-onto lines last apart.1 all.1)
+
 -- an action that may fail is a call where it fails
 fails-call : (fails call : Bool) → (not fails || call) ≡ true → fails ≡ true → call ≡ true
 fails-call true call e f = e
@@ -159,6 +249,8 @@ record IsSoFar (m : Mode) (n : ℕ) (r : Reading) : Type 0 where
   few : length r.script.lines ≤ n
   callers : length r.words ≡ 17
   kept : (caller : ℕ) → caller ≤ 16 → IsKept caller (words_by caller r) r.script.lines
+  restarts : HasRestarts m r.script.restarts
+  in_phase : AllByRecursion (IsInPhase r.script.phases r.phase) r.script.lines
 
 none-kept : (n caller : ℕ) → get_or (replicate n no_words) caller no_words ≡ no_words
 none-kept zero zero = refl
@@ -186,6 +278,8 @@ nothing-so_far m =
         lines = tt;
         in_order = tt;
         words = λ caller. tt;
+        restarts = tt;
+        apart = tt;
       };
       streams = tt;
       lines = tt;
@@ -193,11 +287,13 @@ nothing-so_far m =
       few = lit≤ tt;
       callers = refl;
       kept = λ caller low. subst (λ (own : CallerWords). IsKept caller own []) (sym (none-kept 17 caller)) (record { bounds = refl; names = refl });
+      restarts = no-restarts m;
+      in_phase = tt;
     }
 
 -- a line that adds no action leaves room for it
 later : (m : Mode) (n : ℕ) (r : Reading) → IsSoFar m n r → IsSoFar m (n + 1) r
-later m n r is = record { within = is.within; streams = is.streams; lines = is.lines; phases = is.phases; few = let few = is.few in omega (arith, few); callers = is.callers; kept = is.kept }
+later m n r is = record { within = is.within; streams = is.streams; lines = is.lines; phases = is.phases; few = let few = is.few in omega (arith, few); callers = is.callers; kept = is.kept; restarts = is.restarts; in_phase = is.in_phase }
 
 no_lines : (xs : List ActionLine) → (length xs == 0) ≡ true → xs ≡ []
 no_lines xs e = let z : length xs ≡ 0 = grind (arith, nat_tests, e) in nil_from_length xs z
@@ -232,6 +328,8 @@ stream-so_far m n stream r new one is e =
         lines = subst (AllByRecursion (IsLineWithin (r.script.streams ++ stream ∷ []) r.script.phases)) (sym empty) tt;
         in_order = w.in_order;
         words = w.words;
+        restarts = w.restarts;
+        apart = w.apart;
       };
       streams = all-onto (IsStreamOf m) r.script.streams stream is.streams one.1;
       lines = is.lines;
@@ -239,6 +337,8 @@ stream-so_far m n stream r new one is e =
       few = is.few;
       callers = is.callers;
       kept = is.kept;
+      restarts = is.restarts;
+      in_phase = is.in_phase;
     })
 
 journal-so_far : (m : Mode) (n capacity : ℕ) (r new : Reading) → (64 ≤ capacity) × (capacity ≤ 1048576) → IsSoFar m n r → with_journal capacity r ≡ Some new → IsSoFar m n new
@@ -267,6 +367,8 @@ journal-so_far m n capacity r new range is e =
         lines = w.lines;
         in_order = w.in_order;
         words = w.words;
+        restarts = w.restarts;
+        apart = w.apart;
       };
       streams = is.streams;
       lines = is.lines;
@@ -274,6 +376,8 @@ journal-so_far m n capacity r new range is e =
       few = is.few;
       callers = is.callers;
       kept = is.kept;
+      restarts = is.restarts;
+      in_phase = is.in_phase;
     })
 
 threshold-so_far : (m : Mode) (n pages : ℕ) (r new : Reading) → (1 ≤ pages) × (pages ≤ 16384) → IsSoFar m n r → with_threshold pages r ≡ Some new → IsSoFar m n new
@@ -302,6 +406,8 @@ threshold-so_far m n pages r new range is e =
         lines = w.lines;
         in_order = w.in_order;
         words = w.words;
+        restarts = w.restarts;
+        apart = w.apart;
       };
       streams = is.streams;
       lines = is.lines;
@@ -309,6 +415,8 @@ threshold-so_far m n pages r new range is e =
       few = is.few;
       callers = is.callers;
       kept = is.kept;
+      restarts = is.restarts;
+      in_phase = is.in_phase;
     })
 
 workers-so_far : (m : Mode) (n : ℕ) (set : Workers) (r new : Reading) → (set.ticks ≤ 1000) × (set.aheads ≤ 1000) → IsSoFar m n r → with_workers set r ≡ Some new → IsSoFar m n new
@@ -337,6 +445,8 @@ workers-so_far m n set r new range is e =
         lines = w.lines;
         in_order = w.in_order;
         words = w.words;
+        restarts = w.restarts;
+        apart = w.apart;
       };
       streams = is.streams;
       lines = is.lines;
@@ -344,6 +454,74 @@ workers-so_far m n set r new range is e =
       few = is.few;
       callers = is.callers;
       kept = is.kept;
+      restarts = is.restarts;
+      in_phase = is.in_phase;
+    })
+
+-- the log of a restart is one of four
+restart-gives : (n : ℕ) (ws : List (List ℕ)) (restart : RestartLine) → restart_of n ws ≡ Some restart → restart.handle < 4
+unfolding restart_of
+restart-gives n ws restart e =
+    let found = then-gives (next (number_between 0 3) ws) _ restart e in
+    let end = ended-gives _ _ restart found.2 in
+    let w = next-gives (number_between 0 3) ws found.0.0 found.0.1 found.1 in
+    let most = (between-gives 0 3 w.word found.0.0 w.reads).most in
+    subst (λ (restart : RestartLine). restart.handle < 4) end.1 (omega (arith, most))
+
+restarts-onto : (restarts : List RestartLine) (last : RestartLine) → last.handle < 4 → has_restart last.handle restarts ≡ false → AreRestartsWithin restarts → AreRestartsWithin (restarts ++ last ∷ [])
+restarts-onto [] last low none all = (low, refl, tt)
+restarts-onto (restart ∷ restarts) last low none all =
+    let parts = neither (restart.handle == last.handle) (has_restart last.handle restarts) none in
+    (all.0, other-onto restart.handle restarts last all.1 (other-way restart.handle last.handle parts.0), restarts-onto restarts last low parts.1 all.2)
+  where
+    other-way : (a b : ℕ) → (a == b) ≡ false → (b == a) ≡ false
+    other-way a b e = grind (arith, nat_tests, e)
+
+    other-onto : (handle : ℕ) (restarts : List RestartLine) (last : RestartLine) → has_restart handle restarts ≡ false → (last.handle == handle) ≡ false → has_restart handle (restarts ++ last ∷ []) ≡ false
+    other-onto handle [] last none other = rw other refl
+    other-onto handle (restart ∷ restarts) last none other =
+        let parts = neither (restart.handle == handle) (has_restart handle restarts) none in
+        rw (parts.0, other-onto handle restarts last parts.1 other) refl
+
+restart-so_far : (m : Mode) (n : ℕ) (restart : RestartLine) (r new : Reading) → stands RunAlone m ≡ true → restart.handle < 4 → IsSoFar m n r → with_restart restart r ≡ Some new → IsSoFar m n new
+unfolding with_restart
+restart-so_far m n restart r new in_mode low is e =
+    let w = is.within in
+    let made : Reading = record r { script = record r.script { restarts = r.script.restarts ++ restart ∷ [] } } in
+    let t = if-gives ((length r.script.lines == 0) && ((length r.script.streams == 0) && not (has_restart restart.handle r.script.restarts))) (Some made) new e in
+    let none = both (length r.script.lines == 0) _ t.0 in
+    let first = both (length r.script.streams == 0) (not (has_restart restart.handle r.script.restarts)) none.1 in
+    let same : made ≡ new = cc in
+    subst (IsSoFar m n) same
+    (record {
+      within = record {
+        header = record {
+          least_journal = w.header.least_journal;
+          most_journal = w.header.most_journal;
+          least_threshold = w.header.least_threshold;
+          most_threshold = w.header.most_threshold;
+          most_ticks = w.header.most_ticks;
+          most_aheads = w.header.most_aheads;
+        };
+        first_phase = w.first_phase;
+        last_phase = w.last_phase;
+        few_streams = w.few_streams;
+        streams = w.streams;
+        few_lines = w.few_lines;
+        lines = w.lines;
+        in_order = w.in_order;
+        words = w.words;
+        restarts = restarts-onto r.script.restarts restart low (no_no (has_restart restart.handle r.script.restarts) first.1) w.restarts;
+        apart = w.apart;
+      };
+      streams = is.streams;
+      lines = is.lines;
+      phases = is.phases;
+      few = is.few;
+      callers = is.callers;
+      kept = is.kept;
+      restarts = more-restarts m (r.script.restarts ++ restart ∷ []) in_mode;
+      in_phase = is.in_phase;
     })
 
 -- a line keeps within one phase more
@@ -366,7 +544,7 @@ phase-so_far m n ws r new in_mode is e =
     let w = is.within in
     let first = w.first_phase in
     let below : r.script.phases ≤ 1000 = grind (arith, nat_tests, (both (length ws == 0) (nat_le r.script.phases 1000) t.0).1) in
-    let same : (let made : Reading = record r { script = record r.script { phases = r.script.phases + 1 } } in made) ≡ new = cc in
+    let same : (let made : Reading = record r { script = record r.script { phases = r.script.phases + 1 }; phase = no_lines_yet } in made) ≡ new = cc in
     subst (IsSoFar m n) same
     (record {
       within = record {
@@ -386,6 +564,8 @@ phase-so_far m n ws r new in_mode is e =
         lines = all-weaker (IsLineWithin r.script.streams r.script.phases) (IsLineWithin r.script.streams (r.script.phases + 1)) (one_phase-more r.script.streams r.script.phases) r.script.lines w.lines;
         in_order = w.in_order;
         words = w.words;
+        restarts = w.restarts;
+        apart = w.apart;
       };
       streams = is.streams;
       lines = is.lines;
@@ -393,6 +573,8 @@ phase-so_far m n ws r new in_mode is e =
       few = is.few;
       callers = is.callers;
       kept = is.kept;
+      restarts = is.restarts;
+      in_phase = all-weaker (IsLineWithin r.script.streams r.script.phases) (IsInPhase (r.script.phases + 1) no_lines_yet) (phase-begun r.script.streams r.script.phases) r.script.lines w.lines;
     })
 
 -- a line of another caller changes nothing of a caller's words
@@ -430,16 +612,17 @@ action-so_far m n line caller fails v ws r new room range may_fail in_mode is e 
     let found = then-gives (action_of m r.script.streams own.names v ws) _ new e in
     let a = found.0.0 in
     let read = action-gives m r.script.streams own.names v ws found.0 in_mode found.1 in
-    let t = if-gives (keeps_totals a r && (may_use a own.bounds && (not fails || is_call a))) _ new found.2 in
-    let all = both (keeps_totals a r) (may_use a own.bounds && (not fails || is_call a)) t.0 in
-    let tests = both (may_use a own.bounds) (not fails || is_call a) all.1 in
+    let t = if-gives (keeps_totals a r && (keeps_apart caller a r && (may_use a own.bounds && (not fails || is_call a)))) _ new found.2 in
+    let all = both (keeps_totals a r) (keeps_apart caller a r && (may_use a own.bounds && (not fails || is_call a))) t.0 in
+    let tests = both (keeps_apart caller a r) (may_use a own.bounds && (not fails || is_call a)) all.1 in
+    let may = both (may_use a own.bounds) (not fails || is_call a) tests.1 in
     let w = is.within in
     let few = is.few in
     let k = is.kept caller range.1 in
     let last : ActionLine = placed line caller fails a r in
     let len : length (r.script.lines ++ last ∷ []) ≡ length r.script.lines + 1 = length-append r.script.lines (last ∷ []) in
     let numbered : IsNumbered a (length own.bounds) (length found.0.1) = subst (λ (old : ℕ). IsNumbered a old (length found.0.1)) k.names read.numbered in
-    let right : UsesRight own.bounds a = used-right a own.bounds (length found.0.1) numbered tests.0 in
+    let right : UsesRight own.bounds a = used-right a own.bounds (length found.0.1) numbered may.0 in
     let so_far : UsesRight (bound_so_far caller [] r.script.lines) a = subst (λ (bounds : List Bound). UsesRight bounds a) k.bounds right in
     let after : CallerWords = record { names = found.0.1; bounds = bound_after a own.bounds } in
     let is_own : (caller == caller) ≡ true = same-caller caller (caller == caller) refl in
@@ -447,7 +630,7 @@ action-so_far m n line caller fails v ws r new room range may_fail in_mode is e 
       bounds = ap (bound_after a) k.bounds ∙ sym (so_far-onto caller [] r.script.lines last ∙ rw is_own refl);
       names = numbered-length a (length own.bounds) (length found.0.1) numbered ∙ sym (after-length a own.bounds right);
     } in
-    let same : (let made : Reading = record r { script = record r.script { lines = r.script.lines ++ last ∷ [] }; total = r.total + bytes_counted a; dirty = r.dirty + dirty_lines a; words = slice_set r.words caller after } in made) ≡ new = cc in
+    let same : (let made : Reading = record r { script = record r.script { lines = r.script.lines ++ last ∷ [] }; total = r.total + bytes_counted a; dirty = r.dirty + dirty_lines a; words = slice_set r.words caller after; phase = phase_with caller a r.phase } in made) ≡ new = cc in
     let one : IsLineWithin r.script.streams r.script.phases last = record {
       first_caller = range.0;
       last_caller = range.1;
@@ -456,7 +639,7 @@ action-so_far m n line caller fails v ws r new room range may_fail in_mode is e 
       file = read.file;
       moved = read.moved;
     } in
-    let of_mode : IsLineOf m last = record { in_mode = read.in_mode; fails = λ f. (may_fail f, fails-call fails (is_call a) tests.1 f) } in
+    let of_mode : IsLineOf m last = record { in_mode = read.in_mode; fails = λ f. (may_fail f, fails-call fails (is_call a) may.1 f) } in
     let each = is.callers in
     let most = range.1 in
     let low : caller < length r.words = omega (arith, each, most) in
@@ -479,6 +662,8 @@ action-so_far m n line caller fails v ws r new room range may_fail in_mode is e 
         lines = all-onto (IsLineWithin r.script.streams r.script.phases) r.script.lines last w.lines one;
         in_order = ascend-onto r.script.streams 1 r.script.lines last w.first_phase w.lines w.in_order;
         words = λ c. right-onto c [] r.script.lines last (w.words c) (right-if caller c a r.script.lines (caller == c) refl so_far);
+        restarts = w.restarts;
+        apart = apart-onto r.script.lines last w.apart (apart-before r.script.phases r.phase last refl tests.0 r.script.lines is.in_phase);
       };
       streams = is.streams;
       lines = all-onto (IsLineOf m) r.script.lines last is.lines of_mode;
@@ -486,6 +671,8 @@ action-so_far m n line caller fails v ws r new room range may_fail in_mode is e 
       few = omega (arith, len, few);
       callers = length-set r.words caller after ∙ is.callers;
       kept = kept-on caller after last r refl low kept is.kept;
+      restarts = is.restarts;
+      in_phase = all-onto (IsInPhase r.script.phases (phase_with caller a r.phase)) r.script.lines last (phase-kept-all r.script.phases r.phase caller a r.script.lines is.in_phase) (phase-has r.script.phases r.phase last);
     })
 
 -- a line of a caller, with `fail` before its action or without
@@ -512,6 +699,9 @@ verb-so_far m n line verb.Threshold ws r new room in_mode is e =
 verb-so_far m n line verb.Workers ws r new room in_mode is e =
     let found = then-gives (workers_of ws) _ new e in
     later m n new (workers-so_far m n found.0 r new (workers-gives ws found.0 found.1) is found.2)
+verb-so_far m n line verb.Restart ws r new room in_mode is e =
+    let found = then-gives (restart_of line ws) _ new e in
+    later m n new (restart-so_far m n found.0 r new in_mode (restart-gives line ws found.0 found.1) is found.2)
 verb-so_far m n line verb.Phase ws r new room in_mode is e = later m n new (phase-so_far m n ws r new in_mode is e)
 verb-so_far m n line v ws r new room in_mode is e = caller-so_far m n line 1 v ws r new room (lit≤ tt, lit≤ tt) in_mode is e
 
@@ -550,7 +740,7 @@ lines-so_far : (m : Mode) (n : ℕ) (ls : List (List ℕ)) (r : Reading) (script
 unfolding lines_of
 lines-so_far m n [] r script is e =
     let same : r.script ≡ script = cc in
-    subst (λ (script : Script). IsWithin script × IsOfMode m script) same (is.within, record { streams = is.streams; lines = is.lines; phases = is.phases })
+    subst (λ (script : Script). IsWithin script × IsOfMode m script) same (is.within, record { streams = is.streams; lines = is.lines; phases = is.phases; restarts = is.restarts })
 lines-so_far m n (line ∷ more) r script is e = either (nat_lt n 65536) refl e (λ new. lines-so_far m (n + 1) more new script)
   where
     on : (o : Option Reading) → line_of m (n + 1) line r ≡ o → n < 65536 → or_wrong (n + 1) o (λ next. lines_of m (n + 1) more next) ≡ Ok script → ((new : Reading) → IsSoFar m (n + 1) new → lines_of m (n + 1) more new ≡ Ok script → IsWithin script × IsOfMode m script) → IsWithin script × IsOfMode m script

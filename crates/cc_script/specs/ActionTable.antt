@@ -8,7 +8,7 @@ use Rattle.cc_script.specs.declared.verb.Verb.{Verb}
 use Rattle.cc_script.specs.declared.verb.Verb.TheVariants as verb
 use Rattle.cc_script.specs.Actions.{ended, initialise_of, uninitialise_of, copy_read_of, copy_write_of, zero_of, set_sizes_of, state_of, flush_of, purge_of, discard_of, set_log_of, append_of, log_flush_of, dirty_pages_of, lsn_for_file_of}
 use Rattle.cc_script.specs.EventActions.{nc_read_in, nc_write_in, nc_store_page_of, ask_ahead_of, set_granularity_of, set_attributes_of, set_threshold_of, fill_of, drop_of, write_begin_of, write_end_of, sync_of, can_write_of, defer_of, async_read_of}
-use Rattle.cc_script.specs.ShimActions.{read_of, write_of, update_of, levels_of, settle_of, lock_of, unlock_of}
+use Rattle.cc_script.specs.ShimActions.{read_of, write_of, update_of, levels_of, settle_of, checkpoint_of, lock_of, unlock_of}
 use Rattle.cc_script.specs.HoldActions.{map_of, pin_read_of, pin_mapped_of, prepare_pin_of, held_read_of, pinned_write_of, set_dirty_of, unpin_of, repin_of, unpin_repinned_of, mdl_read_of, mdl_write_of, mdl_bytes_of, mdl_store_of, mdl_done_of, mdl_abort_of}
 
 -- an action that binds no word
@@ -53,6 +53,7 @@ action_of mode streams names verb.Lock ws = binds_none names (lock_of streams ws
 action_of mode streams names verb.Unlock ws = binds_none names (unlock_of streams ws)
 action_of mode streams names verb.Levels ws = binds_none names (levels_of streams ws)
 action_of mode streams names verb.Settle ws = binds_none names (settle_of streams ws)
+action_of mode streams names verb.Checkpoint ws = binds_none names (checkpoint_of streams ws)
 action_of mode streams names verb.IsDirtyData ws = binds_none names (ended ws action.IsDirtyData)
 action_of mode streams names verb.DirtyPages ws = binds_none names (dirty_pages_of ws)
 action_of mode streams names verb.LsnForFile ws = binds_none names (lsn_for_file_of streams ws)
@@ -80,6 +81,7 @@ action_of mode streams names verb.Stream ws = None
 action_of mode streams names verb.Journal ws = None
 action_of mode streams names verb.Threshold ws = None
 action_of mode streams names verb.Workers ws = None
+action_of mode streams names verb.Restart ws = None
 action_of mode streams names verb.Phase ws = None
 action_of mode streams names verb.Fail ws = None
 

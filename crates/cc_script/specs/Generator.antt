@@ -89,6 +89,7 @@ generated n = record {
   ticks = 0;
   aheads = 0;
   phases = 1;
+  restarts = [];
   streams = drawn_streams;
   lines = drawn_lines 4000 3 n;
 }

@@ -1,11 +1,12 @@
 -- The script that bytes spell: line after line, or the first line that is not in the grammar.
 use Rattle.std.specs.Prelude.{ℕ, ◌+◌, ◌==◌, Bool, true, false, ◌&&◌, ◌||◌, not, Option, Some, None, Result, Ok, Err, is_some, option_map, List, [], ◌∷◌, ◌++◌, length, nat_lt, nat_le, slice_index, slice_set, get_or, replicate, if◌then◌else◌, codes}
-use Rattle.std.specs.List.{list_all}
+use Rattle.std.specs.List.{list_all, list_any}
 use Rattle.std.specs.Str.Lines.{strip_carriage_return}
 use Rattle.cc_script.specs.declared.script.Mode.{Mode}
 use Rattle.cc_script.specs.declared.script.Mode.TheVariants as mode
 use Rattle.cc_script.specs.declared.script.Script.{Script}
 use Rattle.cc_script.specs.declared.script.StreamLine.{StreamLine}
+use Rattle.cc_script.specs.declared.script.RestartLine.{RestartLine}
 use Rattle.cc_script.specs.declared.script.Action.{Action}
 use Rattle.cc_script.specs.declared.script.ActionLine.{ActionLine}
 use Rattle.cc_script.specs.declared.verb.Verb.{Verb}
@@ -21,6 +22,7 @@ use Rattle.cc_script.specs.Modes.{is_call}
 use Rattle.cc_script.specs.Actions.{next, flag, ended, stream_named, quota_of}
 use Rattle.cc_script.specs.ActionTable.{action_of, bytes_counted, dirty_lines}
 use Rattle.cc_script.specs.HoldWords.{may_use, bound_after}
+use Rattle.cc_script.specs.Checkpoints.{no_lines_yet, phase_with, is_kept_apart}
 
 -- no words, of a caller that has bound none
 abbrev pub no_words : CallerWords
@@ -29,13 +31,14 @@ no_words = record { names = []; bounds = [] }
 -- before the first line; the words of the callers stand by their numbers, from 0 on, which binds none
 abbrev pub nothing_read : Reading
 nothing_read = record {
-  script = record { journal = 1048576; threshold = 1024; ticks = 0; aheads = 0; phases = 1; streams = []; lines = [] };
+  script = record { journal = 1048576; threshold = 1024; ticks = 0; aheads = 0; phases = 1; restarts = []; streams = []; lines = [] };
   total = 0;
   has_journal = false;
   has_threshold = false;
   has_workers = false;
   dirty = 0;
   words = replicate 17 no_words;
+  phase = no_lines_yet;
 }
 
 -- the words that a caller bound so far
@@ -119,11 +122,29 @@ with_workers set r =
     then Some (record r { script = record r.script { ticks = set.ticks; aheads = set.aheads }; has_workers = true })
     else None
 
+-- restart LOG
+unfoldable pub restart_of : ℕ → List (List ℕ) → Option RestartLine
+restart_of n ws = do
+  handle ← next (number_between 0 3) ws
+  ended handle.1 (record { line = n; handle = handle.0 })
+
+-- whether a restart is of a log
+abbrev pub has_restart : ℕ → List RestartLine → Bool
+has_restart handle restarts = list_any (λ restart. restart.handle == handle) restarts
+
+-- before the first stream and the first action, at most once of each log
+unfoldable pub with_restart : RestartLine → Reading → Option Reading
+with_restart restart r =
+    if (length r.script.lines == 0)
+    && ((length r.script.streams == 0) && not (has_restart restart.handle r.script.restarts))
+    then Some (record r { script = record r.script { restarts = r.script.restarts ++ restart ∷ [] } })
+    else None
+
 -- phase: at most 1000 times
 unfoldable pub with_phase : List (List ℕ) → Reading → Option Reading
 with_phase ws r =
     if (length ws == 0) && nat_le r.script.phases 1000
-    then Some (record r { script = record r.script { phases = r.script.phases + 1 } })
+    then Some (record r { script = record r.script { phases = r.script.phases + 1 }; phase = no_lines_yet })
     else None
 
 -- a line of a caller's action, in the phase that is under way, and whether it fails
@@ -138,16 +159,21 @@ keeps_totals action r = nat_le (r.total + bytes_counted action) 33554432 && nat_
 abbrev pub words_after : Action → CallerWords → CallerWords
 words_after action own = record own { bounds = bound_after action own.bounds }
 
--- An action of a caller with these words, of which those that it binds are known already: within the totals, on holds as
--- the words allow, and a call where it fails.
+-- a phase that has a checkpoint has lines of one caller alone
+abbrev pub keeps_apart : ℕ → Action → Reading → Bool
+keeps_apart caller action r = is_kept_apart (phase_with caller action r.phase)
+
+-- An action of a caller with these words, of which those that it binds are known already: within the totals, beside no
+-- checkpoint of another caller, on holds as the words allow, and a call where it fails.
 unfoldable pub with_action : ℕ → ℕ → Bool → CallerWords → Action → Reading → Option Reading
 with_action n caller fails own action r =
-    if keeps_totals action r && (may_use action own.bounds && (not fails || is_call action))
+    if keeps_totals action r && (keeps_apart caller action r && (may_use action own.bounds && (not fails || is_call action)))
     then Some (record r {
       script = record r.script { lines = r.script.lines ++ placed n caller fails action r ∷ [] };
       total = r.total + bytes_counted action;
       dirty = r.dirty + dirty_lines action;
       words = slice_set r.words caller (words_after action own);
+      phase = phase_with caller action r.phase;
     })
     else None
 
@@ -177,6 +203,9 @@ verb_line mode n verb.Threshold ws r = do
 verb_line mode n verb.Workers ws r = do
   set ← workers_of ws
   with_workers set r
+verb_line mode n verb.Restart ws r = do
+  restart ← restart_of n ws
+  with_restart restart r
 verb_line mode n verb.Phase ws r = with_phase ws r
 verb_line mode n v ws r = caller_line mode n 1 v ws r
 

@@ -11,6 +11,7 @@ pub mod EventActions
 pub mod ShimActions
 pub mod ActionTable
 pub mod HoldWords
+pub mod Checkpoints
 pub mod Grammar
 pub mod Generator
 pub mod Answers

@@ -1,5 +1,5 @@
 -- The modes that a word of a script stands in, and the actions that a script of a mode may have.
-use Rattle.std.specs.Prelude.{ℕ, ◌≡◌, Bool, true, false, if◌then◌else◌}
+use Rattle.std.specs.Prelude.{ℕ, ◌≡◌, Bool, true, false, List, [], if◌then◌else◌}
 use Rattle.std.specs.List.{AllByRecursion}
 use Rattle.cc_script.specs.declared.verb.Verb.{Verb}
 use Rattle.cc_script.specs.declared.verb.Verb.TheVariants as verb
@@ -9,6 +9,7 @@ use Rattle.cc_script.specs.declared.script.Action.{Action}
 use Rattle.cc_script.specs.declared.script.Action.TheVariants as action
 use Rattle.cc_script.specs.declared.script.ActionLine.{ActionLine}
 use Rattle.cc_script.specs.declared.script.StreamLine.{StreamLine}
+use Rattle.cc_script.specs.declared.script.RestartLine.{RestartLine}
 use Rattle.cc_script.specs.declared.script.Script.{Script}
 
 -- in which modes something stands
@@ -27,6 +28,7 @@ stands StepsAlone mode.Steps = true
 -- the modes that a verb stands in: `ncread` and `ncwrite` stand in both, in another form each
 abbrev pub verb_modes : Verb → Modes
 verb_modes verb.Workers = RunAlone
+verb_modes verb.Restart = RunAlone
 verb_modes verb.Phase = RunAlone
 verb_modes verb.Read = RunAlone
 verb_modes verb.Write = RunAlone
@@ -35,6 +37,7 @@ verb_modes verb.Lock = RunAlone
 verb_modes verb.Unlock = RunAlone
 verb_modes verb.Levels = RunAlone
 verb_modes verb.Settle = RunAlone
+verb_modes verb.Checkpoint = RunAlone
 verb_modes verb.AskAhead = RunAlone
 verb_modes verb.AheadStep = RunAlone
 verb_modes verb.AsyncRead = RunAlone
@@ -62,6 +65,7 @@ action_modes (action.Lock _ _ _) = RunAlone
 action_modes (action.Unlock _ _) = RunAlone
 action_modes (action.Levels _) = RunAlone
 action_modes (action.Settle _) = RunAlone
+action_modes (action.Checkpoint _ _) = RunAlone
 action_modes (action.AskAhead _ _ _) = RunAlone
 action_modes action.AheadStep = RunAlone
 action_modes (action.AsyncRead _ _ _) = RunAlone
@@ -102,6 +106,7 @@ is_call (action.Lock _ _ _) = false
 is_call (action.Unlock _ _) = false
 is_call (action.Levels _) = false
 is_call (action.Settle _) = false
+is_call (action.Checkpoint _ _) = false
 is_call (action.Defer _ _ _) = false
 is_call action.Post = false
 is_call other = true
@@ -121,8 +126,14 @@ abbrev pub HasPhases : Mode → ℕ → Type 0
 HasPhases mode.Run phases = Unit {0}
 HasPhases mode.Steps phases = phases ≡ 1
 
+-- steps has no restart
+abbrev pub HasRestarts : Mode → List RestartLine → Type 0
+HasRestarts mode.Run restarts = Unit {0}
+HasRestarts mode.Steps restarts = restarts ≡ []
+
 -- a script of a mode
 pub record IsOfMode (m : Mode) (script : Script) : Type 0 where
   pub streams : AllByRecursion (IsStreamOf m) script.streams
   pub lines : AllByRecursion (IsLineOf m) script.lines
   pub phases : HasPhases m script.phases
+  pub restarts : HasRestarts m script.restarts

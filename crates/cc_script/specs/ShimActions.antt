@@ -1,7 +1,6 @@
--- The lines of the file system shim, byte-range locks among them, of the levels of a view index and of the record of a stream: the words behind the verb,
--- in
--- their order.
-use Rattle.std.specs.Prelude.{ℕ, Option, List, find, codes}
+-- The lines of the file system shim, byte-range locks and checkpoints among them, of the levels of a view index and of the
+-- record of a stream: the words behind the verb, in their order.
+use Rattle.std.specs.Prelude.{ℕ, Option, List, length, find, codes}
 use Rattle.std.specs.Str.{bytes_eq}
 use Rattle.cc_script.specs.declared.script.StreamLine.{StreamLine}
 use Rattle.cc_script.specs.declared.script.ReadPath.{ReadPath}
@@ -75,3 +74,9 @@ unfoldable pub settle_of : List StreamLine → List (List ℕ) → Option Action
 settle_of streams ws = do
   file ← next (file_of streams) ws
   ended file.1 (action.Settle file.0)
+
+-- checkpoint LOG
+unfoldable pub checkpoint_of : List StreamLine → List (List ℕ) → Option Action
+checkpoint_of streams ws = do
+  log ← next (number_between 0 3) ws
+  ended log.1 (action.Checkpoint (length streams) log.0)

@@ -1,14 +1,17 @@
 -- What every script that is read keeps within: what its run may rely on without a test of its own.
-use Rattle.std.specs.Prelude.{ℕ, ◌≡◌, ◌≤◌, ◌<◌, ◌^◌, IfSome, List, [], ◌∷◌, length}
+use Rattle.std.specs.Prelude.{ℕ, ◌≡◌, false, ◌≤◌, ◌<◌, ◌^◌, IfSome, List, [], ◌∷◌, length}
 use Rattle.std.specs.List.{AllByRecursion}
 use Rattle.cc_entry.specs.Place.{File, Page}
 use Rattle.cc_script.specs.declared.script.Script.{Script}
 use Rattle.cc_script.specs.declared.script.StreamLine.{StreamLine}
+use Rattle.cc_script.specs.declared.script.RestartLine.{RestartLine}
 use Rattle.cc_script.specs.declared.script.Action.{Action}
 use Rattle.cc_script.specs.declared.script.Action.TheVariants as action
 use Rattle.cc_script.specs.declared.script.ActionLine.{ActionLine}
 use Rattle.cc_script.specs.ActionTable.{bytes_moved}
 use Rattle.cc_script.specs.HoldWords.{AreUsedRight}
+use Rattle.cc_script.specs.Checkpoints.{CheckpointsStandApart}
+use Rattle.cc_script.specs.Grammar.{has_restart}
 
 -- a file that a line may name: one of 16 objects of a stream of the script
 pub record IsFileWithin (streams : List StreamLine) (file : File) : Type 0 where
@@ -25,7 +28,7 @@ pub record IsFilePageWithin (streams : List StreamLine) (file : File) (page : �
   pub in_file : IsFileWithin streams file
   pub number : page < 2 ^ 51
 
--- an action names such a file or page, or none; a page is stored whole
+-- an action names such a file or page, or none; a page is stored whole, and a checkpoint is over all streams of the script
 abbrev pub IsActionWithin : List StreamLine → Action → Type 0
 IsActionWithin streams (action.Initialise file _ _ _) = IsFileWithin streams file
 IsActionWithin streams (action.Uninitialise file _) = IsFileWithin streams file
@@ -62,6 +65,7 @@ IsActionWithin streams (action.Lock file _ _) = IsFileWithin streams file
 IsActionWithin streams (action.Unlock file _) = IsFileWithin streams file
 IsActionWithin streams (action.Levels file) = IsFileWithin streams file
 IsActionWithin streams (action.Settle file) = IsFileWithin streams file
+IsActionWithin streams (action.Checkpoint count _) = count ≡ length streams
 IsActionWithin streams action.IsDirtyData = Unit {0}
 IsActionWithin streams (action.DirtyPages _) = Unit {0}
 IsActionWithin streams (action.LsnForFile file) = IsFileWithin streams file
@@ -118,6 +122,12 @@ pub record IsHeaderWithin (script : Script) : Type 0 where
   pub most_ticks : script.ticks ≤ 1000
   pub most_aheads : script.aheads ≤ 1000
 
+-- each restart is of one of four logs, and no two are of one
+abbrev pub AreRestartsWithin : List RestartLine → Type 0
+AreRestartsWithin [] = Unit {0}
+AreRestartsWithin (restart ∷ restarts) =
+    (restart.handle < 4) × (has_restart restart.handle restarts ≡ false) × AreRestartsWithin restarts
+
 -- a script keeps within what its run may rely on
 pub record IsWithin (script : Script) : Type 0 where
   pub header : IsHeaderWithin script
@@ -129,3 +139,5 @@ pub record IsWithin (script : Script) : Type 0 where
   pub lines : AllByRecursion (IsLineWithin script.streams script.phases) script.lines
   pub in_order : PhasesAscend 1 script.lines
   pub words : (caller : ℕ) → AreUsedRight caller [] script.lines
+  pub restarts : AreRestartsWithin script.restarts
+  pub apart : CheckpointsStandApart script.lines

@@ -20,7 +20,7 @@ use crate::hold_action::{
 use crate::hold_word::HoldNames;
 use crate::part::Words;
 use crate::script::{Action, Mode, StreamLines};
-use crate::shim_action::{levels, lock, read, settle, unlock, update, write};
+use crate::shim_action::{checkpoint, levels, lock, read, settle, unlock, update, write};
 use crate::verb::Verb;
 use std::alloc::Global;
 
@@ -332,6 +332,7 @@ pub(crate) fn action(
         Verb::Unlock => unlock(streams, words).ok_or(LineFault::Syntax),
         Verb::Levels => levels(streams, words).ok_or(LineFault::Syntax),
         Verb::Settle => settle(streams, words).ok_or(LineFault::Syntax),
+        Verb::Checkpoint => checkpoint(streams, words).ok_or(LineFault::Syntax),
         Verb::IsDirtyData => is_dirty_data(words).ok_or(LineFault::Syntax),
         Verb::DirtyPages => dirty_pages(words).ok_or(LineFault::Syntax),
         Verb::LsnForFile => lsn_for_file(streams, words).ok_or(LineFault::Syntax),
@@ -355,8 +356,13 @@ pub(crate) fn action(
         Verb::CanWrite => can_write(streams, words).ok_or(LineFault::Syntax),
         Verb::Defer => defer(streams, words).ok_or(LineFault::Syntax),
         Verb::Post => post(words).ok_or(LineFault::Syntax),
-        Verb::Stream | Verb::Journal | Verb::Threshold | Verb::Workers | Verb::Phase | Verb::Fail =>
-            Err(LineFault::Syntax),
+        Verb::Stream
+        | Verb::Journal
+        | Verb::Threshold
+        | Verb::Workers
+        | Verb::Restart
+        | Verb::Phase
+        | Verb::Fail => Err(LineFault::Syntax),
     }
 }
 

@@ -7,7 +7,9 @@ ghost use Rattle.cc_script.specs.Within.{IsWithin};
 ghost use Rattle.cc_script.specs.Generator.{state_after, draw_of, byte_state, draws_of, drawn_page, drawn_action, drawn_caller, drawn_line, drawn_lines, drawn_streams, generated};
 
 use crate::name::Name;
-use crate::script::{Action, ActionLine, ActionLines, Script, StreamLine, StreamLines};
+use crate::script::{
+    Action, ActionLine, ActionLines, RestartLines, Script, StreamLine, StreamLines,
+};
 use cc_entry::{Bytes, FileId, NoMemory, PageId, Quota, StreamId};
 use std::alloc::Global;
 
@@ -33,6 +35,7 @@ pub fn generate(alloc: Global, n: u64) -> Result<Script, NoMemory>
         ticks: 0,
         aheads: 0,
         phases: 1,
+        restarts: RestartLines::new(alloc),
         streams: streams(alloc)?,
         lines: lines(alloc, n)?,
     })

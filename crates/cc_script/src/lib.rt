@@ -26,6 +26,7 @@ mod laws;
 mod name;
 mod part;
 mod path_word;
+mod phase_lines;
 mod read;
 mod reading;
 mod script;
@@ -45,5 +46,6 @@ pub use laws::{
 pub use name::Name;
 pub use read::read_script;
 pub use script::{
-    Action, ActionLine, ActionLines, Mode, ReadPath, Script, ScriptFault, StreamLine, StreamLines,
+    Action, ActionLine, ActionLines, Mode, ReadPath, RestartLine, RestartLines, Script,
+    ScriptFault, StreamLine, StreamLines,
 };

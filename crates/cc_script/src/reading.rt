@@ -4,13 +4,17 @@ ghost use Rattle.std.specs.Prelude.{◌≡◌, ◌<◌, ◌≤◌, ◌+◌, ◌^
 ghost use Rattle.std.specs.Bool.{OnTrue};
 ghost use Rattle.cc_script.specs.Outcome.{Gives, Becomes};
 ghost use Rattle.cc_script.specs.ActionTable.{bytes_counted, dirty_lines};
-ghost use Rattle.cc_script.specs.Grammar.{nothing_read, may_add, with_stream, stream_of, setting_of, with_journal, with_threshold, workers_of, with_workers, with_phase, keeps_totals, with_action, action_line, caller_line, verb_line};
+ghost use Rattle.cc_script.specs.Grammar.{nothing_read, may_add, with_stream, stream_of, setting_of, with_journal, with_threshold, workers_of, with_workers, restart_of, with_restart, with_phase, keeps_totals, keeps_apart, with_action, action_line, caller_line, verb_line};
 
 use crate::action::{action, bytes_counted, dirty_lines};
 use crate::caller_words::{AllWords, CallerWords};
 use crate::fault::LineFault;
 use crate::part::Words;
-use crate::script::{Action, ActionLine, ActionLines, Mode, Script, StreamLine, StreamLines};
+use crate::phase_lines::PhaseLines;
+use crate::script::{
+    Action, ActionLine, ActionLines, Mode, RestartLine, RestartLines, Script, StreamLine,
+    StreamLines,
+};
 use crate::verb::Verb;
 use cc_entry::NoMemory;
 use std::alloc::Global;
@@ -50,6 +54,8 @@ pub(crate) struct Reading {
     /// How many lines are `dirty`.
     pub(crate) dirty: u64,
     pub(crate) words: AllWords,
+    /// The lines of the phase that is under way.
+    pub(crate) phase: PhaseLines,
 }
 
 impl Reading {
@@ -62,6 +68,7 @@ impl Reading {
             ticks: 0,
             aheads: 0,
             phases: 1,
+            restarts: RestartLines::new(alloc),
             streams: StreamLines::new(alloc),
             lines: ActionLines::new(alloc),
         };
@@ -73,6 +80,7 @@ impl Reading {
             has_workers: false,
             dirty: 0,
             words: AllWords::new(alloc)?,
+            phase: PhaseLines::none(),
         })
     }
 
@@ -134,6 +142,21 @@ impl Reading {
         Ok(())
     }
 
+    #[tactic(auto, unfolding(crate::specs::Grammar::with_restart))]
+    fn add_restart(&mut self, restart: RestartLine) -> Result<(), LineFault>
+        ensures { Becomes (with_restart restart self.old) result self.new }
+    {
+        let script = &mut self.script;
+        if !script.lines.is_empty()
+            || !script.streams.is_empty()
+            || script.restarts.has(restart.handle)
+        {
+            return Err(LineFault::Syntax);
+        }
+        script.restarts.push(restart)?;
+        Ok(())
+    }
+
     #[tactic(auto, unfolding(crate::specs::Grammar::with_phase))]
     fn begin_phase(&mut self, words: &Words) -> Result<(), LineFault>
         ensures { Becomes (with_phase words.now self.old) result self.new }
@@ -142,6 +165,7 @@ impl Reading {
             return Err(LineFault::Syntax);
         }
         self.script.phases += 1;
+        self.phase = PhaseLines::none();
         Ok(())
     }
 
@@ -175,7 +199,11 @@ impl Reading {
         ensures { Becomes (with_action number caller fails own action self.old) result self.new }
     {
         let (total, dirty) = self.totals_with(&action).ok_or(LineFault::Syntax)?;
-        if !own.bounds.may_use(&action) || (fails && !action.is_call()) {
+        let phase_lines = self.phase.with(caller, &action);
+        if !phase_lines.is_kept_apart()
+            || !own.bounds.may_use(&action)
+            || (fails && !action.is_call())
+        {
             return Err(LineFault::Syntax);
         }
         let mut own = own;
@@ -191,6 +219,7 @@ impl Reading {
         })?;
         self.total = total;
         self.dirty = dirty;
+        self.phase = phase_lines;
         Ok(())
     }
 
@@ -272,6 +301,10 @@ impl Reading {
                 let workers = worker_counts(words).ok_or(LineFault::Syntax)?;
                 self.set_workers(workers)
             }
+            Verb::Restart => {
+                let restart = restart(number, words).ok_or(LineFault::Syntax)?;
+                self.add_restart(restart)
+            }
             Verb::Phase => self.begin_phase(words),
             _ => self.by_caller(alloc, mode, number, 1, verb, words),
         }
@@ -332,6 +365,21 @@ fn worker_counts(words: &mut Words) -> Option<Workers>
         Some(Workers {
             ticks: ticks as u32,
             aheads: aheads as u32,
+        })
+    } else {
+        None
+    }
+}
+
+#[tactic(auto, unfolding(crate::specs::Grammar::restart_of))]
+fn restart(number: u32, words: &mut Words) -> Option<RestartLine>
+    ensures { result ≡ restart_of number words.old }
+{
+    let handle = words.handle()?;
+    if words.is_empty() {
+        Some(RestartLine {
+            line: number,
+            handle,
         })
     } else {
         None

@@ -6,6 +6,8 @@ ghost use Rattle.std.specs.Str.{bytes_eq};
 ghost use Rattle.cc_script.specs.HoldWords.{binds, words_bound};
 ghost use Rattle.cc_script.specs.Modes.{is_call};
 ghost use Rattle.cc_script.specs.EventActions.{is_defer, defer_lines};
+ghost use Rattle.cc_script.specs.Checkpoints.{is_checkpoint};
+ghost use Rattle.cc_script.specs.Grammar.{has_restart};
 
 use crate::hold_word::HoldWord;
 use crate::name::Name;
@@ -124,6 +126,62 @@ fn place_of(streams: &[StreamLine], name: &[u8]) -> Option<usize>
     ensures { result ≡ position (λ s. bytes_eq s.name name.now) streams.now }
 {
     streams.iter().position(|s| s.name.as_bytes() == name)
+}
+
+/// A log from which the streams that are stored are restarted, before they are opened.
+#[derive(Clone, Copy)]
+pub struct RestartLine {
+    pub line: u32,
+    pub handle: u8,
+}
+
+/// The restarts of a script, each of another of four logs.
+#[derive(Drop)]
+pub struct RestartLines {
+    items: Vec<RestartLine>,
+}
+
+impl Model for RestartLines {
+    ghost use Rattle.std.specs.Prelude.{List};
+    ghost use Rattle.cc_script.specs.declared.script.RestartLine.{RestartLine};
+
+    ghost Value = { List RestartLine };
+
+    ghost view = { λ l. l.items.items };
+}
+
+impl RestartLines {
+    /// No restart.
+    pub fn new(alloc: Global) -> RestartLines
+        ensures { result ≡ [] }
+    {
+        RestartLines {
+            items: Vec::new(alloc),
+        }
+    }
+
+    /// The restarts, in the order of their lines.
+    pub fn as_slice(&self) -> &[RestartLine]
+        ensures { result.now ≡ self.now }
+    {
+        &self.items
+    }
+
+    /// Whether one of them is of a log.
+    pub(crate) fn has(&self, handle: u8) -> bool
+        ensures { result ≡ has_restart handle self.now }
+    {
+        self.items.iter().any(|restart| restart.handle == handle)
+    }
+
+    pub(crate) fn push(&mut self, restart: RestartLine) -> Result<(), NoMemory>
+        ensures ok { OnOk result (self.new ≡ self.old ++ restart ∷ []) }
+        ensures err { OnErr result (self.new ≡ self.old) }
+    {
+        self.items.reserve(1).map_err(|_| NoMemory)?;
+        self.items.push_reserved(restart);
+        Ok(())
+    }
 }
 
 /// By which calls a read of the file system shim goes.
@@ -319,6 +377,11 @@ pub enum Action {
     Settle {
         file: FileId,
     },
+    /// The dirty page table of a log is appended to it, behind a sync of those of the script's streams, so many, that have it.
+    Checkpoint {
+        streams: u8,
+        handle: u8,
+    },
     IsDirtyData,
     DirtyPages {
         handle: u8,
@@ -467,9 +530,17 @@ impl Action {
                 | Action::Unlock { .. }
                 | Action::Levels { .. }
                 | Action::Settle { .. }
+                | Action::Checkpoint { .. }
                 | Action::Defer { .. }
                 | Action::Post
         )
+    }
+
+    /// Whether it is a checkpoint, beside which no other caller has lines in its phase.
+    pub(crate) fn is_checkpoint(&self) -> bool
+        ensures { result ≡ is_checkpoint self.now }
+    {
+        matches!(self, Action::Checkpoint { .. })
     }
 
     fn is_defer(&self) -> bool
@@ -563,6 +634,7 @@ pub struct Script {
     pub ticks: u32,
     pub aheads: u32,
     pub phases: u32,
+    pub restarts: RestartLines,
     pub streams: StreamLines,
     pub lines: ActionLines,
 }

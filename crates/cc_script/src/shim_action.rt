@@ -1,10 +1,9 @@
-//! The lines of the file system shim, byte-range locks among them, of the levels of a view index and of the record of a stream, each read from the
-//! words
-//! behind its verb.
+//! The lines of the file system shim, byte-range locks and checkpoints among them, of the levels of a view index and of the
+//! record of a stream, each read from the words behind its verb.
 
 ghost use Rattle.std.specs.Prelude.{◌≡◌};
 ghost use Rattle.cc_script.specs.Outcome.{Gives};
-ghost use Rattle.cc_script.specs.ShimActions.{read_of, write_of, update_of, levels_of, settle_of, lock_of, unlock_of};
+ghost use Rattle.cc_script.specs.ShimActions.{read_of, write_of, update_of, levels_of, settle_of, checkpoint_of, lock_of, unlock_of};
 
 use crate::fault::LineFault;
 use crate::part::Words;
@@ -117,6 +116,21 @@ pub(crate) fn settle(streams: &StreamLines, words: &mut Words) -> Option<Action>
     let file = words.file(streams)?;
     if words.is_empty() {
         Some(Action::Settle { file })
+    } else {
+        None
+    }
+}
+
+#[tactic(auto, unfolding(crate::specs::ShimActions::checkpoint_of))]
+pub(crate) fn checkpoint(streams: &StreamLines, words: &mut Words) -> Option<Action>
+    ensures { result ≡ checkpoint_of streams.now words.old }
+{
+    let handle = words.handle()?;
+    if words.is_empty() {
+        Some(Action::Checkpoint {
+            streams: streams.len() as u8,
+            handle,
+        })
     } else {
         None
     }

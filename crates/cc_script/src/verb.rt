@@ -14,6 +14,7 @@ pub(crate) enum Verb {
     Journal,
     Threshold,
     Workers,
+    Restart,
     Phase,
     Initialise,
     Uninitialise,
@@ -50,6 +51,7 @@ pub(crate) enum Verb {
     Unlock,
     Levels,
     Settle,
+    Checkpoint,
     IsDirtyData,
     DirtyPages,
     LsnForFile,
@@ -77,11 +79,12 @@ pub(crate) enum Verb {
     Fail,
 }
 
-pub(crate) const VERBS: [Verb; 65] = [
+pub(crate) const VERBS: [Verb; 67] = [
     Verb::Stream,
     Verb::Journal,
     Verb::Threshold,
     Verb::Workers,
+    Verb::Restart,
     Verb::Phase,
     Verb::Initialise,
     Verb::Uninitialise,
@@ -118,6 +121,7 @@ pub(crate) const VERBS: [Verb; 65] = [
     Verb::Unlock,
     Verb::Levels,
     Verb::Settle,
+    Verb::Checkpoint,
     Verb::IsDirtyData,
     Verb::DirtyPages,
     Verb::LsnForFile,
@@ -154,6 +158,7 @@ impl Verb {
             Verb::Journal => b"journal",
             Verb::Threshold => b"threshold",
             Verb::Workers => b"workers",
+            Verb::Restart => b"restart",
             Verb::Phase => b"phase",
             Verb::Initialise => b"init",
             Verb::Uninitialise => b"uninit",
@@ -190,6 +195,7 @@ impl Verb {
             Verb::Unlock => b"unlock",
             Verb::Levels => b"levels",
             Verb::Settle => b"settle",
+            Verb::Checkpoint => b"checkpoint",
             Verb::IsDirtyData => b"isdirty",
             Verb::DirtyPages => b"dirty",
             Verb::LsnForFile => b"lsns",
@@ -250,6 +256,7 @@ impl Verb {
         matches!(
             self,
             Verb::Workers
+                | Verb::Restart
                 | Verb::Phase
                 | Verb::Read
                 | Verb::Write
@@ -258,6 +265,7 @@ impl Verb {
                 | Verb::Unlock
                 | Verb::Levels
                 | Verb::Settle
+                | Verb::Checkpoint
                 | Verb::AskAhead
                 | Verb::AheadStep
                 | Verb::AsyncRead
