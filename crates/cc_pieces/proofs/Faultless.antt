@@ -1,5 +1,5 @@
 -- A line whose journal shows no failure is answered none.
-use Rattle.std.specs.Prelude.{◌≡◌, ℕ, zero, suc, ◌+◌, ◌*◌, ◌/◌, ◌%◌, Bool, true, false, cond, ◌==◌, ◌&&◌, ◌||◌, nat_lt, List, [], ◌∷◌, ◌++◌, length, take, drop, Err, refl, ◌⊎◌, if◌then◌else◌, Result, Ok}
+use Rattle.std.specs.Prelude.{◌≡◌, ℕ, zero, suc, ◌+◌, ◌*◌, ◌/◌, ◌%◌, Bool, true, false, cond, ◌==◌, ◌&&◌, ◌||◌, nat_lt, Result, map, List, [], ◌∷◌, ◌++◌, length, take, drop, Err, refl, ◌⊎◌, if◌then◌else◌, Ok}
 use Rattle.std.specs.declared.option.Option.{Option}
 use Rattle.std.specs.declared.option.Option.TheVariants.{Some, None}
 use Rattle.std.specs.List.{AllByRecursion, count_by, list_any}
@@ -16,6 +16,7 @@ use Rattle.cc_entry.specs.declared.entry.End.{End}
 use Rattle.cc_entry.specs.declared.entry.End.TheVariants as how
 use Rattle.cc_entry.specs.declared.entry.Entry.{Entry}
 use Rattle.cc_entry.specs.declared.entry.Entry.TheVariants as entry
+use Rattle.cc_entry.specs.declared.place.DirtyRow.{DirtyRow}
 use Rattle.cc_entry.specs.declared.place.Request.{Request}
 use Rattle.cc_entry.specs.declared.error.CcError.{CcError}
 use Rattle.cc_entry.specs.declared.error.CcError.TheVariants as error
@@ -44,6 +45,8 @@ use Rattle.cc_pieces.specs.Bindings.{Binding, OnHold, hold_named}
 use Rattle.cc_pieces.specs.Faultless.{is_faulty, shows_fault, tells_fault}
 use Rattle.cc_pieces.specs.HoldLines.{HeldReadBy, HoldLine, UnpinAnswered, UnrepinLine}
 use Rattle.cc_pieces.specs.Served.{Served}
+use Rattle.cc_pieces.specs.Shim.{CallsLeft}
+use Rattle.cc_pieces.specs.Checkpoints.{AskingStopped, CheckpointAnswered, RecordLogged, RowsLogged, StateRefused, SyncedLogged, first_object, record_of_rows, sync_call}
 use Rattle.cc_pieces.specs.Locks.{LockAnswered, LockedReadAnswered, LockedUpdateAnswered, LockedWriteAnswered, UnlockAnswered}
 use Rattle.cc_pieces.proofs.Grown.{grew-call, grew-only, grew-then}
 use Rattle.cc_pieces.proofs.ShimLines.{Follows, FollowsTests, calm-faultless, told-read, told-update, told-write}
@@ -390,6 +393,38 @@ settled-none u me file (answer.Given (reply.State state)) old new left none = re
 settled-none u me file (answer.Refused e) old new left none = settle-none u me file e old new left none
 settled-none u me file other old new left none = absurd left
 
+-- a checkpoint: each of its calls shows a failure that it tells
+module _ (u : Setup) (me streams handle : ℕ) where
+  syncs-none : (found : List ℕ) (e : CcError) (old new : List Entry) → CallsLeft u me (map sync_call found) (Err e) old new → ShowsNone new → is_fault e ≡ false
+  syncs-none [] e old new left none = absurd left
+  syncs-none (s ∷ found) e old new (inl left) none = failed-tells-none u me (sync_call s) e old new left none
+  syncs-none (s ∷ found) e old new (inr left) none = syncs-none found e left.0 new left.2 none
+
+  same-none : (e f : CcError) → (let told : Result ℕ CcError = Err e in told) ≡ Err f → is_fault f ≡ false → is_fault e ≡ false
+  same-none e f same none = let is : f ≡ e = cc in subst (λ (e : CcError). is_fault e ≡ false) is none
+
+  record-logged-none : (spelled : List ℕ) (e : CcError) (old new : List Entry) → RecordLogged u me handle spelled (Err e) old new → ShowsNone new → is_fault e ≡ false
+  record-logged-none spelled e old new (inl left) none = same-none e left.0 left.1 (append-none u me handle spelled (answer.Refused left.0) old new left.2 none)
+  record-logged-none spelled e old new (inr left) none = log-flush-none u me handle left.1 (answer.Refused e) left.0 new left.3 none
+
+  synced-logged-none : (found spelled : List ℕ) (e : CcError) (old new : List Entry) → SyncedLogged u me handle found spelled (Err e) old new → ShowsNone new → is_fault e ≡ false
+  synced-logged-none found spelled e old new (inl left) none = same-none e left.0 left.1 (syncs-none found left.0 old new left.2 none)
+  synced-logged-none found spelled e old new (inr left) none = record-logged-none spelled e left.0 new left.2 none
+
+  rows-logged-none : (rows : List DirtyRow) (e : CcError) (old new : List Entry) → RowsLogged u me streams handle rows (Err e) old new → ShowsNone new → is_fault e ≡ false
+  rows-logged-none rows e old new (inl left) none = same-none e left.0 left.1 (by left.2)
+    where
+      by : AskingStopped u me handle streams left.0 old new ⊎ StateRefused u me handle streams left.0 old new → is_fault left.0 ≡ false
+      by (inl stopped) = ap is_fault stopped.wanting
+      by (inr refused) = failed-tells-none u me (call.State (first_object refused.n)) left.0 refused.between new refused.refused none
+  rows-logged-none rows e old new (inr left) none = synced-logged-none left.1 (record_of_rows rows) e left.0 new left.3 none
+
+  checkpoint-none : (told : Answer) (old new : List Entry) → CheckpointAnswered u me streams handle told old new → ShowsNone new → tells_fault told ≡ false
+  checkpoint-none (answer.NewLsn lsn) old new left none = refl
+  checkpoint-none (answer.Refused e) old new (inl left) none = same-none e left.0 left.1 (failed-tells-none u me (call.DirtyPages handle) left.0 old new left.2 none)
+  checkpoint-none (answer.Refused e) old new (inr left) none = rows-logged-none left.1 e left.0 new left.3 none
+  checkpoint-none other old new left none = absurd left
+
 -- neither a deferral nor a post goes to a disk or a log
 defer-none : (me : ℕ) (file : File) (bytes : ℕ) (retrying : Bool) (told : Answer) (old new : List Entry) → DeferAnswered me file bytes retrying told old new → tells_fault told ≡ false
 defer-none me file bytes retrying (answer.Deferred id) old new left = refl
@@ -456,6 +491,7 @@ served-none u me bindings (action.Lock file span exclusive) told old new left no
 served-none u me bindings (action.Unlock file id) told old new left none = unlock-none me file id told old new left
 served-none u me bindings (action.Levels file) told old new left none = levels-none me file told old new left
 served-none u me bindings (action.Settle file) told old new left none = settled-none u me file told old new left none
+served-none u me bindings (action.Checkpoint streams handle) told old new left none = checkpoint-none u me streams handle told old new left none
 served-none u me bindings action.IsDirtyData told old new left none = answered-none u me call.IsDirtyData told old new left none
 served-none u me bindings (action.DirtyPages handle) told old new left none = answered-none u me (call.DirtyPages handle) told old new left none
 served-none u me bindings (action.LsnForFile file) told old new left none = answered-none u me (call.LsnForFile file) told old new left none

@@ -36,7 +36,8 @@ use Rattle.cc_pieces.specs.Answered.{AheadAnswered, CallAnswered, TickAnswered, 
 use Rattle.cc_pieces.specs.Bindings.{Binding}
 use Rattle.cc_pieces.specs.Served.{Served}
 use Rattle.cc_pieces.proofs.Streams.{AllBelow, FitsBelow, IsBelow, IsFileBelow, call-below, done-fits, file-fits, hold-below, open-below, resident-below, sized-below}
-use Rattle.cc_pieces.proofs.Walks.{IsActionOn, Keeps, Walked, walk-answered, walk-call, walk-served, walk-settle, walk-tick, walked-idle, walked-only, walked-then, is_completion}
+use Rattle.cc_pieces.specs.Restarts.{RestartAnswered}
+use Rattle.cc_pieces.proofs.Walks.{IsActionOn, Keeps, Walked, walk-answered, walk-call, walk-restart, walk-served, walk-settle, walk-tick, walked-idle, walked-only, walked-then, is_completion}
 
 -- a journal is legal, and allowed so far
 abbrev pub IsSound : Setup → List Entry → Type 0
@@ -198,6 +199,10 @@ module _ (u : Setup) (n : ℕ) (handles : HasHandles u) where
   left-load me s (Err (error.JournalFull entries)) old new low left = left-idle u n me old new left
   left-load me s (Err error.NoMemory) old new low left = left-idle u n me old new left
   left-load me s (Err other) old new low left = absurd left
+
+  -- the end of a restart
+  pub left-restart : (handle : ℕ) (told : Answer) (old new : List Entry) → RestartAnswered u handle told old new → IsLeft u n 0 old new
+  left-restart handle told old new left = walk-restart u _ _ _ keeps-below handle told old new left
 
   pub left-answered : (me : ℕ) (it : Call) (told : Answer) (old new : List Entry) → FitsBelow n it → CallAnswered u me it told old new → IsLeft u n me old new
   left-answered me it told old new fits left = walk-answered u _ _ _ keeps-below me it told old new (λ all. fits) left

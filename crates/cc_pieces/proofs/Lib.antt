@@ -4,6 +4,7 @@ pub mod ShimLines
 pub mod Conflicts
 pub mod ThrottleSteps
 pub mod SettleSteps
+pub mod CheckpointSteps
 pub mod LineSteps
 pub mod PlainReads
 pub mod PlainPages

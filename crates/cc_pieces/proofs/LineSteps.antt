@@ -41,6 +41,7 @@ use Rattle.cc_vacb.specs.Levels.{levels_of}
 use Rattle.cc_pieces.proofs.ThrottleSteps.{deferred-after, deferred-before, posted-after, posted-before}
 use Rattle.cc_pieces.proofs.SettleSteps.{settled-after, settled-before}
 use Rattle.cc_pieces.proofs.ShimSteps.{read-after, read-before, update-after, update-before, write-after, write-before, lock-after, lock-before, unlock-after, unlock-before}
+use Rattle.cc_pieces.proofs.CheckpointSteps.{checkpoint-after, checkpoint-before}
 
 answered-before : (u : Setup) (me : ℕ) (it : Call) (told : Answer) (older old new : List Entry) → IsIdle me older old → CallAnswered u me it told old new → CallAnswered u me it told older new
 answered-before u me it (answer.Given r) older old new idle left = left-before u me it (outcome.Done r) older old new idle left
@@ -275,6 +276,7 @@ served-before u me bindings (action.Lock file span exclusive) told older old new
 served-before u me bindings (action.Unlock file id) told older old new idle left = unlock-before u me older old idle file id told new left
 served-before u me bindings (action.Levels file) told older old new idle left = levels_told-before me file told older old new idle left
 served-before u me bindings (action.Settle file) told older old new idle left = settled-before u me file older old idle told new left
+served-before u me bindings (action.Checkpoint streams handle) told older old new idle left = checkpoint-before u me streams handle older old idle told new left
 served-before u me bindings action.IsDirtyData told older old new idle left = answered-before u me call.IsDirtyData told older old new idle left
 served-before u me bindings (action.DirtyPages handle) told older old new idle left = answered-before u me (call.DirtyPages handle) told older old new idle left
 served-before u me bindings (action.LsnForFile file) told older old new idle left = answered-before u me (call.LsnForFile file) told older old new idle left
@@ -339,6 +341,7 @@ served-after u me bindings (action.Lock file span exclusive) told old new newer 
 served-after u me bindings (action.Unlock file id) told old new newer left idle = unlock-after u me new newer idle file id told old left
 served-after u me bindings (action.Levels file) told old new newer left idle = levels_told-after me file told old new newer left idle
 served-after u me bindings (action.Settle file) told old new newer left idle = settled-after me new newer idle u file told old left
+served-after u me bindings (action.Checkpoint streams handle) told old new newer left idle = checkpoint-after u me streams handle new newer idle told old left
 served-after u me bindings action.IsDirtyData told old new newer left idle = answered-after u me call.IsDirtyData told old new newer left idle
 served-after u me bindings (action.DirtyPages handle) told old new newer left idle = answered-after u me (call.DirtyPages handle) told old new newer left idle
 served-after u me bindings (action.LsnForFile file) told old new newer left idle = answered-after u me (call.LsnForFile file) told old new newer left idle

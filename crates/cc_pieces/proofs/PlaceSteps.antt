@@ -100,6 +100,7 @@ on-any (action.Lock file span exclusive) = tt
 on-any (action.Unlock file id) = tt
 on-any (action.Levels file) = tt
 on-any (action.Settle file) = tt
+on-any (action.Checkpoint streams handle) = λ s low. tt
 on-any (action.SetSizes file allocation size) = tt
 on-any (action.State file) = tt
 on-any (action.Flush file span) = tt

@@ -1,11 +1,11 @@
 -- Where the journal of a run shows no failure, no answer tells one.
-use Rattle.std.specs.Prelude.{◌≡◌, ◌≢◌, ℕ, zero, suc, ◌+◌, ◌<◌, ◌≤◌, Bool, true, false, List, [], ◌∷◌, ◌++◌, length, take, drop, map, refl, ◌⊎◌, if◌then◌else◌}
+use Rattle.std.specs.Prelude.{◌≡◌, ◌≢◌, ℕ, zero, suc, ◌+◌, ◌<◌, ◌≤◌, Bool, true, false, ◌==◌, List, [], ◌∷◌, ◌++◌, length, take, drop, map, refl, ◌⊎◌, if◌then◌else◌}
 use Rattle.std.specs.declared.option.Option.{Option}
 use Rattle.std.specs.declared.option.Option.TheVariants.{Some, None}
 use Rattle.std.specs.List.{AllByRecursion}
 use Rattle.std.proofs.Common.{sym, ap, arith, subst, ◌∙◌, inl, inr, eq-eqb}
 use Rattle.std.proofs.lemmas.Bool.{cases_lt}
-use Rattle.std.proofs.lemmas.List.{take-append-drop}
+use Rattle.std.proofs.lemmas.List.{length-map, take-append-drop, take_at}
 use Rattle.cc_entry.specs.declared.answer.Answer.{Answer}
 use Rattle.cc_entry.specs.declared.answer.Answer.TheVariants as answer
 use Rattle.cc_entry.specs.declared.answer.LineReply.{LineReply}
@@ -13,19 +13,23 @@ use Rattle.cc_entry.specs.declared.place.Request.{Request}
 use Rattle.cc_entry.specs.declared.call.Call.{Call}
 use Rattle.cc_entry.specs.declared.call.Call.TheVariants as call
 use Rattle.cc_entry.specs.declared.entry.Entry.{Entry}
+use Rattle.cc_entry.specs.declared.error.CcError.{CcError}
 use Rattle.cc_entry.specs.declared.reply.Reply.TheVariants as reply
 use Rattle.cc_format.specs.declared.record.StreamRecord.{StreamRecord}
 use Rattle.cc_format.specs.declared.record.StreamRecord.TheVariants.{V1, V2}
 use Rattle.cc_script.specs.Within.{IsLineWithin}
 use Rattle.cc_script.specs.declared.script.Action.{Action}
 use Rattle.cc_script.specs.declared.script.ActionLine.{ActionLine}
+use Rattle.cc_script.specs.declared.script.RestartLine.{RestartLine}
 use Rattle.cc_script.specs.declared.script.StreamLine.{StreamLine}
+use Rattle.cc_model.specs.Allowed.{is_fault}
 use Rattle.cc_model.specs.Setup.{Setup}
 use Rattle.cc_pieces.specs.Bindings.{Binding}
 use Rattle.cc_pieces.specs.Explained.{Answered, Given, IsExplained, answered_lines}
 use Rattle.cc_pieces.specs.Faultless.{tells_fault}
-use Rattle.cc_pieces.specs.Openings.{LoggedOpening, MigrationLeft, Opened, RecordedOpening, StreamOpening, first_object_of, opening_call, recorded_call}
+use Rattle.cc_pieces.specs.Openings.{LoggedOpening, MigrationLeft, Opened, OpeningBehind, RecordedOpening, StreamOpening, first_object_of, opening_call, recorded_call}
 use Rattle.cc_pieces.specs.Phases.{PhasesRan, Plan, is_of_phase, lazy_writer, lines_in, read_ahead_worker}
+use Rattle.cc_pieces.specs.Restarts.{refusal_told, refused_for, refused_restart}
 use Rattle.cc_pieces.specs.Runs.{Ran, asked_of}
 use Rattle.cc_pieces.specs.Served.{bindings_after}
 use Rattle.cc_pieces.proofs.Faultless.{ShowsNone, TellNone, answered-none, failed-tells-none, load-none, none-front, served-none, settle-none, tell-append}
@@ -59,6 +63,25 @@ every-told streams phases (line ∷ lines) (reply ∷ replies) same within each 
       (λ phase me first last low high. asked-tail (is_of_phase phase me line) (line.action, reply.answer) (asked_of (is_of_phase phase me) lines replies) (each phase me first last low high)),
 )
 
+-- where no restart told a fault, it is no fault by which the restart of a log was refused
+told-none : (told : Answer) (e : CcError) → tells_fault told ≡ false → refusal_told told ≡ Some e → is_fault e ≡ false
+told-none (answer.Refused f) e none is = let same : f ≡ e = cc is in subst (λ (e : CcError). is_fault e ≡ false) same none
+told-none other e none is = absurd (cc is)
+
+refused-none : (handle : ℕ) (restarts : List RestartLine) (ended : List LineReply) → TellNone ended → (e : CcError) → refused_restart handle restarts ended ≡ Some e → is_fault e ≡ false
+refused-none handle [] ended none e is = absurd (cc is)
+refused-none handle (restart ∷ restarts) [] none e is = absurd (cc is)
+refused-none handle (restart ∷ restarts) (reply ∷ ended) none e is =
+    by (restart.handle == handle) (refused-none handle restarts ended none.1 e) is
+  where
+    by : (b : Bool) → (refused_restart handle restarts ended ≡ Some e → is_fault e ≡ false) → (if b then refusal_told reply.answer else refused_restart handle restarts ended) ≡ Some e → is_fault e ≡ false
+    by true rest is = told-none reply.answer e none.0 is
+    by false rest is = rest is
+
+refused_for-none : (log : Option ℕ) (restarts : List RestartLine) (ended : List LineReply) → TellNone ended → (e : CcError) → refused_for log restarts ended ≡ Some e → is_fault e ≡ false
+refused_for-none None restarts ended none e is = absurd (cc is)
+refused_for-none (Some handle) restarts ended none e is = refused-none handle restarts ended none e is
+
 module _ (u : Setup) (n : ℕ) (handles : HasHandles u) where
   ran-none : (limit me : ℕ) (bindings : List Binding) (lines : List (Action × Answer)) (old new : List Entry) → LinesBelow n lines → Ran u limit me bindings lines old new → ShowsNone new → LinesTellNone lines
   ran-none limit me bindings [] old new below ran none = tt
@@ -88,14 +111,21 @@ module _ (u : Setup) (n : ℕ) (handles : HasHandles u) where
   opening-none s stream true told old new (inl unread) none = ap tells_fault unread.1 ∙ load-none 0 s unread.0 old new unread.2 none
   opening-none s stream true told old new (inr is) none = recorded-none s stream is.read told is.loaded new is.opened none
 
-  opened-none : (s : ℕ) (streams : List StreamLine) (replies : List LineReply) (old new : List Entry) → s + length streams ≤ n → Opened u s streams replies old new → ShowsNone new → TellNone replies
-  opened-none s [] [] old new few opened none = tt
-  opened-none s [] (reply ∷ replies) old new few opened none = absurd opened
-  opened-none s (stream ∷ streams) [] old new few opened none = absurd opened
-  opened-none s (stream ∷ streams) (reply ∷ replies) old new few opened none =
-      let rest = left-opened u n handles (suc s) streams replies opened.0 new (omega (arith, few)) opened.2 in
-      let front : ShowsNone opened.0 = none-front rest.during opened.0 (subst ShowsNone rest.grew none) in
-      (opening-none s stream stream.stored reply.answer old opened.0 opened.1.opened front, opened-none (suc s) streams replies opened.0 new (omega (arith, few)) opened.2 none)
+  behind-none : (s : ℕ) (stream : StreamLine) (refused : Option CcError) (told : Answer) (old new : List Entry) → ((e : CcError) → refused ≡ Some e → is_fault e ≡ false) → OpeningBehind u s stream refused told old new → ShowsNone new → tells_fault told ≡ false
+  behind-none s stream (Some e) told old new calm opened none = ap tells_fault opened.0 ∙ calm e refl
+  behind-none s stream None told old new calm opened none = opening-none s stream stream.stored told old new opened none
+
+  module _ (restarts : List RestartLine) (ended : List LineReply) (calm : TellNone ended) where
+    opened-none : (s : ℕ) (streams : List StreamLine) (replies : List LineReply) (old new : List Entry) → s + length streams ≤ n → Opened u restarts ended s streams replies old new → ShowsNone new → TellNone replies
+    opened-none s [] [] old new few opened none = tt
+    opened-none s [] (reply ∷ replies) old new few opened none = absurd opened
+    opened-none s (stream ∷ streams) [] old new few opened none = absurd opened
+    opened-none s (stream ∷ streams) (reply ∷ replies) old new few opened none =
+        let rest = left-opened u n handles restarts ended (suc s) streams replies opened.0 new (omega (arith, few)) opened.2 in
+        let front : ShowsNone opened.0 = none-front rest.during opened.0 (subst ShowsNone rest.grew none) in (
+          behind-none s stream (refused_for stream.log restarts ended) reply.answer old opened.0 (refused_for-none stream.log restarts ended calm) opened.1.opened front,
+          opened-none (suc s) streams replies opened.0 new (omega (arith, few)) opened.2 none,
+        )
 
   module _ (plan : Plan) (within : AllByRecursion (λ line. IsActionBelow n line.action) plan.lines) where
     phases-none : (phase left : ℕ) (ticked stepped : List LineReply) (taken : List Request) (old new : List Entry) → PhasesRan u plan phase left ticked stepped taken old new → ShowsNone new → (p me : ℕ) → phase ≤ p → p < phase + left → me ≢ lazy_writer → me ≢ read_ahead_worker → LinesTellNone (lines_in plan p me)
@@ -137,12 +167,14 @@ module _ (u : Setup) (n : ℕ) (handles : HasHandles u) where
         (aheads-none u n handles 32 phase (take ran.1 stepped) (take ran.2 taken) old ran.0 ran.3.steps (none-front more.0 ran.0 (subst ShowsNone more.1 none)))
         (phases-steps-none (suc phase) left _ (drop ran.1 stepped) _ ran.0 new ran.4 none))
 
--- Where the journal of a run shows no failure, no answer tells one, of a line, of a tick or of a read-ahead step.
-pub explained-none : (u : Setup) (n : ℕ) (handles : HasHandles u) (given : Given) (told : Answered) (taken : List Request) (past : List Entry) → length given.streams ≤ n → AllByRecursion (λ line. IsActionBelow n line.action) given.lines → AllByRecursion (IsLineWithin given.streams given.phases) given.lines → IsExplained u given told taken past → ShowsNone past → TellNone (told.replies ++ told.ticked ++ told.stepped)
-explained-none u n handles given told taken past few below within is none =
+-- Where the journal of a run shows no failure, and no restart told one, which has no entry, no answer tells one, of a line, of a
+-- tick or of a read-ahead step.
+pub explained-none : (u : Setup) (n : ℕ) (handles : HasHandles u) (given : Given) (told : Answered) (taken : List Request) (past : List Entry) → length given.streams ≤ n → AllByRecursion (λ line. IsActionBelow n line.action) given.lines → AllByRecursion (IsLineWithin given.streams given.phases) given.lines → IsExplained u given told taken past → ShowsNone past → TellNone (take (length given.restarts) told.replies) → TellNone (told.replies ++ told.ticked ++ told.stepped)
+explained-none u n handles given told taken past few below within is none calm =
     tell-append (told.replies ++ told.ticked) told.stepped
     (tell-append told.replies told.ticked
-    (subst TellNone (sym is.replies_are) (tell-append is.setup is.answers (opened-none u n handles 0 given.streams is.setup [] is.begun (omega (arith, few)) is.opened front) answers))
+    (subst TellNone (sym is.replies_are) (tell-append is.ended (is.setup ++ is.answers) ended
+    (tell-append is.setup is.answers (opened-none u n handles given.restarts is.ended ended 0 given.streams is.setup is.restarted is.begun (omega (arith, few)) is.opened front) answers)))
     (phases-ticks-none u n handles plan below 1 given.phases told.ticked told.stepped taken is.begun past is.ran none))
     (phases-steps-none u n handles plan below 1 given.phases told.ticked told.stepped taken is.begun past is.ran none)
   where
@@ -153,6 +185,16 @@ explained-none u n handles given told taken past few below within is none =
     front =
         let more = phases-grow u n handles plan below 1 given.phases told.ticked told.stepped taken is.begun past is.ran in
         none-front more.0 is.begun (subst ShowsNone more.1 none)
+
+    as-many : length is.ended ≡ length given.restarts
+    as-many =
+        sym (length-map is.ended (λ reply. reply.line)) ∙ (ap length is.restart_lines ∙ length-map given.restarts (λ restart. restart.line))
+
+    ended : TellNone is.ended
+    ended =
+        let first : take (length given.restarts) told.replies ≡ is.ended =
+        ap (take (length given.restarts)) is.replies_are ∙ take_at is.ended (is.setup ++ is.answers) (length given.restarts) as-many in
+        subst TellNone first calm
 
     answers : TellNone is.answers
     answers =

@@ -14,10 +14,12 @@ use Rattle.cc_entry.specs.declared.call.Call.{Call}
 use Rattle.cc_entry.specs.declared.call.Call.TheVariants as call
 use Rattle.cc_entry.specs.declared.entry.Entry.{Entry}
 use Rattle.cc_entry.specs.declared.entry.Entry.TheVariants as entry
+use Rattle.cc_entry.specs.declared.error.CcError.{CcError}
 use Rattle.cc_entry.specs.declared.reply.Outcome.TheVariants as outcome
 use Rattle.cc_entry.specs.declared.reply.Reply.TheVariants as reply
 use Rattle.cc_script.specs.declared.script.Action.{Action}
 use Rattle.cc_script.specs.declared.script.ActionLine.{ActionLine}
+use Rattle.cc_script.specs.declared.script.RestartLine.{RestartLine}
 use Rattle.cc_script.specs.declared.script.StreamLine.{StreamLine}
 use Rattle.cc_format.specs.declared.record.StreamRecord.{StreamRecord}
 use Rattle.cc_format.specs.declared.record.StreamRecord.TheVariants.{V1, V2}
@@ -26,12 +28,13 @@ use Rattle.cc_model.specs.Setup.{Setup}
 use Rattle.cc_effects.specs.Moments.{EachOwn, IsIdle}
 use Rattle.cc_pieces.specs.Bindings.{Binding}
 use Rattle.cc_pieces.specs.Explained.{Answered, Given, IsExplained}
-use Rattle.cc_pieces.specs.Openings.{LoggedOpening, MigrationLeft, Opened, RecordedOpening, StreamOpening, first_object_of, opening_call, recorded_call}
+use Rattle.cc_pieces.specs.Openings.{LoggedOpening, MigrationLeft, Opened, OpeningBehind, RecordedOpening, StreamOpening, first_object_of, opening_call, recorded_call}
+use Rattle.cc_pieces.specs.Restarts.{Restarted, refused_for}
 use Rattle.cc_pieces.specs.Phases.{PhaseRan, PhasesRan, Plan, is_of_phase, lazy_writer, lines_in, read_ahead_worker}
 use Rattle.cc_pieces.specs.Runs.{Ran, asked_of}
 use Rattle.cc_pieces.specs.Served.{bindings_after}
 use Rattle.cc_pieces.proofs.Streams.{AllBelow, FitsBelow, IsBelow}
-use Rattle.cc_pieces.proofs.LeftStreams.{HasHandles, IsActionBelow, IsLeft, IsSound, StaysBelow, left-answered, left-call, left-idle, left-load, left-served, left-settle, left-then, sound-front, sound-tail}
+use Rattle.cc_pieces.proofs.LeftStreams.{HasHandles, IsActionBelow, IsLeft, IsSound, StaysBelow, left-answered, left-call, left-idle, left-load, left-restart, left-served, left-settle, left-then, sound-front, sound-tail}
 use Rattle.cc_pieces.proofs.TickSteps.{left-ticks}
 use Rattle.cc_pieces.proofs.AheadSteps.{left-aheads}
 
@@ -110,23 +113,41 @@ module _ (u : Setup) (n : ℕ) (handles : HasHandles u) where
       left-then u n 0 old is.loaded new (left-load u n handles {A = Option StreamRecord} 0 s (Ok is.read) old is.loaded low is.load)
       (left-recorded s stream is.read told is.loaded new low is.opened)
 
-  pub left-opened : (s : ℕ) (streams : List StreamLine) (replies : List LineReply) (old new : List Entry) → s + length streams ≤ n → Opened u s streams replies old new → IsLeft u n 0 old new
-  left-opened s [] [] old new few opened = left-idle u n 0 old new opened
-  left-opened s [] (reply ∷ replies) old new few opened = absurd opened
-  left-opened s (stream ∷ streams) [] old new few opened = absurd opened
-  left-opened s (stream ∷ streams) (reply ∷ replies) old new few opened =
-      left-then u n 0 old opened.0 new (left-opening s stream stream.stored reply.answer old opened.0 (omega (arith, few)) opened.1.opened)
-      (left-opened (suc s) streams replies opened.0 new (omega (arith, few)) opened.2)
+  left-behind : (s : ℕ) (stream : StreamLine) (refused : Option CcError) (told : Answer) (old new : List Entry) → s < n → OpeningBehind u s stream refused told old new → IsLeft u n 0 old new
+  left-behind s stream (Some e) told old new low opened = left-idle u n 0 old new opened.1
+  left-behind s stream None told old new low opened = left-opening s stream stream.stored told old new low opened
 
-  -- the streams were opened, and nobody but pass 0 placed anything
-  pub opened-below : (streams : List StreamLine) (replies : List LineReply) (begun : List Entry) → length streams ≤ n → Opened u 0 streams replies [] begun → ((me : ℕ) → me ≢ 0 → IsIdle me [] begun) → IsSound u begun → AllBelow n u.logs begun
-  opened-below streams replies begun few opened alone sound = every-left u n [] begun each sound tt
+  module _ (restarts : List RestartLine) (ended : List LineReply) where
+    pub left-opened : (s : ℕ) (streams : List StreamLine) (replies : List LineReply) (old new : List Entry) → s + length streams ≤ n → Opened u restarts ended s streams replies old new → IsLeft u n 0 old new
+    left-opened s [] [] old new few opened = left-idle u n 0 old new opened
+    left-opened s [] (reply ∷ replies) old new few opened = absurd opened
+    left-opened s (stream ∷ streams) [] old new few opened = absurd opened
+    left-opened s (stream ∷ streams) (reply ∷ replies) old new few opened =
+        left-then u n 0 old opened.0 new
+        (left-behind s stream (refused_for stream.log restarts ended) reply.answer old opened.0 (omega (arith, few)) opened.1.opened)
+        (left-opened (suc s) streams replies opened.0 new (omega (arith, few)) opened.2)
+
+  left-restarted : (restarts : List RestartLine) (replies : List LineReply) (old new : List Entry) → Restarted u restarts replies old new → IsLeft u n 0 old new
+  left-restarted [] [] old new ended = left-idle u n 0 old new ended
+  left-restarted [] (reply ∷ replies) old new ended = absurd ended
+  left-restarted (restart ∷ restarts) [] old new ended = absurd ended
+  left-restarted (restart ∷ restarts) (reply ∷ replies) old new ended =
+      left-then u n 0 old ended.0 new (left-restart u n handles restart.handle reply.answer old ended.0 ended.1.left) (left-restarted restarts replies ended.0 new ended.2)
+
+  -- the restarts were ended and the streams opened, and nobody but pass 0 placed anything
+  pub opened-below : (restarts : List RestartLine) (ended : List LineReply) (streams : List StreamLine) (replies : List LineReply) (restarted begun : List Entry) → length streams ≤ n → Restarted u restarts ended [] restarted → Opened u restarts ended 0 streams replies restarted begun → ((me : ℕ) → me ≢ 0 → IsIdle me [] begun) → IsSound u begun → AllBelow n u.logs begun
+  opened-below restarts ended streams replies restarted begun few done opened alone sound = every-left u n [] begun each sound tt
     where
+      first : IsLeft u n 0 [] begun
+      first =
+          left-then u n 0 [] restarted begun (left-restarted restarts ended [] restarted done)
+          (left-opened restarts ended 0 streams replies restarted begun (omega (arith, few)) opened)
+
       each : (me : ℕ) → IsLeft u n me [] begun
       each me = by (me == 0) refl
         where
           by : (b : Bool) → (me == 0) ≡ b → IsLeft u n me [] begun
-          by true is = rw (eqb-true me 0 is) (left-opened 0 streams replies [] begun (omega (arith, few)) opened)
+          by true is = rw (eqb-true me 0 is) first
           by false is = left-idle u n me [] begun (alone me (eqb-false me 0 is))
 
   module _ (plan : Plan) (within : AllByRecursion (λ line. IsActionBelow n line.action) plan.lines) where
@@ -162,7 +183,7 @@ module _ (u : Setup) (n : ℕ) (handles : HasHandles u) where
 pub explained-below : (u : Setup) (n : ℕ) (handles : HasHandles u) (given : Given) (told : Answered) (taken : List Request) (past : List Entry) → length given.streams ≤ n → AllByRecursion (λ line. IsActionBelow n line.action) given.lines → IsSound u past → IsExplained u given told taken past → AllBelow n u.logs past
 explained-below u n handles given told taken past few within sound is =
     phases-below u n handles plan within 1 given.phases told.ticked told.stepped taken is.begun past is.ran sound
-    (opened-below u n handles given.streams is.setup is.begun few is.opened is.alone (sound-front u grown.0 is.begun (subst (IsSound u) grown.1 sound)))
+    (opened-below u n handles given.restarts is.ended given.streams is.setup is.restarted is.begun few is.restarts_ended is.opened is.alone (sound-front u grown.0 is.begun (subst (IsSound u) grown.1 sound)))
   where
     plan : Plan
     plan = record { lines = given.lines; answers = is.answers; ticks = given.ticks; aheads = given.aheads }

@@ -123,7 +123,7 @@ module _ (u : Setup) (me : ℕ) (older old : List Entry) (idle : IsIdle me older
 -- ---- what others placed after
 
 module _ (u : Setup) (me : ℕ) (new newer : List Entry) (idle : IsIdle me new newer) where
-  calls-after : (calls : List Call) (answered : Result (Unit {0}) CcError) (old : List Entry) → CallsLeft u me calls answered old new → CallsLeft u me calls answered old newer
+  pub calls-after : (calls : List Call) (answered : Result (Unit {0}) CcError) (old : List Entry) → CallsLeft u me calls answered old new → CallsLeft u me calls answered old newer
   calls-after [] (Ok done) old left = idle-then me old new newer left idle
   calls-after [] (Err e) old left = absurd left
   calls-after (it ∷ more) (Ok done) old left = (left.0, left.1, calls-after more (Ok done) left.0 left.2)

@@ -363,6 +363,7 @@ module _ (u : Setup) (n : ℕ) where
   doing-below me bindings (action.Unlock file id) below = tt
   doing-below me bindings (action.Levels file) below = tt
   doing-below me bindings (action.Settle file) below = tt
+  doing-below me bindings (action.Checkpoint streams handle) below = tt
   doing-below me bindings (action.AskAhead file at len) below = tt
   doing-below me bindings action.AheadStep below = tt
   doing-below me bindings (action.AsyncRead file at len) below = tt

@@ -20,6 +20,7 @@ use Rattle.cc_entry.specs.declared.reply.Outcome.TheVariants as outcome
 use Rattle.cc_entry.specs.declared.reply.Reply.TheVariants as reply
 use Rattle.cc_format.specs.declared.record.StreamRecord.{StreamRecord}
 use Rattle.cc_format.specs.declared.record.StreamRecord.TheVariants.{V1, V2}
+use Rattle.cc_script.specs.declared.script.RestartLine.{RestartLine}
 use Rattle.cc_script.specs.declared.script.StreamLine.{StreamLine}
 use Rattle.cc_model.specs.Passes.{is_pass, pass_of}
 use Rattle.cc_model.specs.Setup.{Setup}
@@ -29,8 +30,9 @@ use Rattle.cc_effects.specs.Places.{MayPlace}
 use Rattle.cc_effects.proofs.Stretches.{each-implies}
 use Rattle.cc_records.specs.Left.{LoadLeft}
 use Rattle.cc_pieces.specs.Answered.{CallAnswered}
-use Rattle.cc_pieces.specs.Openings.{LoggedOpening, MigrationLeft, Opened, RecordedOpening, StreamOpening, first_object_of, is_record_of, opening_call, recorded_call}
-use Rattle.cc_pieces.proofs.Walks.{Keeps, Walked, walk-answered, walk-call, walk-settle, walked-idle, walked-only, walked-then}
+use Rattle.cc_pieces.specs.Openings.{LoggedOpening, MigrationLeft, Opened, OpeningBehind, RecordedOpening, StreamOpening, first_object_of, is_record_of, opening_call, recorded_call}
+use Rattle.cc_pieces.specs.Restarts.{Restarted, refused_for}
+use Rattle.cc_pieces.proofs.Walks.{Keeps, Walked, walk-answered, walk-call, walk-restart, walk-settle, walked-idle, walked-only, walked-then}
 
 -- an entry is no write of the record of a stream
 abbrev IsUnrecorded : ℕ → List Entry → Entry → Type 0
@@ -110,13 +112,26 @@ module _ (u : Setup) (t : ℕ) where
         walked-then (IsUnrecorded t) 0 old is.loaded new (load-unwritten {A = Option StreamRecord} s (Ok is.read) old is.loaded is.load)
         (recorded-unwritten stream is.read told is.loaded new is.opened)
 
-  opened-unwritten : (s : ℕ) (streams : List StreamLine) (replies : List LineReply) (old new : List Entry) → s + length streams ≤ t → Opened u s streams replies old new → Unwritten old new
-  opened-unwritten s [] [] old new few opened = walked-idle (IsUnrecorded t) 0 old new opened
-  opened-unwritten s [] (r ∷ replies) old new few opened = absurd opened
-  opened-unwritten s (stream ∷ streams) [] old new few opened = absurd opened
-  opened-unwritten s (stream ∷ streams) (r ∷ replies) old new few opened =
-      walked-then (IsUnrecorded t) 0 old opened.0 new (opening-unwritten s (ne_eqb s t (λ same. absurd (omega (arith, few, same)))) stream stream.stored r.answer old opened.0 opened.1.opened)
-      (opened-unwritten (suc s) streams replies opened.0 new (omega (arith, few)) opened.2)
+  restarted-unwritten : (restarts : List RestartLine) (ended : List LineReply) (old new : List Entry) → Restarted u restarts ended old new → Unwritten old new
+  restarted-unwritten [] [] old new done = walked-idle (IsUnrecorded t) 0 old new done
+  restarted-unwritten [] (r ∷ ended) old new done = absurd done
+  restarted-unwritten (restart ∷ restarts) [] old new done = absurd done
+  restarted-unwritten (restart ∷ restarts) (r ∷ ended) old new done =
+      walked-then (IsUnrecorded t) 0 old done.0 new (walk-restart u _ _ _ (keeps-unrecorded u t) restart.handle r.answer old done.0 done.1.left)
+      (restarted-unwritten restarts ended done.0 new done.2)
+
+  behind-unwritten : (s : ℕ) (apart : (s == t) ≡ false) (stream : StreamLine) (refused : Option CcError) (told : Answer) (old new : List Entry) → OpeningBehind u s stream refused told old new → Unwritten old new
+  behind-unwritten s apart stream (Some e) told old new opened = walked-idle (IsUnrecorded t) 0 old new opened.1
+  behind-unwritten s apart stream None told old new opened = opening-unwritten s apart stream stream.stored told old new opened
+
+  opened-unwritten : (restarts : List RestartLine) (ended : List LineReply) (s : ℕ) (streams : List StreamLine) (replies : List LineReply) (old new : List Entry) → s + length streams ≤ t → Opened u restarts ended s streams replies old new → Unwritten old new
+  opened-unwritten restarts ended s [] [] old new few opened = walked-idle (IsUnrecorded t) 0 old new opened
+  opened-unwritten restarts ended s [] (r ∷ replies) old new few opened = absurd opened
+  opened-unwritten restarts ended s (stream ∷ streams) [] old new few opened = absurd opened
+  opened-unwritten restarts ended s (stream ∷ streams) (r ∷ replies) old new few opened =
+      walked-then (IsUnrecorded t) 0 old opened.0 new
+      (behind-unwritten s (ne_eqb s t (λ same. absurd (omega (arith, few, same)))) stream (refused_for stream.log restarts ended) r.answer old opened.0 opened.1.opened)
+      (opened-unwritten restarts ended (suc s) streams replies opened.0 new (omega (arith, few)) opened.2)
 
   -- an entry of no pass is none
   unpassed : (e : Entry) → pass_of e ≡ None → is_record_of t e ≡ false
@@ -131,14 +146,11 @@ module _ (u : Setup) (t : ℕ) where
       here None is = unpassed e is
       here (Some me) is = (each me).0 (ap (is_pass me) is ∙ eq-eqb me me refl)
 
-  -- Behind the lines of streams, numbered from one on, no record of a later stream was written that was not before.
-  pub lines-unrecorded : (s : ℕ) (streams : List StreamLine) (replies : List LineReply) (old new : List Entry) → Opened u s streams replies old new → ((me : ℕ) → me ≢ 0 → IsIdle me old new) → s + length streams ≤ t → list_any (is_record_of t) old ≡ false → list_any (is_record_of t) new ≡ false
-  lines-unrecorded s streams replies old new opened alone few none =
+  -- what pass 0 placed alone
+  alone-unrecorded : (old new : List Entry) → Unwritten old new → ((me : ℕ) → me ≢ 0 → IsIdle me old new) → list_any (is_record_of t) old ≡ false → list_any (is_record_of t) new ≡ false
+  alone-unrecorded old new mine alone none =
       subst (λ (past : List Entry). list_any (is_record_of t) past ≡ false) (sym mine.grew) (any-unrecorded mine.during old each none)
     where
-      mine : Unwritten old new
-      mine = opened-unwritten s streams replies old new few opened
-
       others : (me : ℕ) → me ≢ 0 → EachOwn me (IsUnrecorded t) mine.during old
       others me other =
           let walked = walked-idle (IsUnrecorded t) me old new (alone me other) in
@@ -150,3 +162,12 @@ module _ (u : Setup) (t : ℕ) where
           by : (b : Bool) → (me == 0) ≡ b → EachOwn me (IsUnrecorded t) mine.during old
           by true is = rw (eqb-true me 0 is) mine.each
           by false is = others me (eqb-false me 0 is)
+
+  -- Behind the lines of restarts no record was written that was not before.
+  pub restarts-unrecorded : (restarts : List RestartLine) (ended : List LineReply) (old new : List Entry) → Restarted u restarts ended old new → ((me : ℕ) → me ≢ 0 → IsIdle me old new) → list_any (is_record_of t) old ≡ false → list_any (is_record_of t) new ≡ false
+  restarts-unrecorded restarts ended old new done alone none = alone-unrecorded old new (restarted-unwritten restarts ended old new done) alone none
+
+  -- Behind the lines of streams, numbered from one on, no record of a later stream was written that was not before.
+  pub lines-unrecorded : (restarts : List RestartLine) (ended : List LineReply) (s : ℕ) (streams : List StreamLine) (replies : List LineReply) (old new : List Entry) → Opened u restarts ended s streams replies old new → ((me : ℕ) → me ≢ 0 → IsIdle me old new) → s + length streams ≤ t → list_any (is_record_of t) old ≡ false → list_any (is_record_of t) new ≡ false
+  lines-unrecorded restarts ended s streams replies old new opened alone few none =
+      alone-unrecorded old new (opened-unwritten restarts ended s streams replies old new few opened) alone none

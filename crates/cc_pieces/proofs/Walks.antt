@@ -1,10 +1,12 @@
 -- What a line of a caller leaves, entry by entry: what may be said of each entry that a call places is true of each own entry
 -- of the line's piece.
-use Rattle.std.specs.Prelude.{◌≡◌, ℕ, zero, suc, ◌+◌, ◌*◌, ◌/◌, ◌<◌, Bool, true, false, ◌||◌, List, [], ◌∷◌, ◌++◌, length, take, drop, Result, Ok, Err, refl, ◌⊎◌}
+use Rattle.std.specs.Prelude.{◌≡◌, ℕ, zero, suc, ◌+◌, ◌*◌, ◌/◌, ◌<◌, Bool, true, false, ◌||◌, List, [], ◌∷◌, ◌++◌, length, ◌≤◌, map, take, drop, Result, Ok, Err, refl, ◌⊎◌}
 use Rattle.std.specs.declared.option.Option.{Option}
 use Rattle.std.specs.declared.option.Option.TheVariants.{Some, None}
-use Rattle.std.proofs.Common.{sym, subst, inl, inr}
+use Rattle.std.specs.List.{AllByRecursion}
+use Rattle.std.proofs.Common.{arith, sym, subst, inl, inr}
 use Rattle.cc_entry.specs.Place.{File, Page, Range}
+use Rattle.cc_entry.specs.declared.place.DirtyRow.{DirtyRow}
 use Rattle.cc_entry.specs.declared.place.FileState.{FileState}
 use Rattle.cc_entry.specs.declared.answer.Answer.{Answer}
 use Rattle.cc_entry.specs.declared.answer.Answer.TheVariants as answer
@@ -45,6 +47,10 @@ use Rattle.cc_pieces.specs.Answered.{AppendAnswered, CallAnswered, LevelsAnswere
 use Rattle.cc_pieces.specs.Bindings.{Binding, OnHold, hold_named}
 use Rattle.cc_pieces.specs.HoldLines.{HeldReadBy, HoldLine, UnpinAnswered, UnrepinLine}
 use Rattle.cc_pieces.specs.Locks.{LockAnswered, UnlockAnswered}
+use Rattle.cc_pieces.specs.Shim.{CallsLeft}
+use Rattle.cc_pieces.specs.Checkpoints.{AskingStopped, CheckpointAnswered, CheckpointLeft, RecordFlushed, RecordLogged, RowsLogged, StateAsked, StatesAsked, StateRefused, SyncedLogged, first_object, record_of_rows, sync_call}
+use Rattle.cc_pieces.specs.Restarts.{LastFlushed, RestartAnswered}
+use Rattle.cc_pieces.proofs.CheckpointSteps.{found-below}
 use Rattle.cc_pieces.specs.Queue.{is_queue_action, is_queue_call}
 use Rattle.cc_pieces.specs.Served.{Served}
 use Rattle.cc_vacb.specs.Levels.{levels_of}
@@ -131,6 +137,7 @@ IsActionOn On (action.Lock file _ _) = On file
 IsActionOn On (action.Unlock file _) = On file
 IsActionOn On (action.Levels file) = On file
 IsActionOn On (action.Settle file) = On file
+IsActionOn On (action.Checkpoint streams _) = (s : ℕ) → s < streams → On (first_object s)
 IsActionOn On (action.SetSizes file _ _) = On file
 IsActionOn On (action.State file) = On file
 IsActionOn On (action.Flush file _) = On file
@@ -263,6 +270,17 @@ module _ (u : Setup) (Stays : List Entry → Entry → Type 0) (Fits : List Entr
       by (inr was) = walked-idle Stays me old new was.idle
   walk-log-flush me handle lsn (answer.Refused e) old new left = walk-flush-refused me handle lsn e old new left
   walk-log-flush me handle lsn other old new left = absurd left
+
+  -- the end of a restart: a flush of its log, or nothing
+  pub walk-restart : (handle : ℕ) (told : Answer) (old new : List Entry) → RestartAnswered u handle told old new → Walked Stays 0 old new
+  walk-restart handle (answer.Restarted updates) old new left = by left.0 left.1
+    where
+      by : (last : ℕ) → LastFlushed u handle last old new → Walked Stays 0 old new
+      by zero flushed = walked-idle Stays 0 old new flushed
+      by (suc n) flushed = walk-log-flush 0 handle (suc n) (answer.Given reply.Unit) old new flushed.1
+  walk-restart handle (answer.Refused e) old new (inl idle) = walked-idle Stays 0 old new idle
+  walk-restart handle (answer.Refused e) old new (inr left) = walk-log-flush 0 handle left.0 (answer.Refused e) old new left.1
+  walk-restart handle other old new left = absurd left
 
   -- noncached reads and writes of a file that calls fit on
   module _ (file : File) (on : On file) where
@@ -499,6 +517,69 @@ module _ (u : Setup) (Stays : List Entry → Entry → Type 0) (Fits : List Entr
     walk-settled (answer.Refused e) old new left = walk-settle (Err e) old new left
     walk-settled other old new left = absurd left
 
+  -- a checkpoint: the table, the states of the first streams, the syncs of some of them, an append and a flush of the log
+  module _ (me handle streams : ℕ) (on : (s : ℕ) → s < streams → On (first_object s)) where
+    walk-first : (it : Call) (s : ℕ) (ended : Outcome) (old new : List Entry) → s < streams → file_of it ≡ Some (first_object s) → is_queue_call it ≡ false → CallLeft u me it ended old new → Walked Stays me old new
+    walk-first it s ended old new low of plain left = walk-call me it ended old new ((keeps me).on_file it (first_object s) old (on s low) of plain) left
+
+    walk-asked : (s : ℕ) (state : Option FileState) (old new : List Entry) → s < streams → StateAsked u me s state old new → Walked Stays me old new
+    walk-asked s (Some state) old new low left = walk-first (call.State (first_object s)) s (outcome.Done (reply.State state)) old new low refl refl left
+    walk-asked s None old new low left = walk-first (call.State (first_object s)) s (outcome.Failed error.NotCached) old new low refl refl left
+
+    walk-states : (n : ℕ) (found : List ℕ) (old new : List Entry) → n ≤ streams → StatesAsked u me handle n found old new → Walked Stays me old new
+    walk-states zero found old new low left = walked-idle Stays me old new left.1
+    walk-states (suc n) found old new low left =
+        walked-then Stays me old left.2 new (walk-states n left.0 old left.2 (omega (arith, low)) left.4) (walk-asked n left.1 left.2 new (omega (arith, low)) left.5)
+
+    walk-syncs : (found : List ℕ) (answered : Result (Unit {0}) CcError) (old new : List Entry) → AllByRecursion (λ s. s < streams) found → CallsLeft u me (map sync_call found) answered old new → Walked Stays me old new
+    walk-syncs [] (Ok done) old new low left = walked-idle Stays me old new left
+    walk-syncs [] (Err e) old new low left = absurd left
+    walk-syncs (s ∷ found) (Ok done) old new low left =
+        walked-then Stays me old left.0 new (walk-first (sync_call s) s (outcome.Done reply.Unit) old left.0 low.0 refl refl left.1) (walk-syncs found (Ok done) left.0 new low.1 left.2)
+    walk-syncs (s ∷ found) (Err e) old new low (inl left) = walk-first (sync_call s) s (outcome.Failed e) old new low.0 refl refl left
+    walk-syncs (s ∷ found) (Err e) old new low (inr left) =
+        walked-then Stays me old left.0 new (walk-first (sync_call s) s (outcome.Done reply.Unit) old left.0 low.0 refl refl left.1) (walk-syncs found (Err e) left.0 new low.1 left.2)
+
+    walk-record-flushed : (lsn : ℕ) (answered : Result ℕ CcError) (old new : List Entry) → RecordFlushed u me handle lsn answered old new → Walked Stays me old new
+    walk-record-flushed lsn (Ok told) old new left = walk-log-flush me handle lsn (answer.Given reply.Unit) old new left.1
+    walk-record-flushed lsn (Err e) old new left = walk-log-flush me handle lsn (answer.Refused e) old new left
+
+    walk-record-logged : (spelled : List ℕ) (answered : Result ℕ CcError) (old new : List Entry) → RecordLogged u me handle spelled answered old new → Walked Stays me old new
+    walk-record-logged spelled answered old new (inl left) = walk-append me handle spelled (answer.Refused left.0) old new left.2
+    walk-record-logged spelled answered old new (inr left) =
+        walked-then Stays me old left.0 new (walk-append me handle spelled (answer.NewLsn left.1) old left.0 left.2) (walk-record-flushed left.1 answered left.0 new left.3)
+
+    walk-synced-logged : (found spelled : List ℕ) (answered : Result ℕ CcError) (old new : List Entry) → AllByRecursion (λ s. s < streams) found → SyncedLogged u me handle found spelled answered old new → Walked Stays me old new
+    walk-synced-logged found spelled answered old new low (inl left) = walk-syncs found (Err left.0) old new low left.2
+    walk-synced-logged found spelled answered old new low (inr left) =
+        walked-then Stays me old left.0 new (walk-syncs found (Ok tt) old left.0 low left.1) (walk-record-logged spelled answered left.0 new left.2)
+
+    walk-rows-logged : (rows : List DirtyRow) (answered : Result ℕ CcError) (old new : List Entry) → RowsLogged u me streams handle rows answered old new → Walked Stays me old new
+    walk-rows-logged rows answered old new (inl left) = by left.2
+      where
+        by : AskingStopped u me handle streams left.0 old new ⊎ StateRefused u me handle streams left.0 old new → Walked Stays me old new
+        by (inl stopped) = walk-states stopped.n stopped.found old new stopped.within stopped.asked
+        by (inr refused) =
+            let low = refused.below in
+            walked-then Stays me old refused.between new (walk-states refused.n refused.found old refused.between (omega (arith, low)) refused.asked)
+            (walk-first (call.State (first_object refused.n)) refused.n (outcome.Failed left.0) refused.between new low refl refl refused.refused)
+    walk-rows-logged rows answered old new (inr left) =
+        walked-then Stays me old left.0 new (walk-states streams left.1 old left.0 (omega arith) left.2)
+        (walk-synced-logged left.1 (record_of_rows rows) answered left.0 new (found-below u me handle streams left.1 old left.0 left.2) left.3)
+
+    walk-checkpoint-left : (answered : Result ℕ CcError) (old new : List Entry) → CheckpointLeft u me streams handle answered old new → Walked Stays me old new
+    walk-checkpoint-left answered old new (inl left) =
+        walk-call me (call.DirtyPages handle) (outcome.Failed left.0) old new ((keeps me).on_none (call.DirtyPages handle) old refl refl) left.2
+    walk-checkpoint-left answered old new (inr left) =
+        walked-then Stays me old left.0 new
+        (walk-call me (call.DirtyPages handle) (outcome.Done (reply.Rows left.1)) old left.0 ((keeps me).on_none (call.DirtyPages handle) old refl refl) left.2)
+        (walk-rows-logged left.1 answered left.0 new left.3)
+
+    walk-checkpoint : (told : Answer) (old new : List Entry) → CheckpointAnswered u me streams handle told old new → Walked Stays me old new
+    walk-checkpoint (answer.NewLsn lsn) old new left = walk-checkpoint-left (Ok lsn) old new left
+    walk-checkpoint (answer.Refused e) old new left = walk-checkpoint-left (Err e) old new left
+    walk-checkpoint other old new left = absurd left
+
   -- lines on holds
   walk-on-hold : (me : ℕ) (hold : Option ℕ) (Left : ℕ → Answer → List Entry → List Entry → Type 0) (told : Answer) (old new : List Entry) → ((id : ℕ) → Left id told old new → Walked Stays me old new) → OnHold me hold Left told old new → Walked Stays me old new
   walk-on-hold me None Left told old new step left = walked-idle Stays me old new left.1
@@ -604,6 +685,7 @@ module _ (u : Setup) (Stays : List Entry → Entry → Type 0) (Fits : List Entr
   walk-served me bindings (action.Unlock file id) told old new plain on left = walk-unlock me file id told old new left
   walk-served me bindings (action.Levels file) told old new plain on left = walk-levels me file told old new left
   walk-served me bindings (action.Settle file) told old new plain on left = walk-settled me file on told old new left
+  walk-served me bindings (action.Checkpoint streams handle) told old new plain on left = walk-checkpoint me handle streams on told old new left
   walk-served me bindings action.IsDirtyData told old new plain on left = walk-answered me call.IsDirtyData told old new ((keeps me).on_none call.IsDirtyData old refl refl) left
   walk-served me bindings (action.DirtyPages handle) told old new plain on left = walk-answered me (call.DirtyPages handle) told old new ((keeps me).on_none (call.DirtyPages handle) old refl refl) left
   walk-served me bindings (action.LsnForFile file) told old new plain on left = walk-answered me (call.LsnForFile file) told old new ((keeps me).on_file (call.LsnForFile file) file old on refl refl) left

@@ -13,6 +13,8 @@ use Rattle.cc_entry.specs.declared.error.CcError.TheVariants as error
 use Rattle.cc_entry.specs.declared.reply.Reply.TheVariants as reply
 use Rattle.cc_entry.specs.declared.reply.Outcome.TheVariants as outcome
 use Rattle.cc_entry.specs.declared.entry.Entry.{Entry}
+use Rattle.cc_entry.specs.declared.answer.Answer.{Answer}
+use Rattle.cc_entry.specs.declared.answer.Answer.TheVariants as answer
 use Rattle.cc_model.specs.Setup.{Setup}
 use Rattle.cc_format.specs.declared.log.OldestRow.{OldestRow}
 use Rattle.cc_format.specs.LogRecords.{checkpoint_record}
@@ -120,3 +122,9 @@ CheckpointLeft u me streams handle answered old new =
     × (rows : List DirtyRow)
     × CallLeft u me (call.DirtyPages handle) (outcome.Done (reply.Rows rows)) old between
     × RowsLogged u me streams handle rows answered between new)
+
+-- a line that makes one
+abbrev pub CheckpointAnswered : Setup → ℕ → ℕ → ℕ → Answer → Between
+CheckpointAnswered u me streams handle (answer.NewLsn lsn) old new = CheckpointLeft u me streams handle (Ok lsn) old new
+CheckpointAnswered u me streams handle (answer.Refused e) old new = CheckpointLeft u me streams handle (Err e) old new
+CheckpointAnswered u me streams handle other old new = ⊥

@@ -68,6 +68,7 @@ doing_of me bindings (action.Lock file span exclusive) = NamesNone
 doing_of me bindings (action.Unlock file id) = NamesNone
 doing_of me bindings (action.Levels file) = NamesNone
 doing_of me bindings (action.Settle file) = NamesNone
+doing_of me bindings (action.Checkpoint streams handle) = NamesNone
 doing_of me bindings (action.AskAhead file at len) = NamesNone
 doing_of me bindings action.AheadStep = NamesNone
 doing_of me bindings (action.AsyncRead file at len) = NamesNone

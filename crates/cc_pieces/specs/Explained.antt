@@ -6,10 +6,12 @@ use Rattle.cc_entry.specs.declared.place.Request.{Request}
 use Rattle.cc_entry.specs.declared.entry.Entry.{Entry}
 use Rattle.cc_script.specs.declared.script.ActionLine.{ActionLine}
 use Rattle.cc_script.specs.declared.script.StreamLine.{StreamLine}
+use Rattle.cc_script.specs.declared.script.RestartLine.{RestartLine}
 use Rattle.cc_model.specs.Setup.{Setup}
 use Rattle.cc_effects.specs.Moments.{IsIdle}
 use Rattle.cc_pieces.specs.Served.{posted_by}
 use Rattle.cc_pieces.specs.Runs.{asked_of}
+use Rattle.cc_pieces.specs.Restarts.{Restarted}
 use Rattle.cc_pieces.specs.Openings.{Opened}
 use Rattle.cc_pieces.specs.Phases.{PhasesRan}
 
@@ -24,6 +26,7 @@ posted_in lines answers = flat_map (λ line. posted_by line.0 line.1) (asked_of 
 -- what a run was given: the lines of a script, how many phases they have, how many ticks a phase has, and how many
 -- read-ahead steps at most
 pub record Given : Type 0 where
+  pub restarts : List RestartLine
   pub streams : List StreamLine
   pub lines : List ActionLine
   pub phases : ℕ
@@ -36,18 +39,23 @@ pub record Answered : Type 0 where
   pub ticked : List LineReply
   pub stepped : List LineReply
 
--- A script and its answers are explained by a past: each line has one reply, in the script's order, the
--- streams' first. The pass that sets the run up, 0, opened the streams before all else; then the phases ran,
+-- A script and its answers are explained by a past: each line has one reply, in the script's order, those of the restarts
+-- and then the streams' first. The pass that sets the run up, 0, ended the restarts and opened the streams before all else;
+-- then the phases ran,
 -- each caller made the calls of its lines, and no other pass placed anything; a post is no pass's. No deferred
 -- write was posted in two answers. The read-ahead worker took these requests, of all phases.
 pub record IsExplained (u : Setup) (given : Given) (told : Answered) (taken : List Request) (past : List Entry) : Type 0 where
+  pub ended : List LineReply
   pub setup : List LineReply
   pub answers : List LineReply
+  pub restarted : List Entry
   pub begun : List Entry
-  pub replies_are : told.replies ≡ setup ++ answers
+  pub replies_are : told.replies ≡ ended ++ (setup ++ answers)
+  pub restart_lines : answered_lines ended ≡ map (λ restart. restart.line) given.restarts
   pub setup_lines : answered_lines setup ≡ map (λ stream. stream.line) given.streams
   pub answer_lines : answered_lines answers ≡ map (λ line. line.line) given.lines
-  pub opened : Opened u 0 given.streams setup [] begun
+  pub restarts_ended : Restarted u given.restarts ended [] restarted
+  pub opened : Opened u given.restarts ended 0 given.streams setup restarted begun
   pub alone : (me : ℕ) → me ≢ 0 → IsIdle me [] begun
   pub ran :
       PhasesRan u (record { lines = given.lines; answers = answers; ticks = given.ticks; aheads = given.aheads })

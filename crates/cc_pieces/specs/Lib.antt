@@ -7,6 +7,7 @@ pub mod Checkpoints
 pub mod Locks
 pub mod Served
 pub mod Rooms
+pub mod Restarts
 pub mod PlainReads
 pub mod PlainPages
 pub mod Runs

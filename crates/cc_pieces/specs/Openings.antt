@@ -21,12 +21,14 @@ use Rattle.cc_format.specs.Spelling.{IsReadAs, recorded_size, recorded_valid}
 use Rattle.cc_format.specs.declared.record.StreamRecord.{StreamRecord}
 use Rattle.cc_format.specs.declared.record.StreamRecord.TheVariants.{V1}
 use Rattle.cc_script.specs.declared.script.StreamLine.{StreamLine}
+use Rattle.cc_script.specs.declared.script.RestartLine.{RestartLine}
 use Rattle.cc_model.specs.Setup.{Setup}
 use Rattle.cc_effects.specs.Moments.{IsIdle, Between}
 use Rattle.cc_effects.specs.Calls.{CallLeft}
 use Rattle.cc_records.specs.Left.{LoadLeft, SettleLeft}
 use Rattle.cc_pieces.specs.Answered.{CallAnswered}
 use Rattle.cc_pieces.specs.Rooms.{HadNoRoom}
+use Rattle.cc_pieces.specs.Restarts.{refused_for}
 
 abbrev pub first_object_of : ℕ → File
 first_object_of s = record { stream = s; object = 0 }
@@ -110,14 +112,23 @@ StreamOpening u s stream true told old new =
     ((e : CcError) × (told ≡ answer.Refused e) × LoadLeft {A = Option StreamRecord} 0 s (Err e) old new)
     ⊎ IsLoaded u s stream told old new
 
--- the line of one stream
-pub record Opens (u : Setup) (s : ℕ) (stream : StreamLine) (told : Answer) (old new : List Entry) : Type 0 where
-  pub opened : StreamOpening u s stream stream.stored told old new
-  pub room : HadNoRoom u 4 told old new
+-- The line of a stream whose log was not restarted is answered by what refused that, and makes no call.
+abbrev pub OpeningBehind : Setup → ℕ → StreamLine → Option CcError → Answer → Between
+OpeningBehind u s stream (Some e) told old new = (told ≡ answer.Refused e) × IsIdle 0 old new
+OpeningBehind u s stream None told old new = StreamOpening u s stream stream.stored told old new
 
--- the lines of the streams, numbered from `s`, each with its reply, left pieces that follow each other
-abbrev pub Opened : Setup → ℕ → List StreamLine → List LineReply → Between
-Opened u s [] [] old new = IsIdle 0 old new
-Opened u s (stream ∷ streams) (reply ∷ replies) old new =
-    (between : List Entry) × Opens u s stream reply.answer old between × Opened u (suc s) streams replies between new
-Opened u s streams replies old new = ⊥
+-- the line of one stream
+pub record Opens (u : Setup) (s : ℕ) (stream : StreamLine) (refused : Option CcError) (told : Answer) (old new : List Entry)
+    : Type 0 where
+  pub opened : OpeningBehind u s stream refused told old new
+  pub room : (refused ≡ None) → HadNoRoom u 4 told old new
+
+-- the lines of the streams, numbered from `s`, each with its reply, left pieces that follow each other, behind restarts
+-- that were answered so
+abbrev pub Opened : Setup → List RestartLine → List LineReply → ℕ → List StreamLine → List LineReply → Between
+Opened u restarts ended s [] [] old new = IsIdle 0 old new
+Opened u restarts ended s (stream ∷ streams) (reply ∷ replies) old new =
+    (between : List Entry)
+    × Opens u s stream (refused_for stream.log restarts ended) reply.answer old between
+    × Opened u restarts ended (suc s) streams replies between new
+Opened u restarts ended s streams replies old new = ⊥

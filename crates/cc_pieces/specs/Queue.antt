@@ -129,9 +129,10 @@ pub record PlaceRan (me : ℕ) (lines : List (Action × Answer)) (before after :
   pub empties : after.empties ≡ risen_by before.empties (nones (answers_to is_step lines))
   pub fulls : after.fulls ≡ risen_by before.fulls (fulls_told (answers_to is_ask lines))
 
--- the lines of a caller in a run, each with what it was answered
+-- the lines of a caller in a run, each with what it was answered: their replies are behind those of the restarts and the streams
 abbrev pub lines_told : Given → Answered → ℕ → List (Action × Answer)
-lines_told given told me = asked_of (λ line. line.caller == me) given.lines (drop (length given.streams) told.replies)
+lines_told given told me =
+    asked_of (λ line. line.caller == me) given.lines (drop (length given.streams) (drop (length given.restarts) told.replies))
 
 -- what the read-ahead steps of a pass were answered: the worker's steps are those that a run tells, a caller's its lines
 abbrev pub steps_told : Given → Answered → ℕ → List Answer

@@ -13,6 +13,7 @@ use Rattle.cc_pieces.specs.HoldLines.{PinMappedLine, HeldReadLine, PinnedWriteLi
 use Rattle.cc_pieces.specs.HoldLines.{ChainReadLine, ChainStoreLine, ChainDoneLine, ChainAbortLine}
 use Rattle.cc_pieces.specs.Answered.{CallAnswered, FlushAnswered, AppendAnswered, LogFlushAnswered, DeferAnswered, PostsAnswered, TickAnswered, StepAnswered, LevelsAnswered, SettleAnswered, NcReadAnswered, NcWriteAnswered, StartAnswered, CompletionAnswered}
 use Rattle.cc_pieces.specs.Locks.{LockAnswered, UnlockAnswered, LockedReadAnswered, LockedWriteAnswered, LockedUpdateAnswered}
+use Rattle.cc_pieces.specs.Checkpoints.{CheckpointAnswered}
 use Rattle.cc_vacb.specs.Levels.{levels_of}
 
 -- From one moment to another, the caller's line left what explains its answer. The lines of `steps` alone are none of a
@@ -57,6 +58,7 @@ Served u me bindings (action.Lock file span exclusive) told old new = LockAnswer
 Served u me bindings (action.Unlock file id) told old new = UnlockAnswered me file id told old new
 Served u me bindings (action.Levels file) told old new = LevelsAnswered levels_of me file told old new
 Served u me bindings (action.Settle file) told old new = SettleAnswered u me file told old new
+Served u me bindings (action.Checkpoint streams handle) told old new = CheckpointAnswered u me streams handle told old new
 Served u me bindings action.IsDirtyData told old new = CallAnswered u me call.IsDirtyData told old new
 Served u me bindings (action.DirtyPages handle) told old new = CallAnswered u me (call.DirtyPages handle) told old new
 Served u me bindings (action.LsnForFile file) told old new = CallAnswered u me (call.LsnForFile file) told old new

@@ -21,6 +21,7 @@ ghost use Rattle.cc_entry.specs.declared.answer.LineReply.{LineReply};
 ghost use Rattle.cc_entry.specs.declared.entry.Entry.{Entry};
 ghost use Rattle.cc_entry.specs.declared.entry.Entry.TheVariants as entry;
 ghost use Rattle.cc_script.specs.declared.script.Action.{Action};
+ghost use Rattle.cc_script.specs.declared.script.RestartLine.{RestartLine};
 ghost use Rattle.cc_script.specs.declared.script.StreamLine.{StreamLine};
 ghost use Rattle.cc_script.specs.declared.script.Action.TheVariants as action;
 ghost use Rattle.cc_model.specs.Setup.{Setup};
@@ -32,6 +33,7 @@ ghost use Rattle.cc_effects.specs.Noncached.{pages_from};
 ghost use Rattle.cc_pieces.specs.Bindings.{Binding, bound, pinned, hold_named, OnHold};
 ghost use Rattle.cc_pieces.specs.HoldLines.{HeldReadLine, PinnedWriteLine};
 ghost use Rattle.cc_pieces.specs.Openings.{Opened, is_record_of};
+ghost use Rattle.cc_pieces.specs.Restarts.{Restarted};
 ghost use Rattle.cc_pieces.specs.Locks.{TestLeft, tested_range};
 ghost use Rattle.cc_pieces.specs.PlainPages.{ArePlainPages};
 ghost use Rattle.cc_pieces.specs.PlainReads.{IsPlainRead};
@@ -151,10 +153,15 @@ pub fn lines_without_hold_leave_nothing()
         (told ≡ answer.NoHold) × IsIdle me old new }
 {}
 
-/// Behind the lines of streams, numbered from one on, no record of a later stream stands that was not there before: so what
-/// the line of a stored stream read of its record is what its opening page spells, where the disk told its pages.
+/// Behind the lines of restarts no record of a stream stands that was not there before, and behind the lines of streams,
+/// numbered from one on, none of a later stream: so what the line of a stored stream read of its record is what its opening page
+/// spells, where the disk told its pages.
 pub fn no_record_is_written_before_its_line()
-    ensures { (u : Setup) (t s : ℕ) (streams : List StreamLine) (replies : List LineReply) (old new : List Entry) →
-        Opened u s streams replies old new → ((me : ℕ) → me ≢ 0 → IsIdle me old new) → s + length streams ≤ t →
+    ensures restarts { (u : Setup) (t : ℕ) (restarts : List RestartLine) (ended : List LineReply) (old new : List Entry) →
+        Restarted u restarts ended old new → ((me : ℕ) → me ≢ 0 → IsIdle me old new) →
+        list_any (is_record_of t) old ≡ false → list_any (is_record_of t) new ≡ false }
+    ensures streams { (u : Setup) (t : ℕ) (restarts : List RestartLine) (ended : List LineReply) (s : ℕ)
+        (streams : List StreamLine) (replies : List LineReply) (old new : List Entry) →
+        Opened u restarts ended s streams replies old new → ((me : ℕ) → me ≢ 0 → IsIdle me old new) → s + length streams ≤ t →
         list_any (is_record_of t) old ≡ false → list_any (is_record_of t) new ≡ false }
 {}

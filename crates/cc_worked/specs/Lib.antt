@@ -42,3 +42,4 @@ pub mod PiecesQueue
 pub mod PiecesEvents
 pub mod PiecesLocks
 pub mod PiecesRecords
+pub mod PiecesRestarts

@@ -74,7 +74,7 @@ write_both_and_flush =
 
 -- a run of those lines, and what it answered
 abbrev pub flushing_run : Given
-flushing_run = record { streams = stream_with None ∷ []; lines = write_both_and_flush; phases = 1; ticks = 0; aheads = 0 }
+flushing_run = record { restarts = []; streams = stream_with None ∷ []; lines = write_both_and_flush; phases = 1; ticks = 0; aheads = 0 }
 
 abbrev pub flushing_replies : List LineReply
 flushing_replies = unit_at 2 ∷ unit_at 3 ∷ unit_at 4 ∷ []

@@ -43,7 +43,7 @@ one_idle = no_request ∷ []
 
 -- a run without a line, and one of a line that asks for read-ahead
 abbrev pub no_line : Given
-no_line = record { streams = []; lines = []; phases = 1; ticks = 0; aheads = 1 }
+no_line = record { restarts = []; streams = []; lines = []; phases = 1; ticks = 0; aheads = 1 }
 
 abbrev pub one_ask : Given
 one_ask = record no_line { lines = line_of 1 1 1 (action.AskAhead a 0 1) ∷ [] }

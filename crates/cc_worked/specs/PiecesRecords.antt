@@ -75,7 +75,7 @@ abbrev pub stored : StreamLine
 stored = record (stream_with None) { stored = true }
 
 abbrev pub StoredStream : Setup → Answer → Between
-StoredStream u = Opens u 0 stored
+StoredStream u = Opens u 0 stored None
 
 -- its record cannot be read
 abbrev pub record_fails : List Entry

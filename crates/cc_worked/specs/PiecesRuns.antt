@@ -70,11 +70,11 @@ opens_first_twice = done 0 2 initialises ∷ opens
 
 -- the line of a stream with such a log, or none
 abbrev pub OneStream : Option ℕ → Answer → Between
-OneStream log = Opens setup 0 (stream_with log)
+OneStream log = Opens setup 0 (stream_with log) None
 
 -- the lines of two streams without a log
 abbrev pub TwoStreams : List LineReply → Between
-TwoStreams = Opened setup 0 (stream_with None ∷ stream_with None ∷ [])
+TwoStreams = Opened setup [] [] 0 (stream_with None ∷ stream_with None ∷ [])
 
 -- the reply of a line that had no more to say
 abbrev pub unit_at : ℕ → LineReply
@@ -173,7 +173,7 @@ one_step = record { line = 1; answer = answer.Stepped (Some (record { request = 
 
 -- a run of those lines on one stream
 abbrev pub given : Given
-given = record { streams = stream_with None ∷ []; lines = of_one; phases = 2; ticks = 0; aheads = 0 }
+given = record { restarts = []; streams = stream_with None ∷ []; lines = of_one; phases = 2; ticks = 0; aheads = 0 }
 
 -- what it answered, where the workers were not asked
 abbrev pub told_by : List LineReply → Answered

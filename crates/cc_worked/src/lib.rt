@@ -34,6 +34,7 @@ pub mod pieces_locks;
 pub mod pieces_noncached;
 pub mod pieces_reads;
 pub mod pieces_records;
+pub mod pieces_restarts;
 pub mod pieces_runs;
 pub mod pieces_shim;
 pub mod pieces_without_entry;

@@ -106,17 +106,26 @@ alone me not = record { during = opens; grew = refl; others = (by (0 == me) refl
 pub returns-clause-explained : goal.returns-clause-explained
 unfolding IsDistinct
 returns-clause-explained c = record {
+  ended = [];
   setup = unit_at 1 ∷ [];
   answers = flushing_replies;
+  restarted = [];
   begun = opens;
   replies_are = refl;
+  restart_lines = refl;
   setup_lines = refl;
   answer_lines = refl;
-  opened = (opens, record { opened = ends_done 0 1 (Some 0) initialises reply.Unit [] [] (under-way 0 initialises []) refl (λ during. tt); room = tt }, idle-none 0 opens);
+  restarts_ended = idle-none 0 [];
+  opened = (opens, record { opened = ends_done 0 1 (Some 0) initialises reply.Unit [] [] (under-way 0 initialises []) refl (λ during. tt); room = λ none. tt }, idle-none 0 opens);
   alone = alone;
   ran = (lesser_first ++ both_dirty, 0, 0, the-phase, (refl, refl, refl, refl));
   posted_once = tt;
 }
+
+-- no reply is that of a restart
+no-ended : (ended its answers : List LineReply) → answered_lines ended ≡ [] → flushing_told.replies ≡ ended ++ (its ++ answers) → flushing_told.replies ≡ its ++ answers
+no-ended [] its answers none replies = replies
+no-ended (first ∷ ended) its answers none replies = absurd (cc)
 
 -- the first reply is the stream's, the others are those of the lines
 answers_are : (its answers : List LineReply) → flushing_told.replies ≡ its ++ answers → answered_lines its ≡ 1 ∷ [] → answers ≡ flushing_replies
@@ -157,6 +166,7 @@ otherwise begun ran =
 
 pub returns-clause-not_otherwise : goal.returns-clause-not_otherwise
 returns-clause-not_otherwise c left =
-    let answers = answers_are left.setup left.answers left.replies_are left.setup_lines in
+    let replies = no-ended left.ended left.setup left.answers left.restart_lines left.replies_are in
+    let answers = answers_are left.setup left.answers replies left.setup_lines in
     let ran : PhasesRan setup plan 1 1 [] [] [] left.begun (greater_first ++ both_dirty) = rw answers at left.ran in
     otherwise left.begun ran

@@ -40,7 +40,7 @@ returns-clause-unread c = record {
     refl,
     (refl, record { later = []; earlier = []; grew = refl; is_own = refl; quiet_after = tt; quiet_before = tt }),
   );
-  room = tt;
+  room = λ none. tt;
 }
 
 pub returns-clause-recorded : goal.returns-clause-recorded
@@ -54,7 +54,7 @@ returns-clause-recorded c =
         at_first = λ pages is none. absurd (cc is);
         opened = ends_done 0 1 (Some 0) it reply.Unit [] [] (begins 0 it []) refl (λ during. tt);
       });
-      room = tt;
+      room = λ none. tt;
     }
 
 -- each page of such a disk spells the record of the first version
@@ -101,7 +101,7 @@ returns-clause-migrated c = record {
     };
     opened = inr (opens, its_opening, (two_full, its_migration));
   });
-  room = tt;
+  room = λ none. tt;
 }
 
 given_not_refused : (e : CcError) → unit ≡ answer.Refused e → ⊥
