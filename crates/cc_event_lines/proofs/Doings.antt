@@ -59,6 +59,7 @@ on-hold Q me bindings (action.Lock file span exclusive) none_first none_range no
 on-hold Q me bindings (action.Unlock file id) none_first none_range none_file none_written = refl
 on-hold Q me bindings (action.Levels file) none_first none_range none_file none_written = refl
 on-hold Q me bindings (action.Settle file) none_first none_range none_file none_written = refl
+on-hold Q me bindings (action.Checkpoint streams handle) none_first none_range none_file none_written = refl
 on-hold Q me bindings (action.AskAhead file at len) none_first none_range none_file none_written = refl
 on-hold Q me bindings action.AheadStep none_first none_range none_file none_written = refl
 on-hold Q me bindings (action.AsyncRead file at len) none_first none_range none_file none_written = refl

@@ -68,6 +68,7 @@ doing-known disks me bindings (action.Lock file span exclusive) known = tt
 doing-known disks me bindings (action.Unlock file id) known = tt
 doing-known disks me bindings (action.Levels file) known = tt
 doing-known disks me bindings (action.Settle file) known = tt
+doing-known disks me bindings (action.Checkpoint streams handle) known = tt
 doing-known disks me bindings (action.AskAhead file at len) known = tt
 doing-known disks me bindings action.AheadStep known = tt
 doing-known disks me bindings (action.AsyncRead file at len) known = tt

@@ -36,6 +36,7 @@ use Rattle.cc_shim.specs.Ends.{WasFullError}
 use Rattle.cc_lines.specs.Line.{IsFullIn, IsFullLine, WasFullIn, WasFullTold}
 use Rattle.cc_lines.proofs.KeptByShim.{read-keeps, update-keeps, write-keeps}
 use Rattle.cc_lines.proofs.SettleServed.{settled-unchanged}
+use Rattle.cc_lines.proofs.CheckpointServed.{checkpoint-unchanged}
 
 -- the journal has what it had, and more in front
 record Grew (old new : List Entry) : Type 0 where
@@ -123,6 +124,8 @@ module _ (u : Setup) (me entries : ℕ) (old new : List Entry) where
   grew-served bindings (action.Update file at bytes) left = grew-seen (update-keeps u me file at bytes full old new left).0
   grew-served bindings (action.Settle file) left =
       let kept = settled-unchanged u me 0 file full old new left in record { during = kept.during; grew = kept.grew }
+  grew-served bindings (action.Checkpoint streams handle) left =
+      let kept = checkpoint-unchanged u me 0 streams handle full old new left in record { during = kept.during; grew = kept.grew }
   grew-served bindings (action.Lock file span exclusive) left = record { during = left.during; grew = left.grew }
   grew-served bindings (action.Unlock file id) left = record { during = left.during; grew = left.grew }
   grew-served bindings action.IsDirtyData left = grew-call call.IsDirtyData left
@@ -202,6 +205,7 @@ module _ (u : Setup) (me done : ℕ) (cause : CcError) (old new : List Entry) wh
   grew-cut_off bindings (action.Unlock file id) left = absurd left
   grew-cut_off bindings (action.Levels file) left = absurd left
   grew-cut_off bindings (action.Settle file) left = absurd left
+  grew-cut_off bindings (action.Checkpoint streams handle) left = absurd left
   grew-cut_off bindings action.IsDirtyData left = absurd left
   grew-cut_off bindings (action.DirtyPages handle) left = absurd left
   grew-cut_off bindings (action.LsnForFile file) left = absurd left

@@ -10,6 +10,8 @@ pub mod KeptByShim
 pub mod ShimCalls
 pub mod ShimServed
 pub mod SettleServed
+pub mod CheckpointServed
+pub mod RestartEnds
 pub mod StoredOpenings
 pub mod FullLines
 pub mod UseLines

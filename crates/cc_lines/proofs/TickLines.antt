@@ -1,5 +1,5 @@
 -- A tick: where it is told of a full journal it found it so, what it leaves explains its line, and the words stand on.
-use Rattle.std.specs.Prelude.{◌≡◌, ℕ, Ok, Err, List, refl}
+use Rattle.std.specs.Prelude.{ℕ, Ok, Err, List, refl}
 use Rattle.std.proofs.Common.{inl, inr, arith}
 use Rattle.cc_entry.specs.declared.answer.Answer.{Answer}
 use Rattle.cc_entry.specs.declared.answer.Answer.TheVariants as answer

@@ -1,5 +1,5 @@
 -- What a line of a script asks, and what it leaves.
-use Rattle.std.specs.Prelude.{◌≡◌, ℕ, Bool, ◌<◌, ◌⊎◌, List, [], ◌∷◌, length, Result, Ok, Err}
+use Rattle.std.specs.Prelude.{◌≡◌, ℕ, Bool, ◌<◌, ◌≤◌, ◌⊎◌, List, [], ◌∷◌, length, Result, Ok, Err}
 use Rattle.std.specs.declared.option.Option.{Option}
 use Rattle.std.specs.declared.option.Option.TheVariants.{Some}
 use Rattle.cc_entry.specs.Place.{File, Page}
@@ -76,6 +76,7 @@ IsServable streams (action.Lock file span exclusive) = file.stream < streams
 IsServable streams (action.Unlock file id) = file.stream < streams
 IsServable streams (action.Levels file) = file.stream < streams
 IsServable streams (action.Settle file) = file.stream < streams
+IsServable streams (action.Checkpoint count handle) = (count ≤ streams) × (count ≤ 16)
 IsServable streams action.IsDirtyData = Unit {0}
 IsServable streams (action.DirtyPages handle) = Unit {0}
 IsServable streams (action.LsnForFile file) = file.stream < streams
@@ -168,6 +169,7 @@ abbrev pub IsList : Action → Type 0
 IsList (action.Read file path at len) = Unit {0}
 IsList (action.Write file at bytes) = Unit {0}
 IsList (action.Update file at bytes) = Unit {0}
+IsList (action.Checkpoint count handle) = Unit {0}
 IsList other = ⊥
 
 -- Where a line tells that the journal is full, it was so at the line's end; or at a moment of it, if it is a list of calls.

@@ -13,6 +13,7 @@ ghost use Rattle.std.specs.Prelude.{◌≡◌, false};
 
 use crate::ahead_lines::{ask_ahead, serve_step};
 use crate::async_lines::{complete_read, start_read};
+use crate::checkpoint_line::make_checkpoint;
 use crate::held_lines::{
     chain, chain_abort, chain_done, chain_read, chain_store, held_read, held_write, hold_again,
     map, pin, pin_map, prepare, release, release_repinned, stamp, write_chain,
@@ -183,6 +184,9 @@ where
         Action::Unlock { file, id } => unlock(turns, *file, *id),
         Action::Levels { file } => levels(turns, *file),
         Action::Settle { file } => settle_stream(alloc, turns, *file),
+        Action::Checkpoint { streams, handle } => {
+            make_checkpoint(alloc, turns, *streams, *handle)
+        }
         Action::IsDirtyData => flag(is_dirty_data(turns)),
         Action::DirtyPages { handle } => rows(dirty_pages(alloc, turns, *handle)),
         Action::LsnForFile { file } => lsns(lsn_for_file(alloc, turns, *file)),

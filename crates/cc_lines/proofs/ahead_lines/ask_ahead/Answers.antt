@@ -1,10 +1,5 @@
 -- What is answered is what the call answered, and what that left explains it.
-use Rattle.std.proofs.Common.{arith, subst, sym}
-use Rattle.cc_entry.specs.declared.call.Call.TheVariants as call
-use Rattle.cc_pieces.specs.Answered.{CallAnswered}
-use Rattle.cc_pieces.specs.Queue.{AskPlaced}
-use Rattle.cc_lines.specs.Line.{IsFullTold}
-use Rattle.cc_lines.specs.Queues.{hand_of}
+use Rattle.std.proofs.Common.{arith}
 use Rattle.cc_lines.proofs.AheadLines.{ask-answered, ask-full, ask-placed, ask-queue}
 use Rattle.cc_lines.proofs.WordLines.{went-on}
 use Rattle.cc_lines.proofs.ahead_lines.ask_ahead.Goals as goal

@@ -7,6 +7,7 @@ use Rattle.cc_lines.proofs.ThrottleLines.{defer-line, post-line}
 use Rattle.cc_lines.proofs.TickLines.{tick-line}
 use Rattle.cc_lines.proofs.ShimServed.{levels-line, read-line, update-line, write-line, lock-line, unlock-line}
 use Rattle.cc_lines.proofs.SettleServed.{settle-line}
+use Rattle.cc_lines.proofs.CheckpointServed.{checkpoint-line}
 use Rattle.cc_lines.proofs.line.serve.Goals as goal
 
 pub initialize-requires : goal.initialize-requires
@@ -306,6 +307,16 @@ returns-in-Levels g c =
 
 pub settle_stream-requires : goal.settle_stream-requires
 settle_stream-requires g c = may-on (g.T.Turns.standing c.args.turns.now) _ c.args.names.now c.in-Settle.file.stream c.requires.can (can-as (g.T.Turns.standing c.args.turns.now) _ _ c.args.names.now c.in-Settle.is c.requires.can).servable
+
+pub make_checkpoint-requires : goal.make_checkpoint-requires
+make_checkpoint-requires g c =
+    let servable = can-as (g.T.Turns.standing c.args.turns.now) _ _ c.args.names.now c.in-Checkpoint.is c.requires.can in
+    record { can = may-free (g.T.Turns.standing c.args.turns.now) _ c.args.names.now c.requires.can; known = servable.servable.0; few = servable.servable.1 }
+
+pub returns-in-Checkpoint : goal.returns-in-Checkpoint
+returns-in-Checkpoint g c =
+    asked-as _ _ _ _ _ _ _ c.in-Checkpoint.is
+    (checkpoint-line _ _ _ c.args.names.now c.make_checkpoint.ensures.full c.make_checkpoint.ensures.goes_on (c.make_checkpoint.ensures.good c.requires.can.good) c.in-Checkpoint.streams c.in-Checkpoint.handle c.make_checkpoint.ensures.answered)
 
 pub returns-in-Settle : goal.returns-in-Settle
 returns-in-Settle g c =
