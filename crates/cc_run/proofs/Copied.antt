@@ -25,12 +25,15 @@ use Rattle.cc_pieces.specs.Queue.{lines_told}
 use Rattle.cc_pieces.specs.Runs.{asked_of}
 use Rattle.cc_pieces.proofs.AsyncPlaces.{has-queued, untouched}
 use Rattle.cc_queue.specs.Places.{PlaceState}
-use Rattle.cc_run.specs.Lines.{StreamsOpened, asked_by, given_of, run_answered}
+use Rattle.cc_restarts.specs.declared.ended.LogRestart.{LogRestart}
+use Rattle.cc_run.specs.Lines.{asked_by, given_of, run_answered}
 use Rattle.cc_run.specs.Once.{AllTellPart, AreToldOnce, TellsPart}
 use Rattle.cc_run.specs.Phases.{PhasesServed}
 use Rattle.cc_run.specs.Places.{AreAsyncQueued, PlacesRan}
 use Rattle.cc_run.proofs.Lists.{there}
 use Rattle.cc_run.proofs.Queued.{few-asked}
+use Rattle.cc_run.specs.Begun.{HasBegun}
+use Rattle.cc_run.proofs.Begins.{kept-behind}
 use Rattle.cc_run.proofs.ToldOnce.{told-parts}
 
 -- ---- what the lines of the queue are told is told still
@@ -114,21 +117,22 @@ fresh-at queues (row ∷ rows) zero own fresh at =
 fresh-at queues (row ∷ rows) (suc n) own fresh at = fresh-at queues rows n own fresh.1 at
 
 -- from where a run began
-pub run-copied : (u v : Setup) (script : Script) (before between replies kept ticked stepped : List LineReply) (took : List Request) (start begun past : List Entry) (was now : List NamesState) (places : List (PlaceState QueuedRead)) (queues : Queues) → IsWithin script → before ≡ [] → places ≡ map (λ (own : NamesState). own.places.copies) now → StreamsOpened u 0 script.streams before between start begun → PhasesServed v script.ticks script.aheads script.phases script.lines between replies ticked stepped took begun past → AreToldOnce script.streams script.lines replies kept → PlacesRan script.lines between replies was now begun past → length was ≡ 16 → length now ≡ 16 → AllByRecursion (λ (own : NamesState). own.places ≡ new_places queues) was → AreAsyncQueued (given_of script) (run_answered kept ticked stepped) places
-run-copied u v script before between replies kept ticked stepped took start begun past was now places queues within none are opened served told_once placed sixteen_was sixteen fresh = record {
+pub run-copied : (u v : Setup) (script : Script) (restarted : List LogRestart) (ended between replies kept all ticked stepped : List LineReply) (took : List Request) (ends begun past : List Entry) (was now : List NamesState) (places : List (PlaceState QueuedRead)) (queues : Queues) → IsWithin script → all ≡ ended ++ kept → places ≡ map (λ (own : NamesState). own.places.copies) now → HasBegun u script restarted ended between ends begun → PhasesServed v script.ticks script.aheads script.phases script.lines between replies ticked stepped took begun past → AreToldOnce script.streams script.lines replies kept → PlacesRan script.lines between replies was now begun past → length was ≡ 16 → length now ≡ 16 → AllByRecursion (λ (own : NamesState). own.places ≡ new_places queues) was → AreAsyncQueued (given_of script) (run_answered all ticked stepped) places
+run-copied u v script restarted ended between replies kept all ticked stepped took ends begun past was now places queues within all_is are begins served told_once placed sixteen_was sixteen fresh = record {
   counted = ap length are ∙ (length-map now (λ (own : NamesState). own.places.copies) ∙ sixteen);
   each = λ n place at. caller n place (subst (λ l. slice_get l n ≡ Some place) are at);
 }
   where
-    setup_long : length opened.answers ≡ length script.streams
-    setup_long = sym (length-map opened.answers (λ r. r.line)) ∙ (ap length opened.lines_are ∙ length-map script.streams (λ s. s.line))
+    all_kept : drop (length script.restarts) all ≡ kept
+    all_kept = kept-behind u script restarted ended between kept all ends begun begins all_is
 
-    part : AllTellPart script.lines served.answers (drop (length script.streams) kept)
+    part : AllTellPart script.lines served.answers (drop (length script.streams) (drop (length script.restarts) all))
     part =
-        subst (λ l. AllTellPart script.lines l (drop (length script.streams) kept))
-        (told-parts script.streams opened.answers served.answers between replies (rw none at opened.grew) served.grew setup_long) told_once.part
+        subst (λ l. AllTellPart script.lines served.answers (drop (length script.streams) l)) (sym all_kept)
+        (subst (λ l. AllTellPart script.lines l (drop (length script.streams) kept))
+        (told-parts script.streams begins.opened.answers served.answers between replies begins.opened.grew served.grew (sym (length-map begins.opened.answers (λ r. r.line)) ∙ (ap length begins.opened.lines_are ∙ length-map script.streams (λ s. s.line)))) told_once.part)
 
-    caller : (n : ℕ) (place : PlaceState QueuedRead) → slice_get (map (λ (own : NamesState). own.places.copies) now) n ≡ Some place → HasQueued (given_of script) (run_answered kept ticked stepped) (suc n) (copies_of place)
+    caller : (n : ℕ) (place : PlaceState QueuedRead) → slice_get (map (λ (own : NamesState). own.places.copies) now) n ≡ Some place → HasQueued (given_of script) (run_answered all ticked stepped) (suc n) (copies_of place)
     caller n place at =
         let low : n < 16 = omega (arith, slice_get_within (map (λ (own : NamesState). own.places.copies) now) n place at, length-map now (λ (own : NamesState). own.places.copies), sixteen) in
         let a = there was n (omega (arith, low, sixteen_was)) in
@@ -137,9 +141,9 @@ run-copied u v script before between replies kept ticked stepped took start begu
         let went = (placed.each served.answers n a.0 b.0 served.grew a.1 b.1).copies.ran in
         let ran : AsyncRan (suc n) (asked_by (suc n) script.lines served.answers) untouched (copies_of b.0.places.copies) =
         subst (λ p. AsyncRan (suc n) (asked_by (suc n) script.lines served.answers) p (copies_of b.0.places.copies)) (fresh-at queues was n a.0 fresh a.1) went in
-        let told = same-ran (suc n) (asked_of own script.lines (drop (length script.streams) kept)) (asked_by (suc n) script.lines served.answers) untouched (copies_of b.0.places.copies)
-        (part-same own script.lines served.answers (drop (length script.streams) kept) part) ran in
-        let few : length (lines_told (given_of script) (run_answered kept ticked stepped) (suc n)) ≤ length script.lines =
-        few-asked own script.lines (drop (length script.streams) kept) in
-        subst (λ p. HasQueued (given_of script) (run_answered kept ticked stepped) (suc n) (copies_of p)) (copied-at now n b.0 place b.1 at)
-        (has-queued (given_of script) (run_answered kept ticked stepped) (suc n) (copies_of b.0.places.copies) told (omega (arith, few, within.few_lines)))
+        let told = same-ran (suc n) (asked_of own script.lines (drop (length script.streams) (drop (length script.restarts) all))) (asked_by (suc n) script.lines served.answers) untouched (copies_of b.0.places.copies)
+        (part-same own script.lines served.answers (drop (length script.streams) (drop (length script.restarts) all)) part) ran in
+        let few : length (lines_told (given_of script) (run_answered all ticked stepped) (suc n)) ≤ length script.lines =
+        few-asked own script.lines (drop (length script.streams) (drop (length script.restarts) all)) in
+        subst (λ p. HasQueued (given_of script) (run_answered all ticked stepped) (suc n) (copies_of p)) (copied-at now n b.0 place b.1 at)
+        (has-queued (given_of script) (run_answered all ticked stepped) (suc n) (copies_of b.0.places.copies) told (omega (arith, few, within.few_lines)))

@@ -1,5 +1,5 @@
 -- A run in which no count of faults rose shows no failure and tells none.
-use Rattle.std.specs.Prelude.{◌≡◌, ℕ, zero, suc, ◌+◌, ◌<◌, ◌≤◌, Bool, true, false, ◌==◌, ◌&&◌, nat_le, List, [], ◌∷◌, ◌++◌, length, reverse, slice_get, IfOk, Result, Ok, Err, refl, if◌then◌else◌}
+use Rattle.std.specs.Prelude.{◌≡◌, ℕ, zero, suc, ◌+◌, ◌<◌, ◌≤◌, Bool, true, false, ◌==◌, ◌&&◌, nat_le, List, [], ◌∷◌, ◌++◌, length, reverse, slice_get, take, IfOk, Result, Ok, Err, refl, if◌then◌else◌}
 use Rattle.std.specs.declared.option.Option.TheVariants.{Some}
 use Rattle.std.specs.List.{AllByRecursion, list_any}
 use Rattle.std.proofs.Common.{ap, arith, eq-eqb}
@@ -38,9 +38,17 @@ use Rattle.cc_run.specs.Disks.{Pairwise}
 use Rattle.cc_run.specs.Ends.{has_devices}
 use Rattle.cc_run.specs.Lines.{given_of, run_answered}
 use Rattle.cc_run.specs.Places.{taken_at}
-use Rattle.cc_run.specs.Runs.{AreQueuedBy, HasRun, IsExplainedBy, ticks_asked}
+use Rattle.cc_run.specs.Restarting.{RestartsTold}
+use Rattle.cc_run.specs.Runs.{AreQueuedBy, HasRun, HasRunBehind, IsExplainedBy, ticks_asked}
 use Rattle.cc_run.specs.Setups.{run_disks, run_logs, setup_of}
+use Rattle.cc_run.specs.declared.modes.RestartedRun.{RestartedRun}
 use Rattle.cc_run.specs.declared.modes.RunResult.{RunResult}
+use Rattle.cc_restarts.specs.Restarting.{LogsRestarted}
+use Rattle.cc_restarts.specs.declared.ended.LogRestart.{LogRestart}
+use Rattle.cc_restarts.proofs.Kept.{all-lines}
+use Rattle.cc_run.proofs.Behind.{restarts-calm, run-logs_stayed, run-stayed}
+use Rattle.cc_run.proofs.Ending.{told-none}
+use Rattle.cc_run.proofs.RestartsMade.{begun-enough}
 
 -- a count of none is one of none before
 counted-tail : (b : Bool) (count : ℕ) → (if b then suc count else count) ≡ 0 → count ≡ 0
@@ -121,6 +129,7 @@ action-below streams n (action.MdlDone _) few within = tt
 action-below streams n (action.MdlAbort _) few within = tt
 action-below streams n action.IsDirtyData few within = tt
 action-below streams n (action.DirtyPages _) few within = tt
+action-below streams n (action.Checkpoint count _) few within = λ s low. omega (arith, low, within, few)
 action-below streams n (action.Append _ _) few within = tt
 action-below streams n (action.LogFlush _ _) few within = tt
 action-below streams n action.Scan few within = tt
@@ -142,7 +151,7 @@ sound-of : (u : Setup) (past : List Entry) → IsGood u past → IsSound u past
 unfolding IsAllowed
 sound-of u past good = (good.legal, good.allowed.0)
 
-module _ {D L Q : Type 0} (tells : Tells D L Q) (m : Mode) (script : Script) (disks : List D) (logs : List L) (posts : List Q) (ran : RunResult D L Q) (within : IsWithin script) (enough : has_devices (length disks) (length logs) (length posts) script ≡ true) (has : HasRun tells m script disks logs posts ran) where
+module _ {D L Q : Type 0} (tells : Tells D L Q) (m : Mode) (script : Script) (disks : List D) (logs : List L) (posts : List Q) (ran : RunResult D L Q) (within : IsWithin script) (enough : has_devices (length disks) (length logs) (length posts) script ≡ true) (has : HasRun tells m script disks logs posts ran) (calm : ShowsNone (reverse ran.journal.items) → TellNone (take (length script.restarts) ran.replies.items)) where
   abbrev u : Setup
   u = setup_of tells.disk tells.disk_faults script disks logs
 
@@ -179,7 +188,7 @@ module _ {D L Q : Type 0} (tells : Tells D L Q) (m : Mode) (script : Script) (di
     where
       by : (m : Mode) → IsExplainedBy m u script (run_answered ran.replies.items ran.ticks.items ran.aheads.items) (taken_at ran.places.items) past → length ran.ticks.items ≡ ticks_asked m (Some script) → AreQueuedBy m script (run_answered ran.replies.items ran.ticks.items ran.aheads.items) ran.places.items past → TellNone (ran.replies.items ++ ran.ticks.items ++ ran.aheads.items)
       by mode.Run is count queued =
-          explained-none u n handles (given_of script) (run_answered ran.replies.items ran.ticks.items ran.aheads.items) (taken_at ran.places.items) past few below within.lines is none
+          explained-none u n handles (given_of script) (run_answered ran.replies.items ran.ticks.items ran.aheads.items) (taken_at ran.places.items) past few below within.lines is none (calm none)
       by mode.Steps is count queued =
           tell-append (ran.replies.items ++ ran.ticks.items) ran.aheads.items
           (tell-append ran.replies.items ran.ticks.items (stepped-none u n script.streams script.lines ran.replies.items past few below sound is none) (none-of ran.ticks.items count))
@@ -204,10 +213,35 @@ module _ {D L Q : Type 0} (tells : Tells D L Q) (m : Mode) (script : Script) (di
           (counted-none tells.log_faults (λ handle. log_failures handle past) (run_logs logs) (run_logs ran.logs.items) as-many-logs
           (λ handle before after was is. at-least _ _ _ (has.logs_left.counted handle before after was is)) logs_stayed)
 
--- where a run was made
-pub ok-without-fault : {D L Q E : Type 0} (tells : Tells D L Q) (m : Mode) (script : Script) (disks : List D) (logs : List L) (posts : List Q) (result : Result (RunResult D L Q) E) → IsWithin script → has_devices (length disks) (length logs) (length posts) script ≡ true → IfOk result (HasRun tells m script disks logs posts) → IfOk result (λ ran. RanWithoutFault tells.disk_faults tells.log_faults disks ran.disks.items logs ran.logs.items (ran.replies.items ++ ran.ticks.items ++ ran.aheads.items) (reverse ran.journal.items))
-ok-without-fault tells m script disks logs posts (Ok ran) within enough has = ran-without-fault tells m script disks logs posts ran within enough has
-ok-without-fault tells m script disks logs posts (Err back) within enough has = tt
+-- a run behind its restarts, by what these left
+pub ran-behind : {D L Q : Type 0} (tells : Tells D L Q) (m : Mode) (script : Script) (ended : List LogRestart) (disks begun : List D) (logs logs_begun : List L) (posts : List Q) (done : RestartedRun D L Q) → done.disks_begun.value.items ≡ begun → done.logs_begun.value.items ≡ logs_begun → LogsRestarted tells.disk tells.disk_faults tells.log tells.log_faults script.streams script.restarts ended disks begun logs logs_begun → HasRun tells m script begun logs_begun posts done.ran → RestartsTold (setup_of tells.disk tells.disk_faults script begun logs_begun) ended done.ran.replies.items (reverse done.ran.journal.items) → HasRunBehind tells m script disks logs posts done
+ran-behind tells m script ended disks begun logs logs_begun posts done is logs_is made ran told = record {
+  behind = record {
+    ended = ended;
+    made = rw (is, logs_is) made;
+    ends_told = rw (is, logs_is) told;
+  };
+  ran = rw (is, logs_is) ran;
+}
+
+-- where a run was made behind restarts
+pub behind-without-fault : {D L Q : Type 0} (tells : Tells D L Q) (m : Mode) (script : Script) (disks : List D) (logs : List L) (posts : List Q) (done : RestartedRun D L Q) → IsWithin script → has_devices (length disks) (length logs) (length posts) script ≡ true → HasRunBehind tells m script disks logs posts done → RanWithoutFault tells.disk_faults tells.log_faults disks done.ran.disks.items logs done.ran.logs.items (done.ran.replies.items ++ done.ran.ticks.items ++ done.ran.aheads.items) (reverse done.ran.journal.items)
+behind-without-fault tells m script disks logs posts done within enough has stayed logs_stayed =
+    ran-without-fault tells m script done.disks_begun.value.items done.logs_begun.value.items posts done.ran within begun_enough has.ran calm
+    (run-stayed tells.disk tells.disk_faults tells.log tells.log_faults script.streams script.restarts has.behind.ended disks done.disks_begun.value.items done.ran.disks.items logs done.logs_begun.value.items done.ran.logs.items within.few_streams within.restarts has.behind.made has.ran.disks_left.risen has.ran.logs_left.risen has.ran.disks_left.are.count has.ran.logs_left.are.count stayed logs_stayed)
+    (run-logs_stayed tells.disk tells.disk_faults tells.log tells.log_faults script.streams script.restarts has.behind.ended disks done.disks_begun.value.items done.ran.disks.items logs done.logs_begun.value.items done.ran.logs.items within.few_streams within.restarts has.behind.made has.ran.disks_left.risen has.ran.logs_left.risen has.ran.disks_left.are.count has.ran.logs_left.are.count stayed logs_stayed)
+  where
+    begun_enough : has_devices (length done.disks_begun.value.items) (length done.logs_begun.value.items) (length posts) script ≡ true
+    begun_enough =
+        begun-enough tells.disk tells.disk_faults tells.log tells.log_faults script has.behind.ended disks done.disks_begun.value.items logs done.logs_begun.value.items has.behind.made (length posts) enough
+
+    calm : ShowsNone (reverse done.ran.journal.items) → TellNone (take (length script.restarts) done.ran.replies.items)
+    calm none =
+        told-none _ script.restarts has.behind.ended done.ran.replies.items (reverse done.ran.journal.items)
+        (all-lines tells.disk tells.disk_faults tells.log tells.log_faults script.streams script.restarts has.behind.ended disks done.disks_begun.value.items logs done.logs_begun.value.items has.behind.made)
+        has.behind.ends_told
+        (restarts-calm tells.disk tells.disk_faults tells.log tells.log_faults script.streams script.restarts has.behind.ended disks done.disks_begun.value.items done.ran.disks.items logs done.logs_begun.value.items done.ran.logs.items within.few_streams within.restarts has.behind.made has.ran.disks_left.risen has.ran.logs_left.risen has.ran.disks_left.are.count has.ran.logs_left.are.count stayed logs_stayed)
+        none
 
 -- nothing happened where no run was made
 pub faultless-none : {D L : Type 0} (disk_faults : D → ℕ) (log_faults : L → ℕ) (disks disks_after : List D) (logs logs_after : List L) (replies ticked stepped : List LineReply) (journal : List Entry) → replies ≡ [] → ticked ≡ [] → stepped ≡ [] → journal ≡ [] → RanWithoutFault disk_faults log_faults disks disks_after logs logs_after (replies ++ ticked ++ stepped) (reverse journal)

@@ -4,6 +4,9 @@ mod Ascending
 mod LinesRan
 mod WordSteps
 mod Lists
+mod Refused
+mod Ending
+mod Begins
 mod Opening
 mod Others
 mod PhaseSteps
@@ -21,6 +24,8 @@ mod LogSteps
 mod PostSteps
 mod WorldEnds
 mod Told
+mod Behind
+mod RestartsMade
 mod Faultless
 pub mod Merging
 pub mod CallersRan
@@ -34,3 +39,4 @@ pub mod Queued
 pub mod Copied
 pub mod Untold
 pub mod StoredLines
+pub mod Refusing

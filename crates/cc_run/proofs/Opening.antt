@@ -17,6 +17,7 @@ use Rattle.cc_entry.specs.declared.error.CcError.TheVariants as error
 use Rattle.cc_entry.specs.declared.place.FileState.{FileState}
 use Rattle.cc_entry.specs.declared.reply.Outcome.TheVariants as outcome
 use Rattle.cc_entry.specs.declared.reply.Reply.TheVariants as reply
+use Rattle.cc_script.specs.declared.script.RestartLine.{RestartLine}
 use Rattle.cc_script.specs.declared.script.StreamLine.{StreamLine}
 use Rattle.cc_format.specs.declared.record.StreamRecord.{StreamRecord}
 use Rattle.cc_format.specs.declared.record.StreamRecord.TheVariants.{V1, V2}
@@ -26,7 +27,8 @@ use Rattle.cc_effects.specs.Moments.{IsIdle}
 use Rattle.cc_effects.proofs.Stretches.{idle-none}
 use Rattle.cc_records.specs.Left.{LoadLeft, SettleLeft}
 use Rattle.cc_pieces.specs.Answered.{CallAnswered}
-use Rattle.cc_pieces.specs.Openings.{LoggedOpening, MigrationLeft, Opened, Opens, RecordedOpening, StreamOpening, first_object_of, opening_call, recorded_call}
+use Rattle.cc_pieces.specs.Openings.{LoggedOpening, MigrationLeft, Opened, OpeningBehind, Opens, RecordedOpening, StreamOpening, first_object_of, opening_call, recorded_call}
+use Rattle.cc_pieces.specs.Restarts.{refused_for}
 use Rattle.cc_pieces.proofs.Grown.{grew-call, grew-only, grew-then}
 use Rattle.cc_pieces.specs.Rooms.{HadNoRoom}
 use Rattle.cc_turns.specs.Standing.{Standing}
@@ -35,31 +37,32 @@ use Rattle.cc_lines.proofs.SettleServed.{settle-unchanged}
 use Rattle.cc_run.specs.Lines.{StreamsLeft, StreamsOpened}
 use Rattle.cc_run.proofs.Acting.{room-left}
 
--- one stream more
-left-more : (u : Setup) (s n : ℕ) (streams : List StreamLine) (replies : List LineReply) (stream : StreamLine) (reply : LineReply) (old between new : List Entry) → n ≡ s + length streams → StreamsLeft u s streams replies old between → Opens u n stream reply.answer between new → StreamsLeft u s (streams ++ stream ∷ []) (replies ++ reply ∷ []) old new
-left-more u s n [] [] stream reply old between new is left one =
-    let same : between ≡ old = left in
-    let number : n ≡ s = omega (arith, is) in
-    (new, rw (same, number) at one, refl)
-left-more u s n [] (r ∷ replies) stream reply old between new is left one = absurd left
-left-more u s n (l ∷ streams) [] stream reply old between new is left one = absurd left
-left-more u s n (l ∷ streams) (r ∷ replies) stream reply old between new is left one =
-    (left.0, left.1, left-more u (suc s) n streams replies stream reply left.0 between new (omega (arith, is)) left.2 one)
+module _ (u : Setup) (restarts : List RestartLine) (ended : List LineReply) where
+  -- one stream more
+  left-more : (s n : ℕ) (streams : List StreamLine) (replies : List LineReply) (stream : StreamLine) (reply : LineReply) (old between new : List Entry) → n ≡ s + length streams → StreamsLeft u restarts ended s streams replies old between → Opens u n stream (refused_for stream.log restarts ended) reply.answer between new → StreamsLeft u restarts ended s (streams ++ stream ∷ []) (replies ++ reply ∷ []) old new
+  left-more s n [] [] stream reply old between new is left one =
+      let same : between ≡ old = left in
+      let number : n ≡ s = omega (arith, is) in
+      (new, rw (same, number) at one, refl)
+  left-more s n [] (r ∷ replies) stream reply old between new is left one = absurd left
+  left-more s n (l ∷ streams) [] stream reply old between new is left one = absurd left
+  left-more s n (l ∷ streams) (r ∷ replies) stream reply old between new is left one =
+      (left.0, left.1, left-more (suc s) n streams replies stream reply left.0 between new (omega (arith, is)) left.2 one)
 
--- what the lines of the streams left is what explains them
-pub opened-left : (u : Setup) (s : ℕ) (streams : List StreamLine) (replies : List LineReply) (old new : List Entry) → StreamsLeft u s streams replies old new → Opened u s streams replies old new
-opened-left u s [] [] old new left = let same : new ≡ old = left in rw same (idle-none 0 old)
-opened-left u s [] (r ∷ replies) old new left = absurd left
-opened-left u s (l ∷ streams) [] old new left = absurd left
-opened-left u s (l ∷ streams) (r ∷ replies) old new left = (left.0, left.1, opened-left u (suc s) streams replies left.0 new left.2)
+  -- what the lines of the streams left is what explains them
+  pub opened-left : (s : ℕ) (streams : List StreamLine) (replies : List LineReply) (old new : List Entry) → StreamsLeft u restarts ended s streams replies old new → Opened u restarts ended s streams replies old new
+  opened-left s [] [] old new left = let same : new ≡ old = left in rw same (idle-none 0 old)
+  opened-left s [] (r ∷ replies) old new left = absurd left
+  opened-left s (l ∷ streams) [] old new left = absurd left
+  opened-left s (l ∷ streams) (r ∷ replies) old new left = (left.0, left.1, opened-left (suc s) streams replies left.0 new left.2)
 
-pub stream-more : (u : Setup) (s n : ℕ) (streams : List StreamLine) (stream : StreamLine) (told : Answer) (before after : List LineReply) (old between new : List Entry) → n ≡ s + length streams → StreamsOpened u s streams before after old between → Opens u n stream told between new → StreamsOpened u s (streams ++ stream ∷ []) before (after ++ record { line = stream.line; answer = told } ∷ []) old new
-stream-more u s n streams stream told before after old between new is opened one = record {
-  answers = opened.answers ++ record { line = stream.line; answer = told } ∷ [];
-  grew = ap (λ l. l ++ record { line = stream.line; answer = told } ∷ []) opened.grew ∙ append_assoc before opened.answers (record { line = stream.line; answer = told } ∷ []);
-  lines_are = map-append (λ r. r.line) opened.answers _ ∙ (ap (λ l. l ++ stream.line ∷ []) opened.lines_are ∙ sym (map-append (λ l. l.line) streams (stream ∷ [])));
-  left = left-more u s n streams opened.answers stream (record { line = stream.line; answer = told }) old between new is opened.left one;
-}
+  pub stream-more : (s n : ℕ) (streams : List StreamLine) (stream : StreamLine) (told : Answer) (before after : List LineReply) (old between new : List Entry) → n ≡ s + length streams → StreamsOpened u restarts ended s streams before after old between → Opens u n stream (refused_for stream.log restarts ended) told between new → StreamsOpened u restarts ended s (streams ++ stream ∷ []) before (after ++ record { line = stream.line; answer = told } ∷ []) old new
+  stream-more s n streams stream told before after old between new is opened one = record {
+    answers = opened.answers ++ record { line = stream.line; answer = told } ∷ [];
+    grew = ap (λ l. l ++ record { line = stream.line; answer = told } ∷ []) opened.grew ∙ append_assoc before opened.answers (record { line = stream.line; answer = told } ∷ []);
+    lines_are = map-append (λ r. r.line) opened.answers _ ∙ (ap (λ l. l ++ stream.line ∷ []) opened.lines_are ∙ sym (map-append (λ l. l.line) streams (stream ∷ [])));
+    left = left-more s n streams opened.answers stream (record { line = stream.line; answer = told }) old between new is opened.left one;
+  }
 
 -- ---- the journal grows by the line of a stream
 
@@ -105,9 +108,13 @@ seen-opening u s stream true told old new (inl unread) = seen-load {A = Option S
 seen-opening u s stream true told old new (inr is) =
     grew-then old is.loaded new (seen-load {A = Option StreamRecord} s (Ok is.read) old is.loaded is.load) (seen-recorded u s stream is.read told is.loaded new is.opened)
 
+pub seen-behind : (u : Setup) (s : ℕ) (stream : StreamLine) (refused : Option CcError) (told : Answer) (old new : List Entry) → OpeningBehind u s stream refused told old new → HasSeen old new
+seen-behind u s stream (Some e) told old new opened = seen-idle old new opened.1
+seen-behind u s stream None told old new opened = seen-opening u s stream stream.stored told old new opened
+
 -- the line of a stream left what explains its answer
-pub opens-one : (w0 w1 : Standing) (s : ℕ) (stream : StreamLine) (told : Answer) → WentOn w0 w1 → w1.in_flight ≡ 0 → w1.others ≡ 0 → StreamOpening w0.setup s stream stream.stored told w0.seen w1.seen → IsFullTold w1 told → Opens w0.setup s stream told w0.seen w1.seen
-opens-one w0 w1 s stream told went rest alone left full = record {
+pub opens-one : (w0 w1 : Standing) (s : ℕ) (stream : StreamLine) (refused : Option CcError) (told : Answer) → WentOn w0 w1 → w1.in_flight ≡ 0 → w1.others ≡ 0 → OpeningBehind w0.setup s stream refused told w0.seen w1.seen → ((refused ≡ None) → IsFullTold w1 told) → Opens w0.setup s stream refused told w0.seen w1.seen
+opens-one w0 w1 s stream refused told went rest alone left full = record {
   opened = left;
-  room = subst (λ u. HadNoRoom u 4 told w0.seen w1.seen) (ap (λ w. w.setup) went.same) (room-left w1 told w0.seen (seen-opening w0.setup s stream stream.stored told w0.seen w1.seen left) rest alone full);
+  room = λ none. subst (λ u. HadNoRoom u 4 told w0.seen w1.seen) (ap (λ w. w.setup) went.same) (room-left w1 told w0.seen (seen-behind w0.setup s stream refused told w0.seen w1.seen left) rest alone (full none));
 }

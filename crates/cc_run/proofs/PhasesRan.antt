@@ -24,10 +24,13 @@ use Rattle.cc_run.specs.Phases.{PhaseLeft, PhasesLeft, PhasesServed}
 use Rattle.cc_run.specs.Aheads.{StepsLeft}
 use Rattle.cc_run.specs.Ticks.{TicksLeft}
 use Rattle.cc_run.proofs.Lists.{all-map, all-join}
+use Rattle.cc_restarts.specs.declared.ended.LogRestart.{LogRestart}
+use Rattle.cc_run.specs.Begun.{HasBegun}
+use Rattle.cc_run.proofs.Begins.{streams-long}
+use Rattle.cc_run.proofs.Ending.{ended-lines, restarted-ended}
 use Rattle.cc_run.proofs.Opening.{opened-left}
 use Rattle.cc_run.proofs.PhaseSteps.{phases-lines, same-long}
 use Rattle.cc_run.proofs.RowSteps.{taken}
-use Rattle.cc_run.proofs.RunSteps.{opened-long}
 use Rattle.cc_run.proofs.ToldOnce.{kept-parts, part-lines, phases-part, told-parts}
 use Rattle.cc_run.proofs.WordSteps.{asked-append}
 
@@ -212,23 +215,33 @@ module _ (u : Setup) (ticks aheads : ℕ) (all : List ActionLine) (answers : Lis
       (subst (λ l. PhasesRan u plan 1 (n + 0) (ticked ++ []) (stepped ++ []) l old new) (append-nil took)
       (phases-ran n 0 all [] answers [] ticked [] stepped [] took [] old new new (sym (append-nil all)) (sym (append-nil answers)) tt left (refl, refl, refl, refl)))))
 
--- What the streams and the phases of a script left, one after the other, explains all answers.
-explained : (u : Setup) (script : Script) (between replies kept ticked stepped : List LineReply) (took : List Request) (begun past : List Entry) → IsWithin script → StreamsOpened u 0 script.streams [] between [] begun → ((me : ℕ) → me ≢ 0 → IsIdle me [] begun) → PhasesServed u script.ticks script.aheads script.phases script.lines between replies ticked stepped took begun past → AreToldOnce script.streams script.lines replies kept → IsExplained u (given_of script) (run_answered kept ticked stepped) took past
-explained u script between replies kept ticked stepped took begun past within opened alone served told = record {
+-- What the restarts, the streams and the phases of a script left, one after the other, explains all answers.
+pub run-explained : (u v : Setup) (script : Script) (restarted : List LogRestart) (ended between replies kept all ticked stepped : List LineReply) (took : List Request) (ends begun past : List Entry) → IsWithin script → v ≡ u → all ≡ ended ++ kept → HasBegun u script restarted ended between ends begun → PhasesServed v script.ticks script.aheads script.phases script.lines between replies ticked stepped took begun past → AreToldOnce script.streams script.lines replies kept → IsExplained u (given_of script) (run_answered all ticked stepped) took past
+run-explained u v script restarted ended between replies kept all ticked stepped took ends begun past within same all_is begins served_by told = record {
+  ended = ended;
   setup = opened.answers;
   answers = drop (length script.streams) kept;
+  restarted = ends;
   begun = begun;
-  replies_are = kept-parts script.streams opened.answers served.answers between replies opened.grew served.grew setup_long kept told.setup;
+  replies_are = all_is ∙ ap (λ l. ended ++ l) (kept-parts script.streams opened.answers served.answers between replies opened.grew served.grew setup_long kept told.setup);
+  restart_lines = ended-lines u restarted ended [] ends begins.ended_are ∙ begins.are.lines;
   setup_lines = opened.lines_are;
   answer_lines = part-lines script.lines served.answers (drop (length script.streams) kept) part ∙ phases-lines u script.ticks script.aheads script.phases script.lines served.answers ticked stepped took begun past served.left;
-  opened = opened-left u 0 script.streams opened.answers [] begun opened.left;
-  alone = alone;
+  restarts_ended = restarted-ended u script.restarts restarted ended [] ends begins.are.handles begins.ended_are;
+  opened = opened-left u script.restarts ended 0 script.streams opened.answers ends begun opened.left;
+  alone = begins.alone;
   ran =
       phases-part u script.lines served.answers (drop (length script.streams) kept) script.ticks script.aheads part 1 script.phases ticked stepped took begun past
       (all-ran u script.ticks script.aheads script.lines served.answers script.phases ticked stepped took begun past served.left);
   posted_once = told.once;
 }
   where
+    opened : StreamsOpened u script.restarts ended 0 script.streams [] between ends begun
+    opened = begins.opened
+
+    served : PhasesServed u script.ticks script.aheads script.phases script.lines between replies ticked stepped took begun past
+    served = rw same at served_by
+
     setup_long : length opened.answers ≡ length script.streams
     setup_long = sym (length-map opened.answers (λ r. r.line)) ∙ (ap length opened.lines_are ∙ length-map script.streams (λ s. s.line))
 
@@ -237,18 +250,13 @@ explained u script between replies kept ticked stepped took begun past within op
     part = subst (λ l. AllTellPart script.lines l (drop (length script.streams) kept))
         (told-parts script.streams opened.answers served.answers between replies opened.grew served.grew setup_long) told.part
 
-pub run-explained : (u v : Setup) (script : Script) (first between replies kept ticked stepped : List LineReply) (took : List Request) (start begun past : List Entry) → IsWithin script → first ≡ [] → start ≡ [] → v ≡ u → StreamsOpened u 0 script.streams first between start begun → ((me : ℕ) → me ≢ 0 → IsIdle me start begun) → PhasesServed v script.ticks script.aheads script.phases script.lines between replies ticked stepped took begun past → AreToldOnce script.streams script.lines replies kept → IsExplained u (given_of script) (run_answered kept ticked stepped) took past
-run-explained u v script first between replies kept ticked stepped took start begun past within none empty same opened alone served told =
-    explained u script between replies kept ticked stepped took begun past within (rw (none, empty) at opened) (rw empty at alone) (rw same at served) told
-
 -- each stream and each line has a reply
-pub run-long : (u v : Setup) (script : Script) (first between replies ticked stepped : List LineReply) (took : List Request) (start begun past : List Entry) → first ≡ [] → StreamsOpened u 0 script.streams first between start begun → PhasesServed v script.ticks script.aheads script.phases script.lines between replies ticked stepped took begun past → length replies ≡ length script.streams + length script.lines
-run-long u v script first between replies ticked stepped took start begun past none opened served =
+pub run-long : (u v : Setup) (script : Script) (restarted : List LogRestart) (ended between replies ticked stepped : List LineReply) (took : List Request) (ends begun past : List Entry) → HasBegun u script restarted ended between ends begun → PhasesServed v script.ticks script.aheads script.phases script.lines between replies ticked stepped took begun past → length replies ≡ length script.streams + length script.lines
+run-long u v script restarted ended between replies ticked stepped took ends begun past begins served =
     omega (
       arith,
       ap length served.grew,
       length-append between served.answers,
-      opened-long u 0 script.streams first between start begun opened,
-      ap length none,
+      streams-long u script restarted ended between ends begun begins,
       same-long script.lines served.answers (phases-lines v script.ticks script.aheads script.phases script.lines served.answers ticked stepped took begun past served.left),
     )

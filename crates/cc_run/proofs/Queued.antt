@@ -3,7 +3,7 @@ use Rattle.std.specs.Prelude.{◌≡◌, ◌≢◌, ℕ, zero, suc, ◌+◌, ◌
 use Rattle.std.specs.declared.option.Option.{Option}
 use Rattle.std.specs.declared.option.Option.TheVariants.{Some, None}
 use Rattle.std.specs.List.{AllByRecursion}
-use Rattle.std.proofs.Common.{ap, sym, subst, ◌∙◌, arith, inl, inr}
+use Rattle.std.proofs.Common.{ap, sym, subst, ◌∙◌, append_assoc, arith, inl, inr}
 use Rattle.std.proofs.lemmas.Bool.{ne_eqb}
 use Rattle.std.proofs.lemmas.List.{append-nil, length-append, length-map}
 use Rattle.std.proofs.lemmas.Nat.{mul-le}
@@ -23,6 +23,7 @@ use Rattle.cc_entry.specs.declared.reply.Reply.TheVariants as reply
 use Rattle.cc_script.specs.declared.script.Action.{Action}
 use Rattle.cc_script.specs.declared.script.Action.TheVariants as action
 use Rattle.cc_script.specs.declared.script.ActionLine.{ActionLine}
+use Rattle.cc_script.specs.declared.script.RestartLine.{RestartLine}
 use Rattle.cc_script.specs.declared.script.Script.{Script}
 use Rattle.cc_script.specs.declared.script.StreamLine.{StreamLine}
 use Rattle.cc_script.specs.Within.{IsLineWithin, IsWithin}
@@ -33,20 +34,26 @@ use Rattle.cc_lines.specs.Holds.{NamesState}
 use Rattle.cc_lines.specs.Queues.{PlaceWent, hand_of, new_places}
 use Rattle.cc_lines.specs.declared.queues.Queues.{Queues}
 use Rattle.cc_pieces.specs.Explained.{Answered, Given}
-use Rattle.cc_pieces.specs.Openings.{LoggedOpening, MigrationLeft, Opens, RecordedOpening, StreamOpening, first_object_of, opening_sizes, opening_with, said_sizes}
+use Rattle.cc_pieces.specs.Openings.{LoggedOpening, MigrationLeft, OpeningBehind, RecordedOpening, StreamOpening, first_object_of, opening_sizes, opening_with, said_sizes}
 use Rattle.cc_pieces.specs.Phases.{TicksRan, is_of_phase, lazy_writer, read_ahead_worker}
 use Rattle.cc_pieces.specs.Queue.{PlaceRan, QueuePlace, answers_to, is_ask, is_step, lines_told, steps_told}
+use Rattle.cc_pieces.specs.Restarts.{RestartEnded, refused_for}
 use Rattle.cc_pieces.specs.Rooms.{is_alone, room_limit}
 use Rattle.cc_pieces.specs.Runs.{Ran, asked_of}
 use Rattle.cc_pieces.specs.Served.{Served}
 use Rattle.cc_pieces.proofs.AskedLines.{asked-none}
 use Rattle.cc_pieces.proofs.PlaceSteps.{PlaceTold, place-idle, place-other, place-then, queued, untouched}
 use Rattle.cc_queue.specs.Places.{PlaceState, new_place}
+use Rattle.cc_restarts.specs.declared.ended.LogRestart.{LogRestart}
+use Rattle.cc_restarts.specs.declared.ended.Numbers.{Numbers}
 use Rattle.cc_run.specs.Aheads.{step_lines}
-use Rattle.cc_run.specs.Lines.{IsCaller, StreamsLeft, StreamsOpened, after_lines, asked_by, given_of, run_answered}
+use Rattle.cc_run.specs.Lines.{IsCaller, StreamsLeft, after_lines, asked_by, given_of, run_answered}
 use Rattle.cc_run.specs.Once.{AllTellPart, AreToldOnce, TellsPart}
 use Rattle.cc_run.specs.Phases.{PhasesLeft, PhasesServed}
 use Rattle.cc_run.specs.Places.{AreQueued, PlacesRan, or_rest, place_at, taken_at}
+use Rattle.cc_run.specs.Restarting.{RestartsEnded, RestartsTold, TellsEnd, last_number}
+use Rattle.cc_run.specs.Begun.{HasBegun}
+use Rattle.cc_run.proofs.Begins.{kept-behind}
 use Rattle.cc_run.proofs.LinesRan.{of_none}
 use Rattle.cc_run.proofs.Lists.{all-back, all-front, all-map, below-or, there}
 use Rattle.cc_run.proofs.PhaseSteps.{phases-steps}
@@ -162,17 +169,41 @@ opening-placed u s stream true told place old new (inr is) =
     (load-placed {A = Option StreamRecord} s (Ok is.read) place old is.loaded is.load)
     (recorded-placed u s stream is.read told place is.loaded new is.opened)
 
-opens-placed : (u : Setup) (s : ℕ) (stream : StreamLine) (told : Answer) (place : QueuePlace) (old new : List Entry) → Opens u s stream told old new → PlaceRan 0 [] place place old new
-opens-placed u s stream told place old new opens = opening-placed u s stream stream.stored told place old new opens.opened
+behind-placed : (u : Setup) (s : ℕ) (stream : StreamLine) (refused : Option CcError) (told : Answer) (place : QueuePlace) (old new : List Entry) → OpeningBehind u s stream refused told old new → PlaceRan 0 [] place place old new
+behind-placed u s stream (Some e) told place old new opened = place-idle 0 place old new opened.1
+behind-placed u s stream None told place old new opened = opening-placed u s stream stream.stored told place old new opened
 
-streams-placed : (u : Setup) (s : ℕ) (streams : List StreamLine) (replies : List LineReply) (place : QueuePlace) (old new : List Entry) → StreamsLeft u s streams replies old new → PlaceRan 0 [] place place old new
-streams-placed u s [] [] place old new left =
+streams-placed : (u : Setup) (restarts : List RestartLine) (ended : List LineReply) (s : ℕ) (streams : List StreamLine) (replies : List LineReply) (place : QueuePlace) (old new : List Entry) → StreamsLeft u restarts ended s streams replies old new → PlaceRan 0 [] place place old new
+streams-placed u restarts ended s [] [] place old new left =
     let same : new ≡ old = left in
     rw same (place-idle 0 place old old (idle-none 0 old))
-streams-placed u s [] (reply ∷ replies) place old new left = absurd left
-streams-placed u s (stream ∷ streams) [] place old new left = absurd left
-streams-placed u s (stream ∷ streams) (reply ∷ replies) place old new left =
-    place-then 0 [] [] place place place old left.0 new (opens-placed u s stream reply.answer place old left.0 left.1) (streams-placed u (suc s) streams replies place left.0 new left.2)
+streams-placed u restarts ended s [] (reply ∷ replies) place old new left = absurd left
+streams-placed u restarts ended s (stream ∷ streams) [] place old new left = absurd left
+streams-placed u restarts ended s (stream ∷ streams) (reply ∷ replies) place old new left =
+    place-then 0 [] [] place place place old left.0 new (behind-placed u s stream (refused_for stream.log restarts ended) reply.answer place old left.0 left.1.opened) (streams-placed u restarts ended (suc s) streams replies place left.0 new left.2)
+
+-- ---- the lines of the restarts
+
+ended-placed : (u : Setup) (handle last updates : ℕ) (told : Answer) (place : QueuePlace) (old new : List Entry) → RestartEnded u handle last updates told old new → PlaceRan 0 [] place place old new
+ended-placed u handle zero updates (answer.Restarted n) place old new left = place-idle 0 place old new left.1
+ended-placed u handle (suc last) updates (answer.Restarted n) place old new left =
+    placed-line u 0 (action.LogFlush handle (suc last)) (answer.Given reply.Unit) place old new refl refl left.1.1
+ended-placed u handle last updates (answer.Refused e) place old new left =
+    placed-line u 0 (action.LogFlush handle last) (answer.Refused e) place old new refl refl left
+ended-placed u handle last updates other place old new left = absurd left
+
+end-placed : (u : Setup) (handle : ℕ) (ended : Result Numbers CcError) (told : Answer) (place : QueuePlace) (old new : List Entry) → TellsEnd u handle ended told old new → PlaceRan 0 [] place place old new
+end-placed u handle (Ok numbers) told place old new left = ended-placed u handle (last_number numbers.last) numbers.updates told place old new left
+end-placed u handle (Err e) told place old new left = place-idle 0 place old new left.1
+
+ends-placed : (u : Setup) (ended : List LogRestart) (replies : List LineReply) (place : QueuePlace) (old new : List Entry) → RestartsEnded u ended replies old new → PlaceRan 0 [] place place old new
+ends-placed u [] [] place old new left =
+    let same : new ≡ old = left in
+    rw same (place-idle 0 place old old (idle-none 0 old))
+ends-placed u [] (reply ∷ replies) place old new left = absurd left
+ends-placed u (one ∷ ended) [] place old new left = absurd left
+ends-placed u (one ∷ ended) (reply ∷ replies) place old new left =
+    place-then 0 [] [] place place place old left.0 new (end-placed u one.handle one.ended reply.answer place old left.0 left.1.told) (ends-placed u ended replies place left.0 new left.2)
 
 -- a pass that has no lines, and is no worker
 phases-idle : (u : Setup) (ticks aheads n me : ℕ) (lines : List ActionLine) (replies ticked stepped : List LineReply) (taken : List Request) (old new : List Entry) → me ≢ lazy_writer → me ≢ read_ahead_worker → ((line : ActionLine) → IsCaller line.caller → line.caller ≢ me) → AllByRecursion (λ line. IsCaller line.caller) lines → PhasesLeft u ticks aheads n lines replies ticked stepped taken old new → IsIdle me old new
@@ -304,30 +335,34 @@ fresh-at queues (row ∷ rows) (suc n) own fresh at = fresh-at queues rows n own
 
 -- ---- a run
 
-module _ (u v : Setup) (script : Script) (between replies kept ticked stepped : List LineReply) (took : List Request) (begun past : List Entry) (was now : List NamesState) (lazy first worker : PlaceState Request) (queues : Queues) (within : IsWithin script) (opened : StreamsOpened u 0 script.streams [] between [] begun) (alone : (me : ℕ) → me ≢ 0 → IsIdle me [] begun) (served : PhasesServed v script.ticks script.aheads script.phases script.lines between replies ticked stepped took begun past) (told_once : AreToldOnce script.streams script.lines replies kept) (placed : PlacesRan script.lines between replies was now begun past) (worked : PlaceWent 18 (step_lines stepped) first worker begun past) (sixteen_was : length was ≡ 16) (sixteen : length now ≡ 16) (fresh : AllByRecursion (λ (own : NamesState). own.places ≡ new_places queues) was) (fresh_lazy : lazy ≡ new_place queues.ahead) (fresh_first : first ≡ new_place queues.ahead) where
+module _ (u v : Setup) (script : Script) (restarted : List LogRestart) (ended between replies all ticked stepped : List LineReply) (took : List Request) (ends begun past : List Entry) (was now : List NamesState) (lazy first worker : PlaceState Request) (queues : Queues) (within : IsWithin script) (begins : HasBegun u script restarted ended between ends begun) (served : PhasesServed v script.ticks script.aheads script.phases script.lines between replies ticked stepped took begun past) (told_once : AreToldOnce script.streams script.lines replies (drop (length script.restarts) all)) (placed : PlacesRan script.lines between replies was now begun past) (worked : PlaceWent 18 (step_lines stepped) first worker begun past) (sixteen_was : length was ≡ 16) (sixteen : length now ≡ 16) (fresh : AllByRecursion (λ (own : NamesState). own.places ≡ new_places queues) was) (fresh_lazy : lazy ≡ new_place queues.ahead) (fresh_first : first ≡ new_place queues.ahead) where
   abbrev given : Given
   given = given_of script
 
   abbrev told : Answered
-  told = run_answered kept ticked stepped
+  told = run_answered all ticked stepped
 
   abbrev places : List (PlaceState Request)
   places = all_places now lazy worker
 
+  -- the replies of the lines
+  abbrev lines_kept : List LineReply
+  lines_kept = drop (length script.streams) (drop (length script.restarts) all)
+
   callers : AllByRecursion (λ line. IsCaller line.caller) script.lines
   callers = all-map (IsLineWithin script.streams script.phases) (λ line. IsCaller line.caller) script.lines (λ line is. record { first = is.first_caller; last = is.last_caller }) within.lines
 
-  part : AllTellPart script.lines served.answers (drop (length script.streams) kept)
-  part = subst (λ l. AllTellPart script.lines l (drop (length script.streams) kept))
-      (told-parts script.streams opened.answers served.answers between replies opened.grew served.grew setup_long) told_once.part
+  part : AllTellPart script.lines served.answers lines_kept
+  part = subst (λ l. AllTellPart script.lines l lines_kept)
+      (told-parts script.streams begins.opened.answers served.answers between replies begins.opened.grew served.grew setup_long) told_once.part
     where
-      setup_long : length opened.answers ≡ length script.streams
-      setup_long = sym (length-map opened.answers (λ r. r.line)) ∙ (ap length opened.lines_are ∙ length-map script.streams (λ s. s.line))
+      setup_long : length begins.opened.answers ≡ length script.streams
+      setup_long = sym (length-map begins.opened.answers (λ r. r.line)) ∙ (ap length begins.opened.lines_are ∙ length-map script.streams (λ s. s.line))
 
   -- a pass without lines
   lines-none : (me : ℕ) → ((line : ActionLine) → IsCaller line.caller → line.caller ≢ me) → lines_told given told me ≡ []
   lines-none me apart =
-      asked-none (λ line. line.caller == me) script.lines (drop (length script.streams) kept)
+      asked-none (λ line. line.caller == me) script.lines lines_kept
       (all-map (λ line. IsCaller line.caller) (λ line. (line.caller == me) ≡ false) script.lines (λ line is. ne_eqb line.caller me (apart line is)) callers)
 
   abbrev apart_from : ℕ → Type 0
@@ -350,7 +385,9 @@ module _ (u v : Setup) (script : Script) (between replies kept ticked stepped : 
   first-told : PlaceTold given told 0 (place_at places 0) past
   first-told =
       no-lines 0 (λ e. omega (arith, e)) (λ line caller same. omega (arith, caller.first, same))
-      (place-then 0 [] [] untouched untouched untouched [] begun past (streams-placed u 0 script.streams opened.answers untouched [] begun opened.left)
+      (place-then 0 [] [] untouched untouched untouched [] begun past
+      (place-then 0 [] [] untouched untouched untouched [] ends begun (ends-placed u restarted ended untouched [] ends begins.ended_are)
+      (streams-placed u script.restarts ended 0 script.streams begins.opened.answers untouched ends begun begins.opened.left))
       (place-idle 0 untouched begun past
       (phases-idle v script.ticks script.aheads script.phases 0 script.lines served.answers ticked stepped took begun past (λ e. omega (arith, e)) (λ e. omega (arith, e))
       (λ line caller same. omega (arith, caller.first, same)) callers served.left)))
@@ -362,15 +399,15 @@ module _ (u v : Setup) (script : Script) (between replies kept ticked stepped : 
       let b = there now n (omega (arith, low, sixteen)) in
       let own : ActionLine → Bool = λ line. line.caller == suc n in
       let lines = asked_by (suc n) script.lines served.answers in
-      let went = placed-since (suc n) lines a.0.places.ahead b.0.places.ahead [] begun past (alone (suc n) (λ e. omega (arith, e))) (placed.each served.answers n a.0 b.0 served.grew a.1 b.1).ahead in
+      let went = placed-since (suc n) lines a.0.places.ahead b.0.places.ahead [] begun past (begins.alone (suc n) (λ e. omega (arith, e))) (placed.each served.answers n a.0 b.0 served.grew a.1 b.1).ahead in
       let ran : PlaceRan (suc n) lines untouched (hand_of b.0.places.ahead) [] past =
       subst (λ p. PlaceRan (suc n) lines p (hand_of b.0.places.ahead) [] past) (fresh-at queues was n a.0 fresh a.1) went.ran in
       let asked = few-asked own script.lines served.answers in
       record {
         lines = lines;
         ran = subst (λ p. PlaceRan (suc n) lines untouched p [] past) (sym (own-at now lazy worker sixteen n b.0 b.1)) ran;
-        steps = sym (steps-other (suc n) (λ e. omega (arith, e, low)) ∙ part-tells is_step own script.lines served.answers (drop (length script.streams) kept) refl part);
-        asks = sym (part-tells is_ask own script.lines served.answers (drop (length script.streams) kept) refl part);
+        steps = sym (steps-other (suc n) (λ e. omega (arith, e, low)) ∙ part-tells is_step own script.lines served.answers lines_kept refl part);
+        asks = sym (part-tells is_ask own script.lines served.answers lines_kept refl part);
         few_steps = omega (arith, few-answers is_step lines, asked, within.few_lines);
         few_asks = omega (arith, few-answers is_ask lines, asked, within.few_lines);
       }
@@ -379,13 +416,13 @@ module _ (u v : Setup) (script : Script) (between replies kept ticked stepped : 
   lazy-told : PlaceTold given told lazy_writer (place_at places lazy_writer) past
   lazy-told =
       no-lines lazy_writer (λ e. omega (arith, e)) (λ line caller same. omega (arith, caller.last, same))
-      (subst (λ p. PlaceRan lazy_writer [] untouched p [] past) (sym (lazy-at now lazy worker sixteen ∙ ap hand_of fresh_lazy)) (place-then lazy_writer [] [] untouched untouched untouched [] begun past (place-idle lazy_writer untouched [] begun (alone lazy_writer (λ e. omega (arith, e))))
+      (subst (λ p. PlaceRan lazy_writer [] untouched p [] past) (sym (lazy-at now lazy worker sixteen ∙ ap hand_of fresh_lazy)) (place-then lazy_writer [] [] untouched untouched untouched [] begun past (place-idle lazy_writer untouched [] begun (begins.alone lazy_writer (λ e. omega (arith, e))))
       (lazy-placed v script.ticks script.aheads script.phases script.lines served.answers ticked stepped took untouched begun past served.left)))
 
   -- the read-ahead worker, whose steps are its lines
   worker-told : PlaceTold given told read_ahead_worker (place_at places read_ahead_worker) past
   worker-told =
-      let went = placed-since read_ahead_worker (step_lines stepped) first worker [] begun past (alone read_ahead_worker (λ e. omega (arith, e))) worked in
+      let went = placed-since read_ahead_worker (step_lines stepped) first worker [] begun past (begins.alone read_ahead_worker (λ e. omega (arith, e))) worked in
       let ran : PlaceRan read_ahead_worker (step_lines stepped) untouched (hand_of worker) [] past =
       subst (λ (p : PlaceState Request). PlaceRan read_ahead_worker (step_lines stepped) (hand_of p) (hand_of worker) [] past) fresh_first went.ran in
       let none = lines-none read_ahead_worker (λ line caller same. omega (arith, caller.last, same)) in
@@ -407,7 +444,7 @@ module _ (u v : Setup) (script : Script) (between replies kept ticked stepped : 
       let apart : apart_from (suc n) = λ line caller same. omega (arith, caller.last, same, above) in
       no-lines (suc n) (λ e. omega (arith, e, above)) apart
       (subst (λ p. PlaceRan (suc n) [] untouched p [] past) (sym (none-at now lazy worker sixteen n above)) (place-idle (suc n) untouched [] past
-      (idle-then (suc n) [] begun past (alone (suc n) (λ e. omega (arith, e)))
+      (idle-then (suc n) [] begun past (begins.alone (suc n) (λ e. omega (arith, e)))
       (phases-idle v script.ticks script.aheads script.phases (suc n) script.lines served.answers ticked stepped took begun past (λ e. omega (arith, e, above)) (λ e. omega (arith, e, above)) apart callers served.left))))
 
   each-told : (me : ℕ) → PlaceTold given told me (place_at places me) past
@@ -431,6 +468,22 @@ module _ (u v : Setup) (script : Script) (between replies kept ticked stepped : 
   }
 
 -- from where a run began
-pub run-queued : (u v : Setup) (script : Script) (before between replies kept ticked stepped : List LineReply) (took : List Request) (start begun past entries : List Entry) (was now : List NamesState) (lazy first worker : PlaceState Request) (places : List (PlaceState Request)) (queues : Queues) → IsWithin script → before ≡ [] → start ≡ [] → entries ≡ past → places ≡ map (λ (own : NamesState). own.places.ahead) now ++ lazy ∷ worker ∷ [] → StreamsOpened u 0 script.streams before between start begun → ((me : ℕ) → me ≢ 0 → IsIdle me start begun) → PhasesServed v script.ticks script.aheads script.phases script.lines between replies ticked stepped took begun past → AreToldOnce script.streams script.lines replies kept → PlacesRan script.lines between replies was now begun past → PlaceWent 18 (step_lines stepped) first worker begun past → length was ≡ 16 → length now ≡ 16 → AllByRecursion (λ (own : NamesState). own.places ≡ new_places queues) was → lazy ≡ new_place queues.ahead → first ≡ new_place queues.ahead → AreQueued (given_of script) (run_answered kept ticked stepped) places entries
-run-queued u v script before between replies kept ticked stepped took start begun past entries was now lazy first worker places queues within none empty same are opened alone served told placed worked sixteen_was sixteen fresh fresh_lazy fresh_first =
-    rw (same, are) (are-queued u v script between replies kept ticked stepped took begun past was now lazy first worker queues within (rw (none, empty) at opened) (rw empty at alone) served told placed worked sixteen_was sixteen fresh fresh_lazy fresh_first)
+pub run-queued : (u v : Setup) (script : Script) (restarted : List LogRestart) (ended between replies kept all ticked stepped : List LineReply) (took : List Request) (ends begun past entries : List Entry) (was now : List NamesState) (lazy first worker : PlaceState Request) (places : List (PlaceState Request)) (queues : Queues) → IsWithin script → all ≡ ended ++ kept → entries ≡ past → places ≡ map (λ (own : NamesState). own.places.ahead) now ++ lazy ∷ worker ∷ [] → HasBegun u script restarted ended between ends begun → PhasesServed v script.ticks script.aheads script.phases script.lines between replies ticked stepped took begun past → AreToldOnce script.streams script.lines replies kept → PlacesRan script.lines between replies was now begun past → PlaceWent 18 (step_lines stepped) first worker begun past → length was ≡ 16 → length now ≡ 16 → AllByRecursion (λ (own : NamesState). own.places ≡ new_places queues) was → lazy ≡ new_place queues.ahead → first ≡ new_place queues.ahead → AreQueued (given_of script) (run_answered all ticked stepped) places entries
+run-queued u v script restarted ended between replies kept all ticked stepped took ends begun past entries was now lazy first worker places queues within all_is same are begins served told placed worked sixteen_was sixteen fresh fresh_lazy fresh_first =
+    rw (same, are) (are-queued u v script restarted ended between replies all ticked stepped took ends begun past was now lazy first worker queues within begins served
+    (subst (AreToldOnce script.streams script.lines replies) (sym (kept-behind u script restarted ended between kept all ends begun begins all_is)) told) placed worked sixteen_was sixteen fresh fresh_lazy fresh_first)
+
+-- so the run tells the restarts first
+pub run-told : (u v : Setup) (script : Script) (restarted : List LogRestart) (ended between replies kept all ticked stepped : List LineReply) (took : List Request) (ends begun past : List Entry) → all ≡ ended ++ kept → HasBegun u script restarted ended between ends begun → PhasesServed v script.ticks script.aheads script.phases script.lines between replies ticked stepped took begun past → RestartsTold u restarted all past
+run-told u v script restarted ended between replies kept all ticked stepped took ends begun past all_is begins served =
+    let streams = streams-placed u script.restarts ended 0 script.streams begins.opened.answers untouched ends begun begins.opened.left in
+    let phases = lazy-placed v script.ticks script.aheads script.phases script.lines served.answers ticked stepped took untouched begun past served.left in
+    record {
+      first = ended;
+      others = kept;
+      begun = ends;
+      later = phases.during ++ streams.during;
+      replies_are = all_is;
+      grew = phases.grew ∙ (ap (λ l. phases.during ++ l) streams.grew ∙ sym (append_assoc phases.during streams.during ends));
+      ended_are = begins.ended_are;
+    }

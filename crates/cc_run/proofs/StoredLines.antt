@@ -1,6 +1,7 @@
 -- At the line of a stored stream no record of it was written yet, so what the line read is what the page spelled at first.
-use Rattle.std.specs.Prelude.{◌≡◌, ◌≢◌, ℕ, zero, suc, ◌+◌, ◌<◌, ◌≤◌, true, false, List, [], ◌∷◌, ◌++◌, length, map, slice_get, refl}
-use Rattle.std.specs.declared.option.Option.TheVariants.{Some}
+use Rattle.std.specs.Prelude.{◌≡◌, ◌≢◌, ℕ, zero, suc, ◌+◌, ◌<◌, ◌≤◌, ◌==◌, cond, true, false, List, [], ◌∷◌, ◌++◌, length, map, slice_get, refl}
+use Rattle.std.specs.declared.option.Option.{Option}
+use Rattle.std.specs.declared.option.Option.TheVariants.{Some, None}
 use Rattle.std.specs.List.{list_any}
 use Rattle.std.proofs.Common.{sym, ap, subst, ◌∙◌, append_assoc, arith, inl, inr}
 use Rattle.std.proofs.lemmas.List.{append_cancel_right, length-map}
@@ -9,22 +10,25 @@ use Rattle.cc_entry.specs.declared.answer.Answer.{Answer}
 use Rattle.cc_entry.specs.declared.answer.LineReply.{LineReply}
 use Rattle.cc_entry.specs.declared.entry.Entry.{Entry}
 use Rattle.cc_entry.specs.declared.place.Request.{Request}
+use Rattle.cc_entry.specs.declared.error.CcError.{CcError}
+use Rattle.cc_script.specs.declared.script.RestartLine.{RestartLine}
 use Rattle.cc_script.specs.declared.script.StreamLine.{StreamLine}
 use Rattle.cc_model.specs.Passes.{HasSeen, is_mine}
 use Rattle.cc_model.specs.Setup.{Setup}
 use Rattle.cc_effects.specs.Moments.{IsIdle, Others}
 use Rattle.cc_effects.proofs.Stretches.{idle-none}
 use Rattle.cc_pieces.specs.Explained.{Answered, Given, IsExplained}
-use Rattle.cc_pieces.specs.Openings.{Opened, StreamOpening, is_record_of}
+use Rattle.cc_pieces.specs.Openings.{Opened, OpeningBehind, StreamOpening, is_record_of}
+use Rattle.cc_pieces.specs.Restarts.{Restarted, RestartAnswered, refusal_told, refused_for, refused_restart}
 use Rattle.cc_pieces.specs.Phases.{PhasesRan, Plan}
 use Rattle.cc_pieces.proofs.Grown.{grew-then}
-use Rattle.cc_pieces.proofs.LeftStreams.{IsLeft}
+use Rattle.cc_pieces.proofs.LeftStreams.{IsLeft, left-restart}
 use Rattle.cc_turns.proofs.Handles.{handle-below}
 use Rattle.cc_pieces.proofs.TickSteps.{left-ticks}
-use Rattle.cc_pieces.proofs.Unrecorded.{lines-unrecorded}
+use Rattle.cc_pieces.proofs.Unrecorded.{lines-unrecorded, restarts-unrecorded}
 use Rattle.cc_run.specs.StoredLines.{OpensAsSpelled, StoredLine}
 use Rattle.cc_run.proofs.Lists.{all-back, all-front, there}
-use Rattle.cc_run.proofs.Opening.{seen-opening, seen-recorded}
+use Rattle.cc_run.proofs.Opening.{seen-behind, seen-opening, seen-recorded}
 use Rattle.cc_run.proofs.Rooms.{before}
 
 -- ---- a stretch in which a pass placed nothing, at a moment between
@@ -53,13 +57,13 @@ alone-back old between new first second alone me other = (idle-parts me old betw
 
 -- ---- the lines of the streams
 
-module _ (u : Setup) where
-  seen-opened : (s : ℕ) (streams : List StreamLine) (replies : List LineReply) (old new : List Entry) → Opened u s streams replies old new → HasSeen old new
+module _ (u : Setup) (restarts : List RestartLine) (ended : List LineReply) where
+  seen-opened : (s : ℕ) (streams : List StreamLine) (replies : List LineReply) (old new : List Entry) → Opened u restarts ended s streams replies old new → HasSeen old new
   seen-opened s [] [] old new opened = record { later = opened.during; grew = opened.grew }
   seen-opened s [] (reply ∷ replies) old new opened = absurd opened
   seen-opened s (stream ∷ streams) [] old new opened = absurd opened
   seen-opened s (stream ∷ streams) (reply ∷ replies) old new opened =
-      grew-then old opened.0 new (seen-opening u s stream stream.stored reply.answer old opened.0 opened.1.opened)
+      grew-then old opened.0 new (seen-behind u s stream (refused_for stream.log restarts ended) reply.answer old opened.0 opened.1.opened)
       (seen-opened (suc s) streams replies opened.0 new opened.2)
 
   -- the line of a stored stream of which no record was written before
@@ -72,7 +76,7 @@ module _ (u : Setup) where
     left = inr
         (record {
           read = is.read;
-          spelled = λ pages opens. is.at_first pages opens (lines-unrecorded u s s [] [] old is.loaded is.load first (omega arith) none);
+          spelled = λ pages opens. is.at_first pages opens (lines-unrecorded u s restarts ended s [] [] old is.loaded is.load first (omega arith) none);
           loaded = is.loaded;
           load = is.load;
           opened = is.opened;
@@ -84,15 +88,15 @@ module _ (u : Setup) where
           alone-front old is.loaded new (record { later = is.load.during; grew = is.load.grew })
           (seen-recorded u s stream is.read told is.loaded new is.opened) alone
 
-  -- and each of several, numbered from one on
-  lines-at : (s : ℕ) (streams : List StreamLine) (replies : List LineReply) (old new past : List Entry) → Opened u s streams replies old new → Alone old new → HasSeen new past → ((t : ℕ) → s ≤ t → list_any (is_record_of t) old ≡ false) → (n : ℕ) (stream : StreamLine) (reply : LineReply) → slice_get streams n ≡ Some stream → slice_get replies n ≡ Some reply → stream.stored ≡ true → StoredLine u (s + n) stream reply.answer past
-  lines-at s [] replies old new past opened alone since none n stream reply at answered stored = absurd (cc at)
-  lines-at s (first ∷ streams) [] old new past opened alone since none n stream reply at answered stored = absurd (cc answered)
-  lines-at s (first ∷ streams) (told ∷ replies) old new past opened alone since none n stream reply at answered stored =
-      by (λ n at answered. lines-at (suc s) streams replies opened.0 new past opened.2 (alone-back old opened.0 new here behind alone) since unwritten n stream reply at answered stored) n at answered
+  -- and each of several, numbered from one on, whose log was not refused
+  lines-at : (s : ℕ) (streams : List StreamLine) (replies : List LineReply) (old new past : List Entry) → Opened u restarts ended s streams replies old new → Alone old new → HasSeen new past → ((t : ℕ) → s ≤ t → list_any (is_record_of t) old ≡ false) → (n : ℕ) (stream : StreamLine) (reply : LineReply) → slice_get streams n ≡ Some stream → slice_get replies n ≡ Some reply → stream.stored ≡ true → refused_for stream.log restarts ended ≡ None → StoredLine u (s + n) stream reply.answer past
+  lines-at s [] replies old new past opened alone since none n stream reply at answered stored kept = absurd (cc at)
+  lines-at s (first ∷ streams) [] old new past opened alone since none n stream reply at answered stored kept = absurd (cc answered)
+  lines-at s (first ∷ streams) (told ∷ replies) old new past opened alone since none n stream reply at answered stored kept =
+      by (λ n at answered. lines-at (suc s) streams replies opened.0 new past opened.2 (alone-back old opened.0 new here behind alone) since unwritten n stream reply at answered stored kept) n at answered
     where
       here : HasSeen old opened.0
-      here = seen-opening u s first first.stored told.answer old opened.0 opened.1.opened
+      here = seen-behind u s first (refused_for first.log restarts ended) told.answer old opened.0 opened.1.opened
 
       behind : HasSeen opened.0 new
       behind = seen-opened (suc s) streams replies opened.0 new opened.2
@@ -102,16 +106,18 @@ module _ (u : Setup) where
 
       unwritten : (t : ℕ) → suc s ≤ t → list_any (is_record_of t) opened.0 ≡ false
       unwritten t less =
-          lines-unrecorded u t s (first ∷ []) (told ∷ []) old opened.0 (opened.0, opened.1, idle-none 0 opened.0) alone_here
+          lines-unrecorded u t restarts ended s (first ∷ []) (told ∷ []) old opened.0 (opened.0, opened.1, idle-none 0 opened.0) alone_here
           (omega (arith, less)) (none t (omega (arith, less)))
 
       by : ((n : ℕ) → slice_get streams n ≡ Some stream → slice_get replies n ≡ Some reply → StoredLine u (suc s + n) stream reply.answer past) → (n : ℕ) → slice_get (first ∷ streams) n ≡ Some stream → slice_get (told ∷ replies) n ≡ Some reply → StoredLine u (s + n) stream reply.answer past
       by later zero at answered =
           let is : first ≡ stream = cc at in
           let same : told ≡ reply = cc answered in
+          let own : OpeningBehind u s stream (refused_for stream.log restarts ended) reply.answer old opened.0 =
+          subst (λ (r : LineReply). OpeningBehind u s stream (refused_for stream.log restarts ended) r.answer old opened.0) same
+          (subst (λ (l : StreamLine). OpeningBehind u s l (refused_for l.log restarts ended) told.answer old opened.0) is opened.1.opened) in
           let left : StreamOpening u s stream stream.stored reply.answer old opened.0 =
-          subst (λ (r : LineReply). StreamOpening u s stream stream.stored r.answer old opened.0) same
-          (subst (λ (l : StreamLine). StreamOpening u s l l.stored told.answer old opened.0) is opened.1.opened) in
+          subst (λ (o : Option CcError). OpeningBehind u s stream o reply.answer old opened.0) kept own in
           let number : s ≡ s + 0 = omega arith in
           subst (λ m. StoredLine u m stream reply.answer past) number
           (line-at s stream reply.answer old opened.0 past alone_here (grew-then opened.0 new past behind since) (none s (omega arith))
@@ -120,6 +126,7 @@ module _ (u : Setup) where
           let number : suc s + n ≡ s + suc n = omega arith in
           subst (λ m. StoredLine u m stream reply.answer past) number (later n at answered)
 
+module _ (u : Setup) where
   -- the journal grew by the phases
   left-seen : (me : ℕ) (old new : List Entry) → IsLeft u 0 me old new → HasSeen old new
   left-seen me old new left = record { later = left.during; grew = left.grew }
@@ -130,14 +137,63 @@ module _ (u : Setup) where
       grew-then old ran.0 new (left-seen _ old ran.0 (left-ticks u 0 (λ past s handle legal is. handle-below u past s handle legal is) 32 phase _ old ran.0 ran.3.ticks))
       (seen-phases plan (suc phase) left _ _ _ ran.0 new ran.4)
 
+-- ---- the lines of the restarts
+
+-- the journal grew by the end of a restart
+seen-restart : (u : Setup) (handle : ℕ) (told : Answer) (old new : List Entry) → RestartAnswered u handle told old new → HasSeen old new
+seen-restart u handle told old new left =
+    left-seen u 0 old new (left-restart u 0 (λ past s handle legal is. handle-below u past s handle legal is) handle told old new left)
+
+seen-restarts : (u : Setup) (restarts : List RestartLine) (ended : List LineReply) (old new : List Entry) → Restarted u restarts ended old new → HasSeen old new
+seen-restarts u [] [] old new done = record { later = done.during; grew = done.grew }
+seen-restarts u [] (reply ∷ ended) old new done = absurd done
+seen-restarts u (restart ∷ restarts) [] old new done = absurd done
+seen-restarts u (restart ∷ restarts) (reply ∷ ended) old new done =
+    grew-then old done.0 new (seen-restart u restart.handle reply.answer old done.0 done.1.left) (seen-restarts u restarts ended done.0 new done.2)
+
+-- what refused a restart is told among the first replies
+refused-front : (handle : ℕ) (restarts : List RestartLine) (ended more : List LineReply) → length ended ≡ length restarts → refused_restart handle restarts (ended ++ more) ≡ refused_restart handle restarts ended
+refused-front handle [] [] [] same = refl
+refused-front handle [] [] (reply ∷ more) same = refl
+refused-front handle [] (reply ∷ ended) more same = absurd (omega (arith, same))
+refused-front handle (restart ∷ restarts) [] more same = absurd (omega (arith, same))
+refused-front handle (restart ∷ restarts) (reply ∷ ended) more same =
+    ap (λ o. cond (restart.handle == handle) (refusal_told reply.answer) o) (refused-front handle restarts ended more (omega (arith, same)))
+
+for-front : (log : Option ℕ) (restarts : List RestartLine) (ended more : List LineReply) → length ended ≡ length restarts → refused_for log restarts (ended ++ more) ≡ refused_for log restarts ended
+for-front None restarts ended more same = refl
+for-front (Some handle) restarts ended more same = refused-front handle restarts ended more same
+
+get-behind : {A : Type 0} (xs ys : List A) (n m : ℕ) → m ≡ length xs + n → slice_get (xs ++ ys) m ≡ slice_get ys n
+get-behind [] ys n m is =
+    let same : m ≡ n = omega (arith, is) in
+    ap (slice_get ys) same
+get-behind (x ∷ xs) ys n zero is = absurd (omega (arith, is))
+get-behind (x ∷ xs) ys n (suc m) is = get-behind xs ys n m (omega (arith, is))
+
 -- So it is in a run.
-pub stored-lines : (u : Setup) (given : Given) (told : Answered) (taken : List Request) (past : List Entry) → IsExplained u given told taken past → (s : ℕ) (stream : StreamLine) (reply : LineReply) → slice_get given.streams s ≡ Some stream → slice_get told.replies s ≡ Some reply → stream.stored ≡ true → StoredLine u s stream reply.answer past
-stored-lines u given told taken past is s stream reply at answered stored =
+pub stored-lines : (u : Setup) (given : Given) (told : Answered) (taken : List Request) (past : List Entry) → IsExplained u given told taken past → (s : ℕ) (stream : StreamLine) (reply : LineReply) → slice_get given.streams s ≡ Some stream → slice_get told.replies (length given.restarts + s) ≡ Some reply → stream.stored ≡ true → refused_for stream.log given.restarts told.replies ≡ None → StoredLine u s stream reply.answer past
+stored-lines u given told taken past is s stream reply at answered stored kept =
     let number : 0 + s ≡ s = omega arith in
     subst (λ m. StoredLine u m stream reply.answer past) number
-    (lines-at u 0 given.streams is.setup [] is.begun past is.opened is.alone (seen-phases u _ 1 given.phases told.ticked told.stepped taken is.begun past is.ran)
-    (λ t less. refl) s stream reply at own stored)
+    (lines-at u given.restarts is.ended 0 given.streams is.setup is.restarted is.begun past is.opened (alone-back [] is.restarted is.begun first behind is.alone)
+    (seen-phases u _ 1 given.phases told.ticked told.stepped taken is.begun past is.ran)
+    (λ t less. restarts-unrecorded u t given.restarts is.ended [] is.restarted is.restarts_ended (alone-front [] is.restarted is.begun first behind is.alone) refl) s stream reply at own stored unrefused)
   where
+    first : HasSeen [] is.restarted
+    first = seen-restarts u given.restarts is.ended [] is.restarted is.restarts_ended
+
+    behind : HasSeen is.restarted is.begun
+    behind = seen-opened u given.restarts is.ended 0 given.streams is.setup is.restarted is.begun is.opened
+
+    ended_long : length is.ended ≡ length given.restarts
+    ended_long = sym (length-map is.ended (λ r. r.line)) ∙ (ap length is.restart_lines ∙ length-map given.restarts (λ l. l.line))
+
+    unrefused : refused_for stream.log given.restarts is.ended ≡ None
+    unrefused =
+        sym (for-front stream.log given.restarts is.ended (is.setup ++ is.answers) ended_long)
+        ∙ (sym (ap (λ (l : List LineReply). refused_for stream.log given.restarts l) is.replies_are) ∙ kept)
+
     long : length is.setup ≡ length given.streams
     long = sym (length-map is.setup (λ r. r.line)) ∙ (ap length is.setup_lines ∙ length-map given.streams (λ l. l.line))
 
@@ -146,7 +202,9 @@ stored-lines u given told taken past is s stream reply at answered stored =
 
     own : slice_get is.setup s ≡ Some reply
     own =
-        let whole : slice_get told.replies s ≡ Some one.0 =
-        subst (λ l. slice_get l s ≡ Some one.0) (sym is.replies_are) (before is.setup is.answers one.0 s one.1) in
+        let place : slice_get told.replies (length given.restarts + s) ≡ slice_get (is.setup ++ is.answers) s =
+        ap (λ (l : List LineReply). slice_get l (length given.restarts + s)) is.replies_are
+        ∙ (ap (λ (n : ℕ). slice_get (is.ended ++ (is.setup ++ is.answers)) (n + s)) (sym ended_long) ∙ get-behind is.ended (is.setup ++ is.answers) s (length is.ended + s) refl) in
+        let whole : slice_get told.replies (length given.restarts + s) ≡ Some one.0 = place ∙ before is.setup is.answers one.0 s one.1 in
         let same : one.0 ≡ reply = cc (whole, answered) in
         subst (λ (r : LineReply). slice_get is.setup s ≡ Some r) same one.1

@@ -144,11 +144,12 @@ has_log logs None = true
 has_log logs (Some handle) = nat_lt handle logs
 
 -- whether so many disks, logs and post routines are enough for a script: there is a disk for each stream, each log that a
--- stream names, and a routine for each line that defers a write
+-- stream or a restart names, and a routine for each line that defers a write
 abbrev pub has_devices : ℕ → ℕ → ℕ → Script → Bool
 has_devices disks logs posts script =
     nat_le (length script.streams) disks
-    && (list_all (λ stream. has_log logs stream.log) script.streams && nat_le (defer_lines script.lines) posts)
+    && (list_all (λ stream. has_log logs stream.log) script.streams
+    && (list_all (λ restart. nat_lt restart.handle logs) script.restarts && nat_le (defer_lines script.lines) posts))
 
 -- the words ask for the source's script, which was taken to its end without a fault
 pub record IsRead (i : Input) : Type 0 where

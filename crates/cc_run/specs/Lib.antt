@@ -2,13 +2,15 @@
 pub mod Desks
 pub mod Setups
 pub mod Lines
+pub mod Ends
+pub mod Restarting
+pub mod Begun
 pub mod Runs
 pub mod Rows
 pub mod Words
 pub mod CommandLine
 pub mod Disks
 pub mod Logs
-pub mod Ends
 pub mod Complete
 pub mod Main
 pub mod Ticks

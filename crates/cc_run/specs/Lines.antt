@@ -8,6 +8,8 @@ use Rattle.cc_entry.specs.declared.entry.Entry.{Entry}
 use Rattle.cc_script.specs.declared.script.Action.{Action}
 use Rattle.cc_script.specs.declared.script.ActionLine.{ActionLine}
 use Rattle.cc_script.specs.declared.script.StreamLine.{StreamLine}
+use Rattle.cc_script.specs.declared.script.RestartLine.{RestartLine}
+use Rattle.cc_pieces.specs.Restarts.{refused_for}
 use Rattle.cc_script.specs.declared.script.Script.{Script}
 use Rattle.cc_script.specs.HoldWords.{AreUsedRight, UsesRight, bound_after, bound_so_far, words_bound}
 use Rattle.cc_script.specs.declared.bound.Bound.{Bound}
@@ -119,24 +121,28 @@ pub record HaveNoWords (lines : List ActionLine) (rows : List NamesState) : Type
 abbrev pub KeepRoom : List NamesState → List NamesState → Type 0
 KeepRoom was now = map (λ names. names.room) now ≡ map (λ names. names.room) was
 
--- the streams, numbered from one on, were opened one after the other, each with a reply of its own
-abbrev pub StreamsLeft : Setup → ℕ → List StreamLine → List LineReply → Between
-StreamsLeft u s [] [] old new = new ≡ old
-StreamsLeft u s (stream ∷ streams) (reply ∷ replies) old new =
-    (between : List Entry) × Opens u s stream reply.answer old between × StreamsLeft u (suc s) streams replies between new
-StreamsLeft u s streams replies old new = ⊥
+-- the streams, numbered from one on, were opened one after the other, each with a reply of its own, behind restarts that were
+-- answered so
+abbrev pub StreamsLeft : Setup → List RestartLine → List LineReply → ℕ → List StreamLine → List LineReply → Between
+StreamsLeft u restarts ended s [] [] old new = new ≡ old
+StreamsLeft u restarts ended s (stream ∷ streams) (reply ∷ replies) old new =
+    (between : List Entry)
+    × Opens u s stream (refused_for stream.log restarts ended) reply.answer old between
+    × StreamsLeft u restarts ended (suc s) streams replies between new
+StreamsLeft u restarts ended s streams replies old new = ⊥
 
--- The streams were opened, and the replies of their lines stand behind those that were there.
-pub record StreamsOpened (u : Setup) (s : ℕ) (streams : List StreamLine) (before after : List LineReply)
-    (old new : List Entry) : Type 0 where
+-- The streams were opened, behind restarts that were answered so, and the replies of their lines stand behind those that were there.
+pub record StreamsOpened (u : Setup) (restarts : List RestartLine) (ended : List LineReply) (s : ℕ) (streams : List StreamLine)
+    (before after : List LineReply) (old new : List Entry) : Type 0 where
   pub answers : List LineReply
   pub grew : after ≡ before ++ answers
   pub lines_are : answered_lines answers ≡ map (λ stream. stream.line) streams
-  pub left : StreamsLeft u s streams answers old new
+  pub left : StreamsLeft u restarts ended s streams answers old new
 
 -- what a script gives a run
 abbrev pub given_of : Script → Given
 given_of script = record {
+  restarts = script.restarts;
   streams = script.streams;
   lines = script.lines;
   phases = script.phases;

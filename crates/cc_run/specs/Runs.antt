@@ -1,5 +1,5 @@
 -- What a script left that was run: what explains its answers, by its mode, and what comes back.
-use Rattle.std.specs.Prelude.{◌≡◌, ℕ, ◌*◌, List, [], IfSome, length, reverse}
+use Rattle.std.specs.Prelude.{◌≡◌, ℕ, ◌*◌, List, [], IfSome, drop, length, reverse}
 use Rattle.std.specs.declared.option.Option.{Option}
 use Rattle.std.specs.declared.option.Option.TheVariants.{Some, None}
 use Rattle.cc_entry.specs.declared.answer.LineReply.{LineReply}
@@ -23,6 +23,8 @@ use Rattle.cc_run.specs.Logs.{LogsLeft}
 use Rattle.cc_run.specs.Places.{AreAsyncQueued, AreQueued, taken_at}
 use Rattle.cc_run.specs.Setups.{setup_of}
 use Rattle.cc_run.specs.declared.modes.RunResult.{RunResult}
+use Rattle.cc_run.specs.declared.modes.RestartedRun.{RestartedRun}
+use Rattle.cc_run.specs.Restarting.{RanBehind}
 
 -- A past explains what a script was answered: in a run, by what each caller's lines left between two moments, and by these
 -- requests that the read-ahead worker took; in steps, by one event a line.
@@ -41,10 +43,14 @@ abbrev pub AreAsyncQueuedBy : Mode → Script → Answered → List (PlaceState 
 AreAsyncQueuedBy mode.Run script told places = AreAsyncQueued (given_of script) told places
 AreAsyncQueuedBy mode.Steps script told places = places ≡ []
 
+-- the replies of a script's lines behind those of its restarts, those of the streams first
+abbrev pub run_replies : Script → List LineReply → List LineReply
+run_replies script replies = drop (length script.restarts) replies
+
 -- the numbers of the deferred writes of a script's `defer` lines, where one was run
 abbrev pub deferrals_in : Option Script → List LineReply → List (Option ℕ)
 deferrals_in None replies = []
-deferrals_in (Some script) replies = deferrals_by script.streams script.lines replies
+deferrals_in (Some script) replies = deferrals_by script.streams script.lines (run_replies script replies)
 
 -- how many ticks a script asks for in its phases, where one was run; in steps there are none
 abbrev pub ticks_asked : Mode → Option Script → ℕ
@@ -71,3 +77,11 @@ pub record HasRun {D L Q : Type 0} (tells : Tells D L Q) (m : Mode) (script : Sc
   pub logs_left : LogsLeft tells.log tells.log_faults (reverse ran.journal.items) logs ran.logs.items
   pub posts_left : PostsLeft tells.posted (deferrals_in (Some script) ran.replies.items) (reverse ran.journal.items)
       posts ran.posts.items
+
+-- A script was run behind its restarts, over the disks and the logs that these left.
+pub record HasRunBehind {D L Q : Type 0} (tells : Tells D L Q) (m : Mode) (script : Script) (disks : List D) (logs : List L)
+    (posts : List Q) (done : RestartedRun D L Q) : Type 0 where
+  pub behind : RanBehind tells.disk tells.disk_faults tells.log tells.log_faults
+      (setup_of tells.disk tells.disk_faults script done.disks_begun.value.items done.logs_begun.value.items) script
+      done.ran.replies.items (reverse done.ran.journal.items) disks done.disks_begun.value.items logs done.logs_begun.value.items
+  pub ran : HasRun tells m script done.disks_begun.value.items done.logs_begun.value.items posts done.ran

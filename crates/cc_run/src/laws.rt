@@ -1,6 +1,6 @@
 //! What follows of how the program ended. Each function does nothing: its contract is the law.
 
-ghost use Rattle.std.specs.Prelude.{◌≡◌, ◌⊎◌, ◌<◌, ◌≤◌, ◌+◌, ◌-◌, ◌*◌, ℕ, [], ◌∷◌, List, None, Some, is_some, true, false, IfSome, Contains, slice_get, slice_index};
+ghost use Rattle.std.specs.Prelude.{◌≡◌, ◌⊎◌, ◌<◌, ◌≤◌, ◌+◌, ◌-◌, ◌*◌, ℕ, [], ◌∷◌, List, None, Some, is_some, true, false, IfSome, Contains, length, slice_get, slice_index};
 ghost use Rattle.std.specs.declared.option.Option.{Option};
 ghost use Rattle.cc_entry.specs.declared.answer.LineReply.{LineReply};
 ghost use Rattle.cc_entry.specs.declared.entry.Entry.{Entry};
@@ -14,6 +14,7 @@ ghost use Rattle.cc_model.specs.History.{history};
 ghost use Rattle.cc_model.specs.Records.{first_valid};
 ghost use Rattle.cc_model.specs.Setup.{Setup};
 ghost use Rattle.cc_pieces.specs.Explained.{Answered, Given, IsExplained};
+ghost use Rattle.cc_pieces.specs.Restarts.{refused_for};
 ghost use Rattle.cc_records.specs.Recorded.{told_valid, WasByte};
 ghost use Rattle.cc_traits.specs.Disk.{Disk, page_of, may_of};
 ghost use Rattle.cc_turns.specs.RecordPage.{record_number};
@@ -73,11 +74,12 @@ pub fn records_tell_what_was_there<D: PageDisk>()
 {}
 
 /// What follows of the clause `explained` of the program's call, of the line of a stored stream: where its record was read, what was
-/// read is what the record's page spelled at first, where the disk told its pages. For no record of the stream stands in the
-/// journal before its line.
+/// read is what the record's page spelled as the run began, where the disk told its pages. For no record of the stream stands in the
+/// journal before its line. A stream whose log was not restarted is not opened, and reads nothing.
 pub fn stored_streams_open_as_spelled()
     ensures { (u : Setup) (given : Given) (told : Answered) (taken : List Request) (past : List Entry) →
         IsExplained u given told taken past → (s : ℕ) (stream : StreamLine) (reply : LineReply) →
-        slice_get given.streams s ≡ Some stream → slice_get told.replies s ≡ Some reply → stream.stored ≡ true →
+        slice_get given.streams s ≡ Some stream → slice_get told.replies (length given.restarts + s) ≡ Some reply →
+        stream.stored ≡ true → refused_for stream.log given.restarts told.replies ≡ None →
         StoredLine u s stream reply.answer past }
 {}

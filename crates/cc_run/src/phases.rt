@@ -77,6 +77,7 @@ pub(crate) fn serve_phases<
         desk.last.entries result.0.last.entries }
     ensures run { IsSameRun (standing_of D.told D.faults L.told L.faults desk)
         (standing_of D.told D.faults L.told L.faults result.0) }
+    ensures capacity { vec_capacity replies.new ≡ vec_capacity replies.old }
     ensures ready { IsReady (standing_of D.told D.faults L.told L.faults result.0) }
 {
     let mut desk = desk;

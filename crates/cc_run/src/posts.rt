@@ -1,6 +1,6 @@
 //! The post routines of a run: what waits in the queue of deferred writes for each of them, and which are posted.
 
-ghost use Rattle.std.specs.Prelude.{◌≡◌, ◌+◌, ◌≤◌, All, Some, false, length, reverse};
+ghost use Rattle.std.specs.Prelude.{◌≡◌, ◌+◌, ◌≤◌, All, Some, false, length, reverse, vec_capacity};
 ghost use Rattle.std.specs.List.{list_any};
 ghost use Rattle.cc_script.specs.EventActions.{defer_lines, is_defer};
 ghost use Rattle.cc_pieces.specs.Steps.{PostsLeft, deferral_in, deferrals_by, deferrals_of, posts_it, was_posted};
@@ -47,6 +47,8 @@ pub(crate) fn settle<Q: PostRoutine>(
     ensures told { AreToldOnce script.now.streams script.now.lines replies.old.items replies.new.items }
     ensures posts { PostsLeft Q.posted (deferrals_by script.now.streams script.now.lines replies.new.items)
         (reverse entries.now) posts.items result.items }
+    ensures count { length replies.new.items ≡ length replies.old.items }
+    ensures capacity { vec_capacity replies.new ≡ vec_capacity replies.old }
 {
     let lines = script.lines.as_slice();
     let answers = &mut replies[script.streams.len()..];

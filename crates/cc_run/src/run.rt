@@ -1,6 +1,6 @@
 //! The run of a script: on a desk its streams are opened, its phases are served, and all comes back.
 
-ghost use Rattle.std.specs.Prelude.{◌≡◌, ◌+◌, ◌*◌, ◌≤◌, ◌++◌, [], ◌∷◌, All, IfOk, IfErr, IfSome, length, map, reverse, true, false, vec_capacity};
+ghost use Rattle.std.specs.Prelude.{◌≡◌, List, ◌+◌, ◌*◌, ◌≤◌, ◌++◌, [], ◌∷◌, All, IfOk, IfErr, IfSome, length, map, reverse, true, false, vec_capacity};
 ghost use Rattle.cc_journal.specs.Capacity.{IsWithinCapacity};
 ghost use Rattle.cc_model.specs.Good.{IsGood};
 ghost use Rattle.cc_turns.specs.Desk.{IsFresh, standing_of, tells_of};
@@ -19,13 +19,19 @@ ghost use Rattle.cc_run.specs.Places.{AreAsyncQueued, AreQueued, new_places, que
 ghost use Rattle.cc_queue.specs.Places.{new_place};
 ghost use Rattle.cc_turns.specs.Places.{IsRoomFor};
 ghost use Rattle.std.specs.List.{AllByRecursion};
-ghost use Rattle.cc_run.specs.Runs.{HasRun};
+ghost use Rattle.cc_run.specs.Runs.{HasRun, run_replies};
+ghost use Rattle.cc_entry.specs.declared.entry.Entry.{Entry};
+ghost use Rattle.cc_run.specs.Begun.{HasBegun};
+ghost use Rattle.cc_run.specs.Desks.{IsReady, IsSameRun};
+ghost use Rattle.cc_run.specs.Restarting.{AreEndsOf, RestartsTold};
+ghost use Rattle.cc_run.specs.Setups.{setup_of};
 
 use crate::aheads::Aheads;
 use crate::modes::{MOST_DISKS, MOST_LOGS, RunResult};
 use crate::openings::open_streams;
 use crate::phases::serve_phases;
 use crate::posts::{Mark, settle};
+use crate::restarts::end_restarts;
 use crate::row::{first_of, put_back};
 use crate::table::printed_rows;
 use crate::ticks::Ticks;
@@ -34,6 +40,7 @@ use cc_entry::{LineReply, NoMemory, Request};
 use cc_journal::Parts;
 use cc_lines::{Names, Places, Queues};
 use cc_queue::QueuePlace;
+use cc_restarts::LogRestart;
 use cc_script::Script;
 use cc_traits::{Gate, LogFile, PageDisk, PostRoutine, Setup};
 use cc_turns::Desk;
@@ -47,8 +54,8 @@ const CALLERS: usize = 16;
 /// The passes that have a place at the queue of read-ahead: the callers and the two workers.
 const PLACES: usize = CALLERS + 2;
 
-/// Runs a script over the first disks that are handed in, 16 at most, and the first logs, 4 at most, which come back
-/// with the others. Where memory is wanting before the run begins, they come back as they were.
+/// Runs a script, whose restarts ended so, over the first disks that are handed in, 16 at most, and the first logs, 4 at most,
+/// which come back with the others. Where memory is wanting before the run begins, they come back as they were.
 pub(crate) fn run_script<
     R: Threads + Wait + Sync,
     D: PageDisk + Send,
@@ -59,6 +66,7 @@ pub(crate) fn run_script<
     rt: &R,
     alloc: Global,
     script: &Script,
+    ended: &[LogRestart],
     gate: &P,
     disks: Vec<D>,
     logs: Vec<L>,
@@ -68,16 +76,22 @@ pub(crate) fn run_script<
     requires of_mode { IsOfMode mode.Run script.now }
     requires enough { has_devices (length disks.items) (length logs.items) (length posts.items) script.now ≡ true }
     requires posts { All (λ routine. Q.posted routine ≡ false) posts.items }
+    requires ended { AreEndsOf script.now.restarts ended.now }
     ensures ran { IfOk result (HasRun (tells_of D.told D.faults L.told L.faults Q.posted) mode.Run script.now
         disks.items logs.items posts.items) }
+    ensures told { IfOk result (λ ran. RestartsTold (setup_of D.told D.faults script.now disks.items logs.items) ended.now
+        ran.replies.items (reverse ran.journal.items)) }
     ensures kept { IfErr result (λ back. back.0.items ≡ disks.items) }
     ensures logs_kept { IfErr result (λ back. back.1.items ≡ logs.items) }
     ensures posts_kept { IfErr result (λ back. back.2.items ≡ posts.items) }
 {
     let mut rest = disks;
     let mut further = logs;
-    let count = script.streams.len() + script.lines.as_slice().len();
+    let count = ended.len() + script.streams.len() + script.lines.as_slice().len();
     let Ok(replies) = Vec::with_capacity(alloc, count) else {
+        return Err((rest, further, posts));
+    };
+    let Ok(told) = Vec::with_capacity(alloc, ended.len()) else {
         return Err((rest, further, posts));
     };
     let Ok((queues, mut first)) = Queues::new(alloc) else {
@@ -136,6 +150,8 @@ pub(crate) fn run_script<
                 desk,
                 &queues,
                 names,
+                ended,
+                told,
                 replies,
                 ticks,
                 aheads,
@@ -203,6 +219,8 @@ fn run_on<
     desk: Desk<D, L, Mark>,
     queues: &Queues,
     names: Vec<Names>,
+    ended: &[LogRestart],
+    told: Vec<LineReply>,
     replies: Vec<LineReply>,
     ticks: Ticks,
     aheads: Aheads,
@@ -219,7 +237,10 @@ fn run_on<
     requires deferring { defer_lines script.now.lines ≤ length posts.items }
     requires unposted { All (λ routine. Q.posted routine ≡ false) posts.items }
     requires none { replies.items ≡ [] }
-    requires room { length script.now.streams + length script.now.lines ≤ vec_capacity replies }
+    requires ended { AreEndsOf script.now.restarts ended.now }
+    requires none_told { told.items ≡ [] }
+    requires told_room { length ended.now ≤ vec_capacity told }
+    requires room { length ended.now + (length script.now.streams + length script.now.lines) ≤ vec_capacity replies }
     requires ticks { ticks.each ≡ script.now.ticks }
     requires no_ticks { ticks.answers.items ≡ [] }
     requires tick_room { script.now.ticks * script.now.phases ≤ vec_capacity ticks.answers }
@@ -236,6 +257,8 @@ fn run_on<
     ensures explained { IsExplained (standing_of D.told D.faults L.told L.faults desk).setup
         (given_of script.now) (run_answered result.replies.items result.ticks.items result.aheads.items)
         (taken_at result.places.items) (reverse result.journal.items) }
+    ensures told { RestartsTold (standing_of D.told D.faults L.told L.faults desk).setup ended.now result.replies.items
+        (reverse result.journal.items) }
     ensures queued { AreQueued (given_of script.now) (run_answered result.replies.items result.ticks.items result.aheads.items)
         result.places.items (reverse result.journal.items) }
     ensures async_queued { AreAsyncQueued (given_of script.now)
@@ -246,13 +269,15 @@ fn run_on<
         (length desk.begun.disks) (reverse result.journal.items) result.disks.items }
     ensures logs { LogsStand L.told L.faults (standing_of D.told D.faults L.told L.faults desk).logs
         (length desk.begun.logs) (reverse result.journal.items) result.logs.items }
-    ensures posts { PostsLeft Q.posted (deferrals_by script.now.streams script.now.lines result.replies.items)
+    ensures posts { PostsLeft Q.posted
+        (deferrals_by script.now.streams script.now.lines (run_replies script.now result.replies.items))
         (reverse result.journal.items) posts.items result.posts.items }
 {
     let mut desk = desk;
+    let mut told = told;
     let mut replies = replies;
     let mut ticks = ticks;
-    open_streams(alloc, &mut desk, script.streams.as_slice(), &mut replies);
+    begin_run(alloc, &mut desk, script, ended, &mut told, &mut replies);
     let (desk, names, aheads) = serve_phases(
         rt,
         alloc,
@@ -280,8 +305,9 @@ fn run_on<
         ..
     } = desk.end();
     let posts = settle(script, &mut replies, &journal, posts);
+    replies.reverse();
     RunResult {
-        replies,
+        replies: put_back(told, replies),
         ticks: ticks.answers,
         aheads,
         places,
@@ -292,6 +318,45 @@ fn run_on<
         logs,
         posts,
     }
+}
+
+// Ends the restarts of a script and opens its streams, as pass 0, and puts the answers of their lines into the room that is there.
+fn begin_run<D: PageDisk, L: LogFile, Q: PostRoutine>(
+    alloc: Global,
+    desk: &mut Desk<D, L, Q>,
+    script: &Script,
+    ended: &[LogRestart],
+    told: &mut Vec<LineReply>,
+    replies: &mut Vec<LineReply>,
+)
+    requires first { desk.old.pass ≡ 0 }
+    requires begins { desk.old.since ≡ desk.old.last.entries }
+    requires ready { IsReady (standing_of D.told D.faults L.told L.faults desk.old) }
+    requires empty { desk.old.last.entries ≡ [] }
+    requires known { length script.now.streams ≤ (standing_of D.told D.faults L.told L.faults desk.old).streams }
+    requires few { length script.now.streams ≤ 16 }
+    requires ended { AreEndsOf script.now.restarts ended.now }
+    requires none_told { told.old.items ≡ [] }
+    requires told_room { length ended.now ≤ vec_capacity told.old }
+    requires none { replies.old.items ≡ [] }
+    requires room { length script.now.streams ≤ vec_capacity replies.old }
+    ensures begun { (ends : List Entry) × HasBegun (standing_of D.told D.faults L.told L.faults desk.old).setup script.now ended.now
+        told.new.items replies.new.items ends desk.new.last.entries }
+    ensures run { IsSameRun (standing_of D.told D.faults L.told L.faults desk.old)
+        (standing_of D.told D.faults L.told L.faults desk.new) }
+    ensures ready { IsReady (standing_of D.told D.faults L.told L.faults desk.new) }
+    ensures capacity { vec_capacity replies.new ≡ vec_capacity replies.old }
+{
+    end_restarts(desk, ended, told);
+    desk.act_as(0);
+    open_streams(
+        alloc,
+        desk,
+        script.restarts.as_slice(),
+        told,
+        script.streams.as_slice(),
+        replies,
+    );
 }
 
 // The places of all passes at each queue, from the first pass on: those of the callers, and at the queue of read-ahead that of the

@@ -19,11 +19,12 @@ ghost use Rattle.cc_run.specs.Words.{command_of, is_reading, mode_by, mode_in, r
 ghost use Rattle.cc_run.specs.declared.words.Command.TheVariants as asked;
 ghost use Rattle.cc_run.specs.Lines.{run_answered};
 ghost use Rattle.cc_run.specs.Places.{taken_at};
+ghost use Rattle.cc_run.specs.Begun.{IsBegun};
 ghost use Rattle.cc_run.specs.Runs.{AreAsyncQueuedBy, AreQueuedBy, IsExplainedBy, deferrals_in, ticks_asked};
 
 use crate::devices::has_devices;
 use crate::intake::{IntakeError, take_all};
-use crate::modes::{RunResult, run_in_mode};
+use crate::modes::{RestartedRun, RunResult, run_in_mode};
 use crate::no_run::{NoRun, syntax_text};
 use crate::output::{OutputError, put_all};
 use crate::words::{Command, read_words};
@@ -34,6 +35,7 @@ use cc_queue::QueuePlace;
 use cc_script::{Mode, Script, ScriptFault, generate, read_script};
 use cc_traits::{Gate, LogFile, PageDisk, PostRoutine, Sink, Source};
 use std::alloc::Global;
+use std::snapshot::Snapshot;
 use std::sync::Wait;
 use std::thread::Threads;
 
@@ -47,7 +49,7 @@ pub struct Ended<D, L = Box<dyn LogFile + Send>, Q = Box<dyn PostRoutine + Send>
     /// The script that was run, where one was: at the statuses 0 and 4, and at 6 where memory was wanting
     /// after the run began.
     pub script: Option<Script>,
-    /// The answer of each line, those of the streams first.
+    /// The answer of each line, those of the restarts and then those of the streams first.
     pub replies: Vec<LineReply>,
     /// The answers of the lazy writer's ticks in their order, with the number of the phase, from 1, as line.
     pub ticks: Vec<LineReply>,
@@ -63,6 +65,10 @@ pub struct Ended<D, L = Box<dyn LogFile + Send>, Q = Box<dyn PostRoutine + Send>
     pub disks: Vec<D>,
     pub logs: Vec<L>,
     pub posts: Vec<Q>,
+    /// The disks and the logs as the run began: as they were handed in, but for what the restarts of the script did. Nothing of
+    /// them is kept; clauses alone see them.
+    pub disks_begun: Snapshot<Vec<D>>,
+    pub logs_begun: Snapshot<Vec<L>>,
 }
 
 /// A script, and the command that asked for it.
@@ -84,6 +90,8 @@ struct Report<D, L, Q> {
     disks: Vec<D>,
     logs: Vec<L>,
     posts: Vec<Q>,
+    disks_begun: Snapshot<Vec<D>>,
+    logs_begun: Snapshot<Vec<L>>,
 }
 
 /// Puts out why no run was made, as far as the sink takes it. What ends the program is answered: where
@@ -124,9 +132,14 @@ fn refused<K: Sink, D, L, Q>(
     ensures disks { result.disks ≡ disks }
     ensures logs { result.logs ≡ logs }
     ensures posts { result.posts ≡ posts }
+    ensures status { why ≡ NoRun.NoMemory → result.status ≡ 6 }
+    ensures disks_begun { result.disks_begun.value ≡ disks }
+    ensures logs_begun { result.logs_begun.value ≡ logs }
     ensures refused { (i : Input) → IsCause i why → IsRefused i (output K.told K.faults K.stalls out.old out.new) result.status }
 {
     let why = put_fault(alloc, out, why);
+    let disks_begun = Snapshot::of(&disks);
+    let logs_begun = Snapshot::of(&logs);
     Report {
         status: why.status(),
         script: None,
@@ -139,6 +152,8 @@ fn refused<K: Sink, D, L, Q>(
         disks,
         logs,
         posts,
+        disks_begun,
+        logs_begun,
     }
 }
 
@@ -276,7 +291,8 @@ fn conduct<
     gate: &P,
 ) -> Report<D, L, Q>
     requires posts { All (λ routine. Q.posted routine ≡ false) posts.items }
-    ensures good { (u : Setup) → IsSetupOf D.told D.faults result.script disks.items logs.items u →
+    ensures good { (u : Setup) → IsSetupOf D.told D.faults result.script result.disks_begun.value.items
+        result.logs_begun.value.items u →
         IsGood u (reverse result.journal.items) }
     ensures within { IfSome result.script (λ made. IsWithinCapacity made.journal (reverse result.journal.items)) }
     ensures ended { IsEnded
@@ -285,7 +301,7 @@ fn conduct<
         (output K.told K.faults K.stalls out.old out.new)
         result.script result.replies.items result.journal.items result.status }
     ensures explained { IfSome result.script (λ made. IsExplainedBy (mode_in (map string_bytes words.now))
-        (setup_of D.told D.faults made disks.items logs.items) made
+        (setup_of D.told D.faults made result.disks_begun.value.items result.logs_begun.value.items) made
         (run_answered result.replies.items result.ticks.items result.aheads.items)
         (taken_at result.places.items) (reverse result.journal.items)) }
     ensures queued { IfSome result.script (λ made. AreQueuedBy (mode_in (map string_bytes words.now)) made
@@ -300,12 +316,18 @@ fn conduct<
     ensures untouched { reads_source (map string_bytes words.now) ≡ false → source.new ≡ source.old }
     ensures given { WasTaken (S.told source.old) (S.told source.new) (S.given source.old) (S.given source.new) }
     ensures bounded { length (S.given source.new) ≤ length (S.given source.old) + 16777217 }
-    ensures disks { DisksLeft D.told D.faults (reverse result.journal.items) disks.items result.disks.items }
-    ensures logs { LogsLeft L.told L.faults (reverse result.journal.items) logs.items result.logs.items }
+    ensures disks { DisksLeft D.told D.faults (reverse result.journal.items) result.disks_begun.value.items
+        result.disks.items }
+    ensures logs { LogsLeft L.told L.faults (reverse result.journal.items) result.logs_begun.value.items result.logs.items }
     ensures posts { PostsLeft Q.posted (deferrals_in result.script result.replies.items) (reverse result.journal.items)
         posts.items result.posts.items }
-    ensures disks_unused { result.script ≡ None → result.disks.items ≡ disks.items }
-    ensures logs_unused { result.script ≡ None → result.logs.items ≡ logs.items }
+    ensures restarted { IsBegun D.told D.faults L.told L.faults
+        (input S.told S.faults S.given S.ended (map string_bytes words.now) source.old source.new
+        (length disks.items) (length logs.items) (length posts.items))
+        result.script result.replies.items (reverse result.journal.items) result.status
+        disks.items result.disks_begun.value.items logs.items result.logs_begun.value.items }
+    ensures disks_unused { result.script ≡ None → result.disks.items ≡ result.disks_begun.value.items }
+    ensures logs_unused { result.script ≡ None → result.logs.items ≡ result.logs_begun.value.items }
     ensures unused { result.script ≡ None → result.posts.items ≡ posts.items }
     ensures faultless { RanWithoutFault D.faults L.faults disks.items result.disks.items logs.items result.logs.items
         (result.replies.items ++ result.ticks.items ++ result.aheads.items) (reverse result.journal.items) }
@@ -321,12 +343,17 @@ fn conduct<
         Ok(prepared) => prepared,
         Err(why) => return refused(alloc, out, why, disks, logs, posts),
     };
-    let ran = match run_in_mode(rt, alloc, command.mode(), &script, gate, disks, logs, posts) {
-        Ok(ran) => ran,
+    let done = match run_in_mode(rt, alloc, command.mode(), &script, gate, disks, logs, posts) {
+        Ok(done) => done,
         Err((disks, logs, posts)) => {
             return refused(alloc, out, NoRun::NoMemory, disks, logs, posts);
         }
     };
+    let RestartedRun {
+        disks_begun,
+        logs_begun,
+        ran,
+    } = done;
     let status = print(alloc, out, command, &script, &ran);
     let RunResult {
         replies,
@@ -352,6 +379,8 @@ fn conduct<
         disks,
         logs,
         posts,
+        disks_begun,
+        logs_begun,
     }
 }
 
@@ -361,7 +390,8 @@ fn conduct<
 /// whoever hands in the disks: the callers of a phase make the calls of their lines on threads, the lazy writer its ticks, and
 /// the read-ahead worker its steps, phase after phase.
 /// `steps FILE`: the lines are events, one after the other. `gen N`: so are those of the script that is generated of N,
-/// whose summary is the text; the source is not touched. Whatever is handed in, the journal that is given back is good
+/// whose summary is the text; the source is not touched. Before a run the streams that are stored are restarted from the logs
+/// that the script's `restart` lines name. Whatever is handed in, the journal that is given back is good
 /// over the pages that the disks tell, and it is what happened, also where memory was wanting after the run began. Over
 /// each front of it the entries, and the places that they reserve, are within the script's capacity.
 pub fn cache_main<
@@ -384,13 +414,21 @@ pub fn cache_main<
     gate: &P,
 ) -> Ended<D, L, Q>
     requires posts { All (λ routine. Q.posted routine ≡ false) posts.items }
-    // What happened: the journal is good over the pages that the disks told, was always within the script's capacity, and
-    // explains every answer.
-    ensures good { (u : Setup) → IsSetupOf D.told D.faults result.script disks.items logs.items u →
-        IsGood u (reverse result.journal.items) }
+    // With what the run began: the restarts of the script were made on what was handed in, one after the other, each by its log
+    // and over the streams that are stored and have it, and the first answers tell how each ended; without restarts, and in steps,
+    // it is what was handed in. So it is without a run too, but where memory was wanting behind the restarts.
+    ensures restarted { IsBegun D.told D.faults L.told L.faults
+        (input S.told S.faults S.given S.ended (map string_bytes words.now) script.old script.new
+        (length disks.items) (length logs.items) (length posts.items))
+        result.script result.replies.items (reverse result.journal.items) result.status
+        disks.items result.disks_begun.value.items logs.items result.logs_begun.value.items }
+    // What happened: the journal is good over the pages that the disks told as the run began, was always within the script's
+    // capacity, and explains every answer.
+    ensures good { (u : Setup) → IsSetupOf D.told D.faults result.script result.disks_begun.value.items
+        result.logs_begun.value.items u → IsGood u (reverse result.journal.items) }
     ensures within { IfSome result.script (λ made. IsWithinCapacity made.journal (reverse result.journal.items)) }
     ensures explained { IfSome result.script (λ made. IsExplainedBy (mode_in (map string_bytes words.now))
-        (setup_of D.told D.faults made disks.items logs.items) made
+        (setup_of D.told D.faults made result.disks_begun.value.items result.logs_begun.value.items) made
         (record { replies = result.replies.items; ticked = result.ticks.items; stepped = result.aheads.items })
         (taken_at result.places.items) (reverse result.journal.items)) }
     // What the passes have at the one queue of read-ahead of a run: each pushed the requests that its done calls for read-ahead
@@ -416,17 +454,18 @@ pub fn cache_main<
         (output K.told K.faults K.stalls out.old out.new)
         result.script result.replies.items result.journal.items result.status }
     ensures untouched { reads_source (map string_bytes words.now) ≡ false → script.new ≡ script.old }
-    // What comes back: the disks and the logs as the journal says; and the routines, one posted exactly where the deferral of
-    // its line was.
-    ensures disks { DisksLeft D.told D.faults (reverse result.journal.items) disks.items result.disks.items }
-    ensures logs { LogsLeft L.told L.faults (reverse result.journal.items) logs.items result.logs.items }
+    // What comes back: the disks and the logs as the run began with them, and the journal says; and the routines, one posted exactly
+    // where the deferral of its line was.
+    ensures disks { DisksLeft D.told D.faults (reverse result.journal.items) result.disks_begun.value.items
+        result.disks.items }
+    ensures logs { LogsLeft L.told L.faults (reverse result.journal.items) result.logs_begun.value.items result.logs.items }
     ensures posts { PostsLeft Q.posted (deferrals_in result.script result.replies.items) (reverse result.journal.items)
         posts.items result.posts.items }
-    // Without a run, all of them come back as they were.
-    ensures disks_unused { result.script ≡ None → result.disks.items ≡ disks.items }
-    ensures logs_unused { result.script ≡ None → result.logs.items ≡ logs.items }
+    // Without a run, all of them come back so.
+    ensures disks_unused { result.script ≡ None → result.disks.items ≡ result.disks_begun.value.items }
+    ensures logs_unused { result.script ≡ None → result.logs.items ≡ result.logs_begun.value.items }
     ensures unused { result.script ≡ None → result.posts.items ≡ posts.items }
-    // Where no count of faults rose, no failure stands in the journal, and no answer tells one.
+    // Where no count of faults rose, in the restarts and in the run, no failure stands in the journal, and no answer tells one.
     ensures faultless { RanWithoutFault D.faults L.faults disks.items result.disks.items logs.items result.logs.items
         (result.replies.items ++ result.ticks.items ++ result.aheads.items) (reverse result.journal.items) }
     // So many ticks are answered as the script has in its phases, none without a run and none in steps; and no step of read-ahead
@@ -446,6 +485,8 @@ pub fn cache_main<
         disks,
         logs,
         posts,
+        disks_begun,
+        logs_begun,
     } = conduct(rt, alloc, words, script, out, disks, logs, posts, gate);
     Ended {
         status,
@@ -459,5 +500,7 @@ pub fn cache_main<
         disks,
         logs,
         posts,
+        disks_begun,
+        logs_begun,
     }
 }

@@ -110,6 +110,8 @@ fn run<R: Threads + Wait + Sync, S: Source, K: Sink, D: PageDisk + Send + Drop, 
         disks: _disks,
         logs: _logs,
         posts: _posts,
+        disks_begun: _disks_begun,
+        logs_begun: _logs_begun,
     } = cache_main(rt, alloc, words, script, out, disks, logs, posts, &Free);
     Ok(status)
 }

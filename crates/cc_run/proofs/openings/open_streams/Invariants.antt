@@ -16,5 +16,5 @@ invariant-loop-stream g l =
       number : l.number ≡ l.stream-index;
       long : length l.replies.items ≡ length l.initial.replies.items + l.stream-index;
       room : vec_capacity l.replies ≡ vec_capacity l.initial.replies;
-      opened : StreamsOpened (at l.initial.desk).setup 0 (take l.stream-index l.streams) l.initial.replies.items l.replies.items l.initial.desk.last.entries l.desk.last.entries;
+      opened : StreamsOpened (at l.initial.desk).setup l.restarts l.ended 0 (take l.stream-index l.streams) l.initial.replies.items l.replies.items l.initial.desk.last.entries l.desk.last.entries;
     }

@@ -10,6 +10,7 @@ use Rattle.cc_run.specs.Disks.{DisksStand}
 use Rattle.cc_run.specs.Lines.{given_of, run_answered}
 use Rattle.cc_run.specs.Logs.{LogsStand}
 use Rattle.cc_run.specs.Places.{taken_at}
+use Rattle.cc_run.specs.Restarting.{RestartsTold}
 use Rattle.cc_run.proofs.RowSteps.{reverse_twice}
 use Rattle.cc_run.proofs.RunSteps.{setup-is, enough-disks, enough-posts}
 use Rattle.cc_run.proofs.DiskSteps.{disks-left}
@@ -104,6 +105,19 @@ put_back-requires g c =
       c.in-Ok-first_of.ensures.room,
     )
 
+pub put_back-requires-in-Err : goal.put_back-requires-in-Err
+put_back-requires-in-Err g c =
+    omega (
+      arith,
+      ap (λ s. length s.disks.items) c.in-Err.ensures.err.0,
+      ap length c.in-Ok-first_of.ensures.first,
+      ap length c.in-Ok-first_of.ensures.left,
+      length-reverse (drop 16 c.args.disks.items),
+      length-append (take 16 c.args.disks.items) (drop 16 c.args.disks.items),
+      ap length (take-append-drop 16 c.args.disks.items),
+      c.in-Ok-first_of.ensures.room,
+    )
+
 pub returns-in-Err-clause-kept : goal.returns-in-Err-clause-kept
 returns-in-Err-clause-kept g c =
     c.put_back-in-Err.ensures
@@ -126,3 +140,10 @@ returns-in-Err-clause-logs_kept g c =
     ∙ (ap (λ l. l ++ reverse c.first_of-2.new.row.items) c.in-Ok-first_of-2.ensures.first
     ∙ (ap (λ l. take 4 c.args.logs.items ++ l) (ap reverse c.in-Ok-first_of-2.ensures.left ∙ reverse_twice (drop 4 c.args.logs.items))
     ∙ take-append-drop 4 c.args.logs.items)))
+
+-- the restarts are told over the setup of the script
+pub returns-in-Ok-new-2-clause-told : goal.returns-in-Ok-new-2-clause-told
+returns-in-Ok-new-2-clause-told g c =
+    let past = reverse c.run_on-replies.result.journal.items in
+    let setup = setup-is g.D.Told.told g.D.Told.faults g.L.LogFile.told g.L.LogFile.faults c.in-Ok-new-2.desk _ c.args.script.now c.args.disks.items c.args.logs.items c.in-Ok-new-2.ensures.fresh.begun_is c.in-Ok-first_of.ensures.first c.in-Ok-first_of-2.ensures.first refl refl in
+    subst (λ u. RestartsTold u c.args.ended.now c.run_on-replies.result.replies.items past) setup c.run_on-replies.ensures.told

@@ -100,9 +100,10 @@ returns-in-Ok-run_steps-clause-ran g c =
           (logs-ended g.D.Told.told g.D.Told.faults g.L.LogFile.told g.L.LogFile.faults g.Q.PostRoutine.posted world c.end-replies.result.logs.items c.end-replies.ensures.logs)))
           (c.put_back-in-Ok-run_steps-2.ensures ∙ ap (λ l. c.end-replies.result.logs.items ++ l) (ap reverse c.in-Ok-first_of.ensures.left ∙ reverse_twice (drop 4 c.args.logs.items)));
       posts_left =
-          rw (is, c.end-replies.ensures.replies)
+          subst (λ rs. PostsLeft g.Q.PostRoutine.posted (deferrals_by c.args.script.now.streams c.args.script.now.lines (drop (length rs) c.end-replies.result.replies.items)) past c.args.posts.items c.end-replies.result.posts.items) (sym c.requires.of_mode.restarts)
+          (rw (is, c.end-replies.ensures.replies)
           (subst (λ ps. PostsLeft g.Q.PostRoutine.posted (deferrals_by c.args.script.now.streams c.args.script.now.lines c.in-Ok-run_steps.ran.replies) world.journal.entries ps c.end-replies.result.posts.items) c.in-Ok-run_steps.ensures.posts
-          (subst (λ deferrals. PostsLeft g.Q.PostRoutine.posted deferrals world.journal.entries c.in-Ok-run_steps.ran.posts c.end-replies.result.posts.items) c.in-Ok-run_steps.ensures.deferrals c.end-replies.ensures.posts));
+          (subst (λ deferrals. PostsLeft g.Q.PostRoutine.posted deferrals world.journal.entries c.in-Ok-run_steps.ran.posts c.end-replies.result.posts.items) c.in-Ok-run_steps.ensures.deferrals c.end-replies.ensures.posts)));
     }
 
 pub returns-in-Err-clause-kept : goal.returns-in-Err-clause-kept
