@@ -38,6 +38,8 @@ pub struct Left<'a> {
     pub passed: u64,
     /// What the journal says of the record page of each disk.
     pub records: Vec<MayTell>,
+    /// Whether the script restarts a log, which writes records without an entry.
+    pub restarts: bool,
     pub source: CaseSource<'a>,
     pub sink: CaseSink<'a>,
     pub disks: Vec<CaseDisk<'a>>,
@@ -101,6 +103,8 @@ pub fn run_once<'a, R: Threads + Wait + Sync>(
         disks,
         logs,
         posts,
+        disks_begun: _disks_begun,
+        logs_begun: _logs_begun,
     } = cache_main(
         rt,
         alloc,
@@ -125,6 +129,7 @@ pub fn run_once<'a, R: Threads + Wait + Sync>(
         async_places: found_async(alloc, &async_places)?,
         passed: stage.moments.passed(),
         records: records(alloc, &journal, disks.len())?,
+        restarts: script.lines().any(|line| line.starts_with("restart ")),
         source,
         sink,
         disks,
