@@ -67,11 +67,8 @@ fn a_routine_comes_back_from_a_full_queue(rt: HostRuntime) -> Result<(), Fail> {
     };
     let mut desk = desk_of(alloc, vec![in alloc; disk(alloc)]?, 128)?;
     desk.act_as(1);
-    assert_eq!(rt;
-        initialize(alloc, &mut desk, file, sizes, quota, false),
-        Ok(())
-    );
-    assert!(rt; defer_pages(&mut desk, file, 64));
+    let begun = initialize(alloc, &mut desk, file, sizes, quota, false);
+    let deferred = defer_pages(&mut desk, file, 64);
     let refused = defer(&mut desk, file, 4096, false, unposted(65));
     let Parts {
         journal,
@@ -79,13 +76,12 @@ fn a_routine_comes_back_from_a_full_queue(rt: HostRuntime) -> Result<(), Fail> {
         ..
     } = desk.end();
     let (routine, error) = refused.err().ok_or("it was deferred")?;
+    let back = queued
+        .iter()
+        .all(|(id, routine)| *id == routine.number && !routine.posted);
+    assert_eq!(rt; (begun, deferred, back), (Ok(()), true, true));
     assert_eq!(rt; (routine.number, routine.posted), (65, false));
     assert_eq!(rt; error, CcError::QueueFull);
     assert_eq!(rt; (journal.len(), queued.len()), (65, 64));
-    assert!(rt;
-        queued
-            .iter()
-            .all(|(id, routine)| *id == routine.number && !routine.posted)
-    );
     Ok(())
 }

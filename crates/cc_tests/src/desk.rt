@@ -8,7 +8,7 @@ use cc_calls::{initialize, set_log_handle};
 use cc_entry::{CcError, FileId, FileSizes, Quota};
 use cc_journal::Parts;
 use cc_memdev::{DiskFails, LogFails, MemDisk, MemLog};
-use cc_traits::{PostRoutine, Setup};
+use cc_traits::{PageDisk, PostRoutine, Setup};
 use cc_turns::{Desk, Turns};
 use std::alloc::Global;
 use std::test::Fail;
@@ -39,11 +39,11 @@ pub(crate) fn desk(alloc: Global) -> Result<Desk<MemDisk, MemLog, Routine>, Fail
 }
 
 /// The same of these disks, over other post routines, with a journal of so many entries.
-pub(crate) fn desk_of<Q: PostRoutine>(
+pub(crate) fn desk_of<D: PageDisk + Drop, Q: PostRoutine>(
     alloc: Global,
-    disks: Vec<MemDisk>,
+    disks: Vec<D>,
     journal: u64,
-) -> Result<Desk<MemDisk, MemLog, Q>, Fail>
+) -> Result<Desk<D, MemLog, Q>, Fail>
     requires few { length disks.items ≤ 2 }
     requires room { (64 ≤ journal) × (journal ≤ 128) }
     ensures { IfOk result (λ desk. IsFresh desk.begun desk × (length desk.begun.disks ≡ length disks.items)) }
@@ -79,25 +79,19 @@ fn a_desk_is_made_acted_on_and_ended(rt: HostRuntime) -> Result<(), Fail> {
     };
     let mut desk = desk(alloc)?;
     desk.act_as(3);
-    assert_eq!(rt; (desk.me(), desk.streams(), desk.logs()), (3, 1, 4));
-    assert_eq!(rt;
-        initialize(alloc, &mut desk, file, sizes, quota, false),
-        Ok(())
-    );
-    assert_eq!(rt;
-        set_log_handle(alloc, &mut desk, file, 4),
-        Err(CcError::NoLog { handle: 4 })
-    );
-    assert_eq!(rt; desk.journal().entries().len(), 2);
+    let made = (desk.me(), desk.streams(), desk.logs());
+    let begun = initialize(alloc, &mut desk, file, sizes, quota, false);
+    let refused = set_log_handle(alloc, &mut desk, file, 4);
+    let entries = desk.journal().entries().len();
     let Parts {
         disks,
         logs,
         journal,
         queued,
     } = desk.end();
-    assert_eq!(rt;
-        (disks.len(), logs.len(), journal.len(), queued.len()),
-        (1, 4, 2, 0)
-    );
+    let ended = (disks.len(), logs.len(), journal.len(), queued.len());
+    assert_eq!(rt; (made, entries, ended), ((3, 1, 4), 2, (1, 4, 2, 0)));
+    assert_eq!(rt; begun, Ok(()));
+    assert_eq!(rt; refused, Err(CcError::NoLog { handle: 4 }));
     Ok(())
 }

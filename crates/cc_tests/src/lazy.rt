@@ -18,19 +18,12 @@ fn a_page_is_written_and_then_skipped(rt: HostRuntime) -> Result<(), Fail> {
     };
     let mut desk = desk(alloc)?;
     desk.act_as(1);
-    assert_eq!(rt;
-        initialize(alloc, &mut desk, file, sizes, quota, false),
-        Ok(())
-    );
-    assert_eq!(rt; copy_write(alloc, &mut desk, file, 0, b"bytes"), Ok(()));
-    assert_eq!(rt;
-        matches!(write_one(&mut desk, page), Ok(PageWrite::Written)),
-        true
-    );
-    assert_eq!(rt;
-        matches!(write_one(&mut desk, page), Ok(PageWrite::Skipped)),
-        true
-    );
+    let begun = initialize(alloc, &mut desk, file, sizes, quota, false);
+    let copied = copy_write(alloc, &mut desk, file, 0, b"bytes");
+    let written = matches!(write_one(&mut desk, page), Ok(PageWrite::Written));
+    let skipped = matches!(write_one(&mut desk, page), Ok(PageWrite::Skipped));
     desk.end();
+    assert_eq!(rt; (begun, copied), (Ok(()), Ok(())));
+    assert_eq!(rt; (written, skipped), (true, true));
     Ok(())
 }

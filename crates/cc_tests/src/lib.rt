@@ -12,6 +12,8 @@ mod ahead;
 #[cfg(test)]
 mod board;
 #[cfg(test)]
+mod checkpoint;
+#[cfg(test)]
 mod deferrals;
 #[cfg(test)]
 mod desk;
@@ -25,6 +27,8 @@ mod folder;
 mod format;
 #[cfg(test)]
 mod lazy;
+#[cfg(test)]
+mod redo;
 #[cfg(test)]
 mod script;
 #[cfg(test)]
