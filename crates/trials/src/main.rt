@@ -1,0 +1,103 @@
+//! The program of trials that take longer than the gate gives: its first word chooses one, and without a word it ends at once.
+//!
+//! `restarts N SEED` stops N drawn scripts at each of their calls on devices, and restarts what a crash may leave of them; a
+//! third word leaves something out on purpose, and the trial has to fail then. `costs N` counts the calls of a restart over a log
+//! of N updates. `files SCRIPT FOLDER` runs a script over the files of a folder, and notes each line as soon as it is answered, so
+//! that whoever stops the program knows which were.
+//!
+//! `stream` says what the streams of a trial are, `script` draws a script over them, `draws` is what all is drawn from.
+//! `devices` has disks and logs that stop together, `runs` what is run over them, `image` what a crash leaves of them. `model`
+//! has the plain files by which an image is judged, and knows nothing of the cache or of a restart. `restarts`, `costs` and
+//! `files` are the trials.
+#![tactic(auto)]
+
+mod costs;
+mod devices;
+mod draws;
+mod files;
+mod image;
+mod model;
+mod restarts;
+mod runs;
+mod script;
+mod stream;
+
+use anyhow::{Result, bail};
+use costs::count_costs;
+use devices::Wrong;
+use files::run_noting;
+use restarts::try_restarts;
+use std::env;
+use std::process::ExitCode;
+use std::sync::Wait;
+use std::thread::Threads;
+
+fn main(rt: HostRuntime) -> ExitCode {
+    match run(rt, &rt) {
+        Ok(true) => ExitCode::SUCCESS,
+        Ok(false) => ExitCode::FAILURE,
+        Err(error) => {
+            let _ = eprintln!(rt; "{error:#}");
+            ExitCode::from(2)
+        }
+    }
+}
+
+/// Makes the trial that the words ask for, and answers whether nothing was found.
+fn run<R: Threads + Wait + Sync>(rt: HostRuntime, threads: &R) -> Result<bool> {
+    let words = words_of(rt)?;
+    match words.first() {
+        None => Ok(true),
+        Some(word) if word.as_str() == "restarts" => {
+            let scripts = number_at(&words, 1)?;
+            let seed = number_at(&words, 2)?;
+            let found = try_restarts(threads, rt.alloc(), scripts, seed, wrong_at(&words, 3)?)?;
+            println!(rt; "{found}")?;
+            Ok(found.failures == 0)
+        }
+        Some(word) if word.as_str() == "costs" => {
+            let costs = count_costs(rt.alloc(), number_at(&words, 1)?)?;
+            println!(rt; "{costs}")?;
+            Ok(costs.are_kept())
+        }
+        Some(word) if word.as_str() == "files" => {
+            let (Some(script), Some(folder)) = (words.get(1), words.get(2)) else {
+                bail!("a script and a folder are missing")
+            };
+            let status = run_noting(rt, threads, script.as_str(), folder.as_str())?;
+            Ok(status == 0)
+        }
+        Some(word) => bail!("`{word}` is no trial"),
+    }
+}
+
+/// The words of the command line, without the program's name.
+fn words_of(rt: HostRuntime) -> Result<Vec<String>> {
+    let mut words = Vec::new(rt.alloc());
+    for word in env::args(&rt)?.skip(1) {
+        words.push(word)?;
+    }
+    Ok(words)
+}
+
+/// The word of this place, which is a number.
+fn number_at(words: &[String], place: usize) -> Result<u64> {
+    let Some(word) = words.get(place) else {
+        bail!("a number is missing")
+    };
+    match word.as_str().parse::<u64>() {
+        Ok(number) => Ok(number),
+        Err(_) => bail!("`{word}` is no number"),
+    }
+}
+
+/// What the word of this place, where there is one, leaves out.
+fn wrong_at(words: &[String], place: usize) -> Result<Wrong> {
+    match words.get(place) {
+        None => Ok(Wrong::Nothing),
+        Some(word) => match Wrong::named(word.as_str()) {
+            Some(wrong) => Ok(wrong),
+            None => bail!("`{word}` names nothing that is left out"),
+        },
+    }
+}
