@@ -14,7 +14,6 @@ mod ToldOnce
 mod PhasesRan
 mod RowSteps
 mod RunSteps
-mod CommandLine
 mod Statuses
 mod DirtyRows
 mod Returned
@@ -23,7 +22,6 @@ mod RecordsTold
 mod LogSteps
 mod PostSteps
 mod WorldEnds
-mod Told
 mod Behind
 mod RestartsMade
 mod Faultless

@@ -141,11 +141,6 @@ module _ (disks logs posts : ℕ) (script : Script) (enough : has_devices disks 
   pub enough-posts : defer_lines script.lines ≤ posts
   enough-posts = leb-true (defer_lines script.lines) posts further.1
 
--- each stream has a reply
-pub opened-long : (u : Setup) (restarts : List RestartLine) (ended : List LineReply) (s : ℕ) (streams : List StreamLine) (before after : List LineReply) (old new : List Entry) → StreamsOpened u restarts ended s streams before after old new → length after ≡ length before + length streams
-opened-long u restarts ended s streams before after old new opened =
-    ap length opened.grew ∙ (length-append before opened.answers ∙ ap (λ n. length before + n) (sym (length-map opened.answers (λ r. r.line)) ∙ (ap length opened.lines_are ∙ length-map streams (λ s. s.line))))
-
 -- the disks that a desk gives back stand for its journal, each having begun as the run did
 pub disks-stand : {D L Q : Type 0} (told : D → Option Disk) (faults : D → ℕ) (first : ℕ → DiskAtFirst) (count : ℕ) (past : List Entry) (d : DeskState D L Q) (disks : List D) → DisksEnded told faults d disks → length d.begun.disks ≡ count → (λ s. disk_at_first told faults (slice_get d.begun.disks s)) ≡ first → past ≡ d.last.entries → DisksStand told faults first count past disks
 disks-stand told faults first count past d disks ended same at_first is = record {

@@ -7,13 +7,15 @@ use Rattle.cc_traits.specs.Told.{Both, IfTold, Gave}
 use Rattle.cc_script.specs.declared.script.Script.{Script}
 use Rattle.cc_script.specs.Generator.{generated}
 use Rattle.cc_script.specs.Grammar.{script_of}
-use Rattle.cc_run.specs.Words.{command_of, is_command, is_reading, mode_in, reads_source}
-use Rattle.cc_run.specs.declared.words.Command.{Command}
-use Rattle.cc_run.specs.declared.words.Command.TheVariants as command
-use Rattle.cc_run.specs.Ends.{Input, Output, status_of, GaveAll, IsAsked, IsCause, IsRead, IsWrong, WasTaken, TookMany, HasTooFewDevices, HasFailed, Spells, IsPut, IsRun, IsEnded, has_devices, printed_by}
+use Rattle.cc_command.specs.Words.{command_of, is_command, is_reading, mode_in, reads_source}
+use Rattle.cc_command.specs.declared.words.Command.{Command}
+use Rattle.cc_command.specs.declared.words.Command.TheVariants as command
+use Rattle.cc_command.specs.NoRun.{status_of}
+use Rattle.cc_command.specs.Taken.{WasTaken}
+use Rattle.cc_run.specs.Ends.{Input, Output, GaveAll, IsAsked, IsCause, IsRead, IsWrong, TookMany, HasTooFewDevices, HasFailed, Spells, IsPut, IsRun, IsEnded, has_devices, printed_by}
 use Rattle.cc_run.specs.Complete.{Comes, IsFound}
-use Rattle.cc_run.specs.declared.no_run.NoRun.{NoRun}
-use Rattle.cc_run.specs.declared.no_run.NoRun.TheVariants as no_run
+use Rattle.cc_command.specs.declared.no_run.NoRun.{NoRun}
+use Rattle.cc_command.specs.declared.no_run.NoRun.TheVariants as no_run
 
 -- what the source told is what was read
 told-same : (left : Option (List ℕ)) (told bytes : List ℕ) → left ≡ Some told → IfTold left (λ l. bytes ≡ l) → bytes ≡ told

@@ -5,7 +5,7 @@ use Rattle.cc_entry.specs.declared.entry.Entry.{Entry}
 use Rattle.cc_pieces.specs.Faultless.{IsFaultless}
 use Rattle.cc_script.specs.declared.script.Script.{Script}
 use Rattle.cc_script.specs.Grammar.{script_of}
-use Rattle.cc_run.specs.Words.{mode_in, reads_source}
+use Rattle.cc_command.specs.Words.{mode_in, reads_source}
 use Rattle.cc_run.specs.Disks.{Pairwise}
 use Rattle.cc_run.specs.Ends.{Input, Output, GaveAll, IsGenerated, TookMany, has_devices}
 use Rattle.cc_run.specs.Setups.{run_disks, run_logs}

@@ -3,7 +3,9 @@ use Rattle.std.specs.Prelude.{◌≡◌, ℕ, ◌+◌, ◌<◌, ◌≤◌, nat_l
 use Rattle.std.specs.List.{list_all}
 use Rattle.cc_entry.specs.declared.answer.LineReply.{LineReply}
 use Rattle.cc_entry.specs.declared.entry.Entry.{Entry}
-use Rattle.cc_traits.specs.Told.{Both, IfTold, Gave, Took}
+use Rattle.cc_traits.specs.Told.{Both, IfTold, Took}
+use Rattle.cc_command.specs.NoRun.{fault_text, status_of}
+use Rattle.cc_command.specs.Taken.{TookPart}
 use Rattle.cc_script.specs.declared.script.Script.{Script}
 use Rattle.cc_script.specs.EventActions.{defer_lines}
 use Rattle.cc_script.specs.Generator.{generated}
@@ -11,40 +13,11 @@ use Rattle.cc_script.specs.Grammar.{script_of}
 use Rattle.cc_print.specs.Summary.{summary_of}
 use Rattle.cc_print.specs.Text.{text_of}
 use Rattle.cc_pieces.specs.Table.{table_of}
-use Rattle.cc_run.specs.Words.{command_of, is_command, mode_in, reads_source}
-use Rattle.cc_run.specs.declared.words.Command.{Command}
-use Rattle.cc_run.specs.declared.words.Command.TheVariants as command
-use Rattle.cc_run.specs.declared.no_run.NoRun.{NoRun}
-use Rattle.cc_run.specs.declared.no_run.NoRun.TheVariants as no_run
-
--- the exit status of a run that was not made
-abbrev pub status_of : NoRun → ℕ
-status_of no_run.Usage = 1
-status_of (no_run.Syntax line) = 2
-status_of no_run.ReadFault = 3
-status_of no_run.TooLong = 5
-status_of no_run.NoMemory = 6
-status_of no_run.TooFewDevices = 7
-
--- whether what is printed names a line
-abbrev pub is_syntax : NoRun → Bool
-is_syntax (no_run.Syntax line) = true
-is_syntax other = false
-
-abbrev pub line_feed : List ℕ
-line_feed = 10 ∷ []
-
-abbrev pub syntax_text : ℕ → List ℕ
-syntax_text line = codes "syntax at line " ++ (decimal line ++ line_feed)
-
--- what is printed where no run was made
-abbrev pub fault_text : NoRun → List ℕ
-fault_text no_run.Usage = codes "usage: ntcache run FILE [DIR] | steps FILE | gen N" ++ line_feed
-fault_text (no_run.Syntax line) = syntax_text line
-fault_text no_run.ReadFault = codes "script read fault" ++ line_feed
-fault_text no_run.TooLong = codes "script too long" ++ line_feed
-fault_text no_run.NoMemory = []
-fault_text no_run.TooFewDevices = codes "too few devices" ++ line_feed
+use Rattle.cc_command.specs.Words.{command_of, is_command, mode_in, reads_source}
+use Rattle.cc_command.specs.declared.words.Command.{Command}
+use Rattle.cc_command.specs.declared.words.Command.TheVariants as command
+use Rattle.cc_command.specs.declared.no_run.NoRun.{NoRun}
+use Rattle.cc_command.specs.declared.no_run.NoRun.TheVariants as no_run
 
 -- What went into the program: its words; of the source, before and after, what it told of the bytes that
 -- were left, its count of faults and the bytes that it ever gave, and whether its last call answered the end; and the
@@ -101,12 +74,6 @@ output told faults stalls old new =
       stalls = stalls old;
       stalls_after = stalls new;
     }
-
--- Some bytes were taken: those that the source gave, and the front of those that were left, where it told them.
-pub record WasTaken (left left_after : Option (List ℕ)) (given given_after : List ℕ) : Type 0 where
-  pub bytes : List ℕ
-  pub gave : given_after ≡ given ++ bytes
-  pub front : Both left left_after (Gave bytes)
 
 -- The source gave these bytes and then answered its end: they are all of its bytes, also where it told none of them.
 pub record GaveAll (i : Input) (bytes : List ℕ) : Type 0 where
@@ -183,13 +150,6 @@ IsCause i no_run.ReadFault = (reads_source i.words ≡ true) × (i.faults < i.fa
 IsCause i no_run.TooLong = (reads_source i.words ≡ true) × TookMany i
 IsCause i no_run.NoMemory = Unit {0}
 IsCause i no_run.TooFewDevices = HasTooFewDevices i
-
--- the front of a text was taken
-pub record TookPart (text old new : List ℕ) : Type 0 where
-  pub part : List ℕ
-  pub rest : List ℕ
-  pub text_is : text ≡ part ++ rest
-  pub taken : new ≡ old ++ part
 
 -- the sink failed, or took nothing where there were bytes
 abbrev pub HasFailed : Output → Type 0

@@ -7,8 +7,6 @@ pub mod Restarting
 pub mod Begun
 pub mod Runs
 pub mod Rows
-pub mod Words
-pub mod CommandLine
 pub mod Disks
 pub mod Logs
 pub mod Complete

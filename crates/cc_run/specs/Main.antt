@@ -4,8 +4,9 @@ use Rattle.std.specs.declared.option.Option.{Option}
 use Rattle.cc_entry.specs.declared.answer.LineReply.{LineReply}
 use Rattle.cc_entry.specs.declared.entry.Entry.{Entry}
 use Rattle.cc_script.specs.declared.script.Script.{Script}
-use Rattle.cc_run.specs.Words.{is_command}
-use Rattle.cc_run.specs.Ends.{Input, Output, IsEnded, WasTaken, TookNoMore}
+use Rattle.cc_command.specs.Words.{is_command}
+use Rattle.cc_command.specs.Taken.{WasTaken}
+use Rattle.cc_run.specs.Ends.{Input, Output, IsEnded, TookNoMore}
 use Rattle.cc_run.specs.Complete.{EndsWith, SyntaxAlways, TooLongAlways, TooLongTold, TooFewAlways, Completes}
 
 -- The program came to its end, with this status, over what went into it and came out of it.

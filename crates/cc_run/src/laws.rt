@@ -22,7 +22,7 @@ ghost use Rattle.cc_run.specs.Disks.{DisksLeft};
 ghost use Rattle.cc_run.specs.Setups.{run_disks};
 ghost use Rattle.cc_run.specs.StoredLines.{StoredLine};
 ghost use Rattle.cc_run.specs.Ends.{Input, Output, HasFailed, HasTooFewDevices, IsAsked, IsEnded, IsPut, IsWrong, TookMany, printed_by};
-ghost use Rattle.cc_run.specs.Words.{command_of, is_command};
+ghost use Rattle.cc_command.specs.Words.{command_of, is_command};
 
 use cc_traits::PageDisk;
 

@@ -14,13 +14,11 @@
 //! `restarts`, `openings` and `phases` its parts, `lines` a phase on the desk, `threads` one on a board, `callers` what
 //! the thread of a caller does, `workers` what those of the lazy writer and of the read-ahead worker, `ticks` and
 //! `aheads` their work on either, `posts` what waits in the queue for each post routine and which are posted, `once`
-//! that no post is told twice, `call_numbers` what the gate is told. `steps` has a script of steps. `words` says which
-//! command the words are, `command_line` has clap read them, `intake` takes the script's bytes and `output` puts the
-//! text, `devices` tests whether there are enough disks, logs and post routines, `row` parts those that a run takes
-//! from the others, `table` has the table of the text, and `no_run` why no run was made. `laws` has what follows of how
-//! the program ended, and of what the records of its disks tell.
+//! that no post is told twice, `call_numbers` what the gate is told. `steps` has a script of steps. `devices` tests whether
+//! there are enough disks, logs and post routines, `row` parts those that a run takes from the others, and `table` has the
+//! table of the text. `laws` has what follows of how the program ended, and of what the records of its disks tell.
 //!
-//! It stands on the script, on the text, on the calls, on the turns of one thread and on those that threads share, on the
+//! It stands on the command (its words, the bytes of its script, the text that is put out), on the script, on the text, on the calls, on the turns of one thread and on those that threads share, on the
 //! events of a script of steps, on the traits of the outside, on what a journal means and on how it explains answers. The
 //! program stands on it.
 #![tactic(auto)]
@@ -28,16 +26,12 @@
 mod aheads;
 mod call_numbers;
 mod callers;
-mod command_line;
 mod devices;
-mod intake;
 mod laws;
 mod lines;
 mod modes;
-mod no_run;
 mod once;
 mod openings;
-mod output;
 mod phases;
 mod posts;
 mod restarts;
@@ -48,12 +42,10 @@ mod table;
 mod threads;
 mod ticks;
 mod top;
-mod words;
 mod workers;
 
 pub use laws::{
     records_tell_what_was_there, runs_are_of_the_script, statuses_have_causes,
     stored_streams_open_as_spelled,
 };
-pub use no_run::NoRun;
 pub use top::{Ended, cache_main};

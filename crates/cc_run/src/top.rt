@@ -9,26 +9,26 @@ ghost use Rattle.cc_script.specs.Modes.{IsOfMode};
 ghost use Rattle.cc_pieces.specs.Steps.{PostsLeft};
 ghost use Rattle.cc_pieces.specs.Table.{table_of};
 ghost use Rattle.cc_run.specs.Setups.{IsSetupOf, setup_of};
-ghost use Rattle.cc_run.specs.Ends.{Input, input, output, IsCause, IsRefused, IsEnded, IsAsked, WasTaken, IsFaultPut, IsPrinted, has_devices, printed_by};
+ghost use Rattle.cc_command.specs.Taken.{WasTaken};
+ghost use Rattle.cc_run.specs.Ends.{Input, input, output, IsCause, IsRefused, IsEnded, IsAsked, IsFaultPut, IsPrinted, has_devices, printed_by};
 ghost use Rattle.cc_run.specs.Complete.{RanWithoutFault};
 ghost use Rattle.cc_run.specs.Main.{HasMain};
-ghost use Rattle.cc_run.specs.declared.no_run.NoRun.TheVariants as no_run;
+ghost use Rattle.cc_command.specs.declared.no_run.NoRun.TheVariants as no_run;
 ghost use Rattle.cc_run.specs.Disks.{DisksLeft};
 ghost use Rattle.cc_run.specs.Logs.{LogsLeft};
-ghost use Rattle.cc_run.specs.Words.{command_of, is_reading, mode_by, mode_in, reads_source};
-ghost use Rattle.cc_run.specs.declared.words.Command.TheVariants as asked;
+ghost use Rattle.cc_command.specs.Words.{command_of, is_reading, mode_by, mode_in, reads_source};
+ghost use Rattle.cc_command.specs.declared.words.Command.TheVariants as asked;
 ghost use Rattle.cc_run.specs.Lines.{run_answered};
 ghost use Rattle.cc_run.specs.Places.{taken_at};
 ghost use Rattle.cc_run.specs.Begun.{IsBegun};
 ghost use Rattle.cc_run.specs.Runs.{AreAsyncQueuedBy, AreQueuedBy, IsExplainedBy, deferrals_in, ticks_asked};
 
 use crate::devices::has_devices;
-use crate::intake::{IntakeError, take_all};
 use crate::modes::{RestartedRun, RunResult, run_in_mode};
-use crate::no_run::{NoRun, syntax_text};
-use crate::output::{OutputError, put_all};
-use crate::words::{Command, read_words};
 use cc_async::AsyncPass;
+use cc_command::{
+    Command, IntakeError, NoRun, OutputError, put_all, read_words, syntax_text, take_all,
+};
 use cc_entry::{Entry, LineReply, Request};
 use cc_print::{summary_of, text_of};
 use cc_queue::QueuePlace;

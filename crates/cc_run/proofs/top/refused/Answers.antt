@@ -1,6 +1,6 @@
 -- Where memory is wanting the status tells that.
 use Rattle.std.proofs.Common.{◌∙◌, ap, inl, inr}
-use Rattle.cc_run.specs.Ends.{status_of}
+use Rattle.cc_command.specs.NoRun.{status_of}
 use Rattle.cc_run.proofs.top.refused.Goals as goal
 
 pub returns-clause-status : goal.returns-clause-status

@@ -3,8 +3,8 @@ use Rattle.std.specs.Prelude.{true, [], ◌∷◌, Some, codes}
 use Rattle.clap.specs.Words.{App, Rule, new_app, new_rule}
 use Rattle.clap.specs.declared.error.kind.ErrorKind.{ErrorKind}
 use Rattle.clap.specs.declared.error.kind.ErrorKind.TheVariants as kind
-use Rattle.cc_run.specs.declared.no_run.NoRun.{NoRun}
-use Rattle.cc_run.specs.declared.no_run.NoRun.TheVariants as no_run
+use Rattle.cc_command.specs.declared.no_run.NoRun.{NoRun}
+use Rattle.cc_command.specs.declared.no_run.NoRun.TheVariants as no_run
 
 -- the word of a mode, which is required
 abbrev pub mode_rule : Rule

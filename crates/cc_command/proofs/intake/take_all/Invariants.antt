@@ -1,6 +1,6 @@
 use Rattle.std.proofs.Common.{◌≡◌, ◌≤◌, ◌++◌, vec_len}
-use Rattle.cc_run.proofs.Told.{HasGiven}
-use Rattle.cc_run.proofs.intake.take_all.Given as goal
+use Rattle.cc_command.proofs.Told.{HasGiven}
+use Rattle.cc_command.proofs.intake.take_all.Given as goal
 
 abbrev pub invariant-loop : goal.invariant-loop
 invariant-loop g l = record {

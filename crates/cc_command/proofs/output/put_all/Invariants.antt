@@ -1,6 +1,6 @@
 use Rattle.std.proofs.Common.{◌≡◌, length}
-use Rattle.cc_run.proofs.Told.{HasTaken}
-use Rattle.cc_run.proofs.output.put_all.Given as goal
+use Rattle.cc_command.proofs.Told.{HasTaken}
+use Rattle.cc_command.proofs.output.put_all.Given as goal
 
 abbrev pub invariant-loop-rest : goal.invariant-loop-rest
 invariant-loop-rest g l = record {

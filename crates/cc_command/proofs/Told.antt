@@ -1,7 +1,7 @@
 -- What sources and sinks tell, over several calls.
 use Rattle.std.proofs.Common.{◌≡◌, ℕ, List, [], ◌++◌, append-nil, append_assoc, refl, sym, ◌∙◌, ap, Option, Some, None}
 use Rattle.cc_traits.specs.Told.{Both, IfTold, Gave, Took}
-use Rattle.cc_run.specs.Ends.{TookPart}
+use Rattle.cc_command.specs.Taken.{TookPart}
 
 -- these bytes were given
 abbrev pub HasGiven : List ℕ → Option (List ℕ) → Option (List ℕ) → Type 0

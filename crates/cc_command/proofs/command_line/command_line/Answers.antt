@@ -8,8 +8,8 @@ use Rattle.clap.specs.declared.builder.command.Command.{Command}
 use Rattle.clap.specs.declared.builder.command.Command.TheOpen.{Command-F}
 use Rattle.clap.specs.declared.builder.command.Command.TheViews.{out-Command}
 use Rattle.clap.specs.declared.builder.range.ValueRange.{ValueRange}
-use Rattle.cc_run.specs.CommandLine.{mode_rule, argument_rule}
-use Rattle.cc_run.proofs.command_line.command_line.Goals as goal
+use Rattle.cc_command.specs.CommandLine.{mode_rule, argument_rule}
+use Rattle.cc_command.proofs.command_line.command_line.Goals as goal
 
 some-is : (o : Option ValueRange) (r : ValueRange) → IsSomeAnd o (λ x. x ≡ r) → o ≡ Some r
 some-is None r is = absurd is

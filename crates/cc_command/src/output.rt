@@ -2,8 +2,8 @@
 
 ghost use Rattle.std.specs.Prelude.{◌≡◌, ◌<◌, ◌⊎◌, OnOk, IsErrOf};
 ghost use Rattle.cc_traits.specs.Told.{Both, Took};
-ghost use Rattle.cc_run.specs.Ends.{TookPart};
-ghost use Rattle.cc_run.specs.declared.output.OutputError.TheVariants as unput;
+ghost use Rattle.cc_command.specs.Taken.{TookPart};
+ghost use Rattle.cc_command.specs.declared.output.OutputError.TheVariants as unput;
 
 use cc_traits::{Sink, Stop};
 

@@ -2,8 +2,8 @@
 
 ghost use Rattle.std.specs.Prelude.{◌≡◌, ◌<◌, ◌≤◌, ◌+◌, true, [], ◌++◌, length, IfOk, OnOk, IsErrOf, vec_len};
 ghost use Rattle.cc_traits.specs.Told.{IfTold};
-ghost use Rattle.cc_run.specs.Ends.{WasTaken};
-ghost use Rattle.cc_run.specs.declared.intake.IntakeError.TheVariants as unread;
+ghost use Rattle.cc_command.specs.Taken.{WasTaken};
+ghost use Rattle.cc_command.specs.declared.intake.IntakeError.TheVariants as unread;
 
 use cc_traits::{Source, Stop};
 use std::alloc::Global;

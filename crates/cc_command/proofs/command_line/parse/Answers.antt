@@ -1,9 +1,9 @@
 -- What clap finds is what the words say, and it has no error but want of memory.
 use Rattle.std.proofs.Common.{rules, ◌≡◌, ◌∙◌, sym, ap, subst, List, ℕ, true, Option, Some, None, map, string_bytes, option_map, is_some, Bor}
 use Rattle.clap.specs.Words.{App, HasMatchesOf, takes}
-use Rattle.cc_run.specs.CommandLine.{no_run_by}
-use Rattle.cc_run.proofs.CommandLine.{line-taken, found-mode, found-argument}
-use Rattle.cc_run.proofs.command_line.parse.Goals as goal
+use Rattle.cc_command.specs.CommandLine.{no_run_by}
+use Rattle.cc_command.proofs.CommandLine.{line-taken, found-mode, found-argument}
+use Rattle.cc_command.proofs.command_line.parse.Goals as goal
 
 -- a text is there where its bytes are
 is-there : (found : Option (Bor (List ℕ))) (text : Option (List ℕ)) → option_map (λ s. s.now) found ≡ text → is_some text ≡ true → is_some found ≡ true

@@ -2,8 +2,8 @@
 
 ghost use Rattle.std.specs.Prelude.{◌≡◌, true, Some, map, string_bytes, slice_get, IfOk, IfErr};
 ghost use Rattle.clap.specs.Words.{app_of, kind_of};
-ghost use Rattle.cc_run.specs.CommandLine.{command_line as the_command_line, no_run_by};
-ghost use Rattle.cc_run.specs.Words.{is_line};
+ghost use Rattle.cc_command.specs.CommandLine.{command_line as the_command_line, no_run_by};
+ghost use Rattle.cc_command.specs.Words.{is_line};
 
 use crate::no_run::NoRun;
 use clap::error::ErrorKind;

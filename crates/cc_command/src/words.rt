@@ -2,7 +2,7 @@
 
 ghost use Rattle.std.specs.Prelude.{◌≡◌, None, Some, ◌⊎◌, map, string_bytes, IfOk, IfErr};
 ghost use Rattle.cc_script.specs.Words.{number_of, number_onto};
-ghost use Rattle.cc_run.specs.Words.{command_by as the_command_by, command_in as the_command_in, command_of, is_argument as is_an_argument, is_line as is_a_line, mode_by};
+ghost use Rattle.cc_command.specs.Words.{command_by as the_command_by, command_in as the_command_in, command_of, is_argument as is_an_argument, is_line as is_a_line, mode_by};
 
 use crate::command_line::parse;
 use crate::no_run::NoRun;
@@ -20,7 +20,7 @@ pub enum Command {
 
 impl Command {
     /// The mode in which the script is run.
-    pub(crate) fn mode(self) -> Mode
+    pub fn mode(self) -> Mode
         ensures { result ≡ mode_by self }
     {
         match self {

@@ -9,8 +9,8 @@ use Rattle.clap.specs.Words.{HasMatchesOf, Rule, Shape, built, first_of, first_v
 use Rattle.clap.specs.declared.parser.matches.ArgMatches.{ArgMatches}
 use Rattle.clap.proofs.OnLiterals.{clap_on_literals}
 use Rattle.clap.proofs.WalkLemmas.{first_value-rows}
-use Rattle.cc_run.specs.CommandLine.{command_line}
-use Rattle.cc_run.specs.Words.{is_argument, is_line}
+use Rattle.cc_command.specs.CommandLine.{command_line}
+use Rattle.cc_command.specs.Words.{is_argument, is_line}
 
 is_simple-line : is_simple command_line ≡ true
 unfolding clap_on_literals

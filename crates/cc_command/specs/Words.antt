@@ -6,8 +6,8 @@ use Rattle.std.specs.Str.{bytes_eq}
 use Rattle.cc_script.specs.Words.{number_of}
 use Rattle.cc_script.specs.declared.script.Mode.{Mode}
 use Rattle.cc_script.specs.declared.script.Mode.TheVariants as mode
-use Rattle.cc_run.specs.declared.words.Command.{Command}
-use Rattle.cc_run.specs.declared.words.Command.TheVariants as command
+use Rattle.cc_command.specs.declared.words.Command.{Command}
+use Rattle.cc_command.specs.declared.words.Command.TheVariants as command
 
 -- whether a word is neither empty nor begins with a dash
 abbrev pub is_argument : List ℕ → Bool

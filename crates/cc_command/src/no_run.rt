@@ -1,7 +1,7 @@
 //! Why no run was made: the exit status, and what is printed.
 
 ghost use Rattle.std.specs.Prelude.{◌≡◌, false, IfOk, string_bytes};
-ghost use Rattle.cc_run.specs.Ends.{status_of, fault_text, syntax_text as the_syntax_text, is_syntax};
+ghost use Rattle.cc_command.specs.NoRun.{status_of, fault_text, syntax_text as the_syntax_text, is_syntax};
 
 use std::alloc::{AllocError, Global};
 
@@ -39,7 +39,7 @@ impl NoRun {
     }
 
     /// What the program prints, but for the number of a line.
-    pub(crate) fn fixed_text(self) -> &'static str
+    pub fn fixed_text(self) -> &'static str
         requires { is_syntax self ≡ false }
         ensures { result.now ≡ fault_text self }
     {
@@ -53,8 +53,8 @@ impl NoRun {
     }
 }
 
-/// What the program prints of a line that is not in the grammar.
-pub(crate) fn syntax_text(alloc: Global, line: u32) -> Result<String, AllocError>
+/// What the program prints where the line of this number is not in the grammar. Fails for want of memory.
+pub fn syntax_text(alloc: Global, line: u32) -> Result<String, AllocError>
     ensures { IfOk result (λ text. string_bytes text ≡ the_syntax_text line) }
 {
     format!(in alloc; "syntax at line {line}\n")

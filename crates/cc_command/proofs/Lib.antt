@@ -1,0 +1,3 @@
+-- Lemmas of the command line, and of what sources and sinks tell.
+mod CommandLine
+mod Told

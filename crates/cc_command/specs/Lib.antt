@@ -1,0 +1,5 @@
+-- What the contracts cite.
+pub mod Words
+pub mod NoRun
+pub mod CommandLine
+pub mod Taken
