@@ -22,11 +22,11 @@ take-all [] = refl
 take-all (change ∷ changes) = ap (λ (l : List Change). change ∷ l) (take-all changes)
 
 -- changes made once more make nothing else
-once-more : (changes : List Change) (page : ℕ) (bytes : List ℕ) → page_after changes page (page_after changes page bytes) ≡ page_after changes page bytes
+pub once-more : (changes : List Change) (page : ℕ) (bytes : List ℕ) → page_after changes page (page_after changes page bytes) ≡ page_after changes page bytes
 once-more changes page bytes =
     ap (λ (l : List Change). page_after changes page (page_after l page bytes)) (sym (take-all changes)) ∙ page-again changes (length changes) page bytes
 
-not-record : (p size : ℕ) → 4096 * p < size → size < 2 ^ 63 → (record_number == p) ≡ false
+pub not-record : (p size : ℕ) → 4096 * p < size → size < 2 ^ 63 → (record_number == p) ≡ false
 not-record p size below fits = go (record_number == p) refl
   where
     go : (b : Bool) → (record_number == p) ≡ b → (record_number == p) ≡ false
@@ -40,7 +40,7 @@ module _ (streams : List Redo) (kept : List LogEntry) (redo : Redo) (pages : ℕ
   abbrev changes : List Change
   changes = redone_of redo (from_of streams (readings kept)) (readings kept)
 
-  made-data : (old : Disk) (p : ℕ) → 4096 * p < redo.size → made_from streams (readings kept) redo old p ≡ page_after (redone_of redo (from_of streams (readings kept)) (readings kept)) p (page_of old p)
+  pub made-data : (old : Disk) (p : ℕ) → 4096 * p < redo.size → made_from streams (readings kept) redo old p ≡ page_after (redone_of redo (from_of streams (readings kept)) (readings kept)) p (page_of old p)
   made-data old p below =
       aside (record_page redo.size (valid_of (readings kept) redo)) (changed_page (redone_of redo (from_of streams (readings kept)) (readings kept)) old) p (not-record p redo.size below redo.in_range)
 
@@ -87,3 +87,11 @@ behind-more redo (entry ∷ entries) least most le =
 
 pub valid-more : (kept : List LogEntry) (redo : Redo) (first : ℕ) → first ≤ redo.valid → valid_after (updates_in redo kept) first ≤ valid_of (readings kept) redo
 valid-more kept redo first le = let same = valid-same redo kept first in let more = behind-more redo kept first redo.valid le in omega (arith, same, more)
+
+-- updates take back no valid data
+pub after-least : (changes : List Change) (n : ℕ) → n ≤ valid_after changes n
+after-least [] n = omega arith
+after-least (change ∷ changes) n = let rest = after-least changes (max n (end_of change)) in let here = over n (end_of change) in omega (arith, rest, here)
+  where
+    over : (a b : ℕ) → a ≤ max a b
+    over a b = omega arith

@@ -50,7 +50,7 @@ use Rattle.cc_restart_laws.specs.Updates.{IsCheckpoint, IsUpdated, MayAppend, Ma
 
 -- ---- bytes of a page
 
-page-byte : (changes : List Change) (page from k : ℕ) (bytes : List ℕ) → k < length bytes → slice_index (bytes_after changes page from bytes) k ≡ byte_after changes page (from + k) (slice_index bytes k)
+pub page-byte : (changes : List Change) (page from k : ℕ) (bytes : List ℕ) → k < length bytes → slice_index (bytes_after changes page from bytes) k ≡ byte_after changes page (from + k) (slice_index bytes k)
 unfolding bytes_after
 page-byte changes page from k [] below = absurd (omega (arith, below))
 page-byte changes page from zero (byte ∷ bytes) below = ap (λ (n : ℕ). byte_after changes page n byte) (none from)

@@ -1,5 +1,5 @@
 -- The entries that a run appended to a log, those that are kept, and what a restart reads of them.
-use Rattle.std.specs.Prelude.{◌≡◌, ℕ, suc, ◌+◌, ◌<◌, ◌≤◌, ◌⊎◌, ◌&&◌, ◌==◌, Bool, true, false, nat_le, List, [], ◌∷◌, ◌++◌, length, refl, if◌then◌else◌}
+use Rattle.std.specs.Prelude.{◌≡◌, ℕ, suc, ◌+◌, ◌^◌, ◌<◌, ◌≤◌, ◌⊎◌, ◌&&◌, ◌==◌, Bool, true, false, nat_le, List, [], ◌∷◌, ◌++◌, length, refl, if◌then◌else◌}
 use Rattle.std.specs.List.{AllByRecursion}
 use Rattle.std.specs.declared.option.Option.{Option}
 use Rattle.std.specs.declared.option.Option.TheVariants.{Some, None}
@@ -28,9 +28,17 @@ among-all P [] x all among = absurd among
 among-all P (y ∷ ys) x all (inl same) = subst P (sym same) all.0
 among-all P (y ∷ ys) x all (inr among) = among-all P ys x all.1 among
 
-all-among : {A : Type 0} (P : A → Type 0) (xs : List A) → ((x : A) → IsAmong xs x → P x) → AllByRecursion P xs
+pub all-among : {A : Type 0} (P : A → Type 0) (xs : List A) → ((x : A) → IsAmong xs x → P x) → AllByRecursion P xs
 all-among P [] each = tt
 all-among P (y ∷ ys) each = (each y (inl refl), all-among P ys (λ x among. each x (inr among)))
+
+pub all-first : {A : Type 0} (P : A → Type 0) (xs ys : List A) → AllByRecursion P (xs ++ ys) → AllByRecursion P xs
+all-first P [] ys all = tt
+all-first P (x ∷ xs) ys all = (all.0, all-first P xs ys all.1)
+
+pub all-both : {A : Type 0} (P : A → Type 0) (xs ys : List A) → AllByRecursion P xs → AllByRecursion P ys → AllByRecursion P (xs ++ ys)
+all-both P [] ys first second = second
+all-both P (x ∷ xs) ys first second = (first.0, all-both P xs ys first.1 second)
 
 pub among-left : {A : Type 0} (xs ys : List A) (x : A) → IsAmong xs x → IsAmong (xs ++ ys) x
 among-left [] ys x among = absurd among
@@ -162,6 +170,12 @@ lsn-above u log lsn bytes [] good is = absurd is
 lsn-above u log lsn bytes (e ∷ past) good (inl here) =
     let next = (next-lsn u past here.0 log lsn bytes (subst (λ (x : Entry). IsGoodSoFar u (x ∷ past)) here.1 good)).next in omega (arith, next)
 lsn-above u log lsn bytes (e ∷ past) good (inr before) = lsn-above u log lsn bytes past (good-tail u e past good) before
+
+-- and at most the greatest one
+pub lsn-fits : (u : Setup) (log lsn : ℕ) (bytes : List ℕ) (past : List Entry) → IsGoodSoFar u past → IsAppended log lsn bytes past → lsn ≤ 2 ^ 62
+lsn-fits u log lsn bytes [] good is = absurd is
+lsn-fits u log lsn bytes (e ∷ past) good (inl here) = (next-lsn u past here.0 log lsn bytes (subst (λ (x : Entry). IsGoodSoFar u (x ∷ past)) here.1 good)).in_range
+lsn-fits u log lsn bytes (e ∷ past) good (inr before) = lsn-fits u log lsn bytes past (good-tail u e past good) before
 
 -- ---- what is kept
 

@@ -15,6 +15,8 @@ use Rattle.cc_redo.specs.declared.record.LogRecord.TheVariants.{Update, Checkpoi
 use Rattle.cc_redo.specs.declared.redo.Redo.{Redo}
 use Rattle.cc_restart_laws.specs.Stops.{MakesFile, updated_byte, updates_in}
 
+-- ---- what a restart takes from a log hangs on the number and the size of a stream alone, and on which streams are given
+
 module _ (redo later : Redo) (streams_are : later.stream ≡ redo.stream) (sizes_are : later.size ≡ redo.size) where
   said-same : (o : Option LogRecord) → change_said later o ≡ change_said redo o
   said-same None = refl
@@ -23,18 +25,18 @@ module _ (redo later : Redo) (streams_are : later.stream ≡ redo.stream) (sizes
       ap (λ (m : ℕ). if (n == m) && nat_le (at + length bytes) later.size then Some (record { at = at; bytes = bytes }) else None) streams_are
       ∙ ap (λ (m : ℕ). if (n == redo.stream) && nat_le (at + length bytes) m then Some (record { at = at; bytes = bytes }) else None) sizes_are
 
-  redone-same : (from : ℕ) (entries : List LogEntry) → redone_of later from (readings entries) ≡ redone_of redo from (readings entries)
+  pub redone-same : (from : ℕ) (entries : List LogEntry) → redone_of later from (readings entries) ≡ redone_of redo from (readings entries)
   redone-same from [] = refl
   redone-same from (entry ∷ entries) =
       ap (λ (o : Option Change). cons_option (if nat_le from entry.lsn then o else None) (redone_of later from (readings entries))) (said-same (said_by entry.bytes))
       ∙ ap (cons_option (redone_by redo from (reading entry))) (redone-same from entries)
 
-  updates-same : (entries : List LogEntry) → updates_in later entries ≡ updates_in redo entries
+  pub updates-same : (entries : List LogEntry) → updates_in later entries ≡ updates_in redo entries
   updates-same [] = refl
   updates-same (entry ∷ entries) =
       ap (λ (o : Option Change). cons_option o (updates_in later entries)) (said-same (said_by entry.bytes)) ∙ ap (cons_option (change_said redo (said_by entry.bytes))) (updates-same entries)
 
-  behind-same : (entries : List LogEntry) (valid : ℕ) → valid_behind (readings entries) later valid ≡ valid_behind (readings entries) redo valid
+  pub behind-same : (entries : List LogEntry) (valid : ℕ) → valid_behind (readings entries) later valid ≡ valid_behind (readings entries) redo valid
   behind-same [] valid = refl
   behind-same (entry ∷ entries) valid =
       ap (λ (o : Option Change). valid_behind (readings entries) later (raised valid o)) (said-same (said_by entry.bytes)) ∙ behind-same entries (raised valid (change_said redo (said_by entry.bytes)))
@@ -50,7 +52,7 @@ module _ (streams others : List Redo) (given : (n : ℕ) → is_given others n �
   said-from from lsn (Some (Update stream at bytes)) = refl
   said-from from lsn (Some (Checkpoint rows)) = oldest-same lsn rows
 
-  from-same : (from : ℕ) (entries : List LogEntry) → from_behind others from (readings entries) ≡ from_behind streams from (readings entries)
+  pub from-same : (from : ℕ) (entries : List LogEntry) → from_behind others from (readings entries) ≡ from_behind streams from (readings entries)
   from-same from [] = refl
   from-same from (entry ∷ entries) =
       ap (λ (n : ℕ). from_behind others n (readings entries)) (said-from from entry.lsn (said_by entry.bytes)) ∙ from-same (from_said streams from (reading entry)) entries

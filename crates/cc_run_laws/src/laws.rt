@@ -1,142 +1,81 @@
-//! What follows of the program's clauses for a run that is stopped and the next one. The functions do nothing: their contracts are the laws.
+//! What follows of the program's clauses for calls that are stopped and those behind them. The functions do nothing: their contracts are
+//! the laws.
 
-ghost use Rattle.std.specs.Prelude.{◌≡◌, ℕ, ◌^◌, ◌<◌, ◌≤◌, List, [], Err, Ok, Some};
-ghost use Rattle.std.specs.List.{AllByRecursion};
+ghost use Rattle.std.specs.Prelude.{◌≡◌, ℕ, List, length};
+ghost use Rattle.std.specs.List.{filter};
 ghost use Rattle.std.specs.declared.option.Option.{Option};
-ghost use Rattle.cc_entry.specs.declared.answer.LineReply.{LineReply};
-ghost use Rattle.cc_entry.specs.declared.entry.Entry.{Entry};
-ghost use Rattle.cc_entry.specs.declared.error.CcError.{CcError};
-ghost use Rattle.cc_format.specs.Spelling.{IsReadAs};
 ghost use Rattle.cc_format.specs.declared.record.StreamRecord.{StreamRecord};
-ghost use Rattle.cc_log.specs.Turn.{appended};
-ghost use Rattle.cc_model.specs.Good.{IsGood, IsGoodSoFar};
-ghost use Rattle.cc_model.specs.Setup.{Setup};
-ghost use Rattle.cc_redo.specs.Disks.{record_number};
 ghost use Rattle.cc_redo.specs.Heard.{last_of, readings};
-ghost use Rattle.cc_redo.specs.declared.redo.Redo.{Redo};
-ghost use Rattle.cc_restart_laws.specs.Stops.{AreAscending, HadBegun, IsKept};
-ghost use Rattle.cc_restart_laws.specs.Updates.{IsUpdated};
+ghost use Rattle.cc_redo.specs.Reading.{said_by};
+ghost use Rattle.cc_restart_laws.specs.Stops.{updates_in};
+ghost use Rattle.cc_restart_laws.specs.Updates.{is_update_of};
 ghost use Rattle.cc_restarts.specs.Given.{size_said, valid_said};
-ghost use Rattle.cc_restarts.specs.declared.ended.LogRestart.{LogRestart};
-ghost use Rattle.cc_restarts.specs.declared.ended.Numbers.{Numbers};
-ghost use Rattle.cc_run.specs.Begun.{IsBegun};
-ghost use Rattle.cc_run.specs.Disks.{DisksLeft};
-ghost use Rattle.cc_run.specs.Ends.{Input};
-ghost use Rattle.cc_run.specs.Logs.{LogsLeft};
+ghost use Rattle.cc_run_laws.specs.Calls.{HasClauses, HasRestarted, IsScriptOf, NamesStream, ProgramCall, WasOpened};
+ghost use Rattle.cc_run_laws.specs.Chains.{HaveLeft, IsFirst, RunsOn};
 ghost use Rattle.cc_script.specs.declared.script.Script.{Script};
 ghost use Rattle.cc_script.specs.declared.script.StreamLine.{StreamLine};
-ghost use Rattle.cc_stop_laws.specs.Redoable.{IsFileMade, IsHandedOn, IsNumbered, IsRedoable, IsRestartOf, SameNumbers, TellsAt};
+ghost use Rattle.cc_stop_laws.specs.Redoable.{IsFileMade, IsHandedIn, TellsAt};
+ghost use Rattle.cc_stop_laws.specs.Runs.{IsRedoneFrom, as_read};
 ghost use Rattle.cc_traits.specs.Disk.{Disk, page_of};
 ghost use Rattle.cc_traits.specs.Log.{Log};
-ghost use Rattle.cc_update_laws.specs.Devices.{GoesOnFrom, IsWholeDisk};
+ghost use Rattle.cc_update_laws.specs.Devices.{GoesOnFrom};
 
-use cc_stop_laws::{restarts_redo_what_is_left, what_a_run_leaves_can_be_redone};
 use cc_traits::{LogFile, PageDisk};
 
-/// A run leaves its devices as the clauses `good`, `disks` and `logs` say, over those with which it began. A crash leaves of them a
-/// disk that holds of each page one of the contents that it may leave, and a front of the log that has all that is durable. These are
-/// handed to the next run, whose script restarts the log; it begins as its clause `restarted` says. Where that restart is done, the disk
-/// with which the next run begins has the file that the first was handed, with the kept updates applied in their order, each whole.
-/// `first` is of a log that had no entry, `later` of one of whose entries a restart had made that file.
-pub fn stopped_runs_are_redone_by_the_next<D: PageDisk, L: LogFile>()
-    ensures first { (u : Setup) (past : List Entry) (disks disks_after : List D) (logs logs_after : List L) → IsGood u past →
-        DisksLeft D.told D.faults past disks disks_after → LogsLeft L.told L.faults past logs logs_after →
-        (s log : ℕ) (opening left : Disk) (begun after : Log) (stream : StreamLine) (read : Option StreamRecord) → s < 16 → log < 4 →
-        TellsAt D.told disks s opening → TellsAt D.told disks_after s left → TellsAt L.told logs log begun →
-        TellsAt L.told logs_after log after → IsUpdated s log past → IsWholeDisk opening →
-        IsReadAs (page_of opening record_number) read → IsNumbered s stream read past → begun.entries ≡ [] →
-        (i : Input) (script : Script) (replies : List LineReply) (journal : List Entry) (status : ℕ)
-        (handed_disks disks_begun : List D) (handed_logs logs_begun : List L) →
-        (next : IsBegun D.told D.faults L.told L.faults i (Some script) replies journal status handed_disks disks_begun
-        handed_logs logs_begun) → (n : ℕ) (other : StreamLine) (one : LogRestart) (handed : Disk) (kept : Log) →
-        IsRestartOf s log other script.streams script.restarts next.ended n one → SameNumbers stream other →
-        IsHandedOn left handed → IsKept after.durable after.entries kept.entries → TellsAt D.told handed_disks s handed →
-        TellsAt L.told handed_logs log kept → (numbers : Numbers) → one.ended ≡ Ok numbers →
-        (made : Disk) × TellsAt D.told disks_begun s made
-        × IsFileMade s (size_said stream read) kept.entries (page_of opening) (valid_said stream read) made }
-    ensures later { (u : Setup) (past : List Entry) (disks disks_after : List D) (logs logs_after : List L) → IsGood u past →
-        DisksLeft D.told D.faults past disks disks_after → LogsLeft L.told L.faults past logs logs_after →
-        (s log : ℕ) (opening left : Disk) (begun after : Log) (stream : StreamLine) (read : Option StreamRecord) → s < 16 → log < 4 →
-        TellsAt D.told disks s opening → TellsAt D.told disks_after s left → TellsAt L.told logs log begun →
-        TellsAt L.told logs_after log after → IsUpdated s log past → IsWholeDisk opening →
-        IsReadAs (page_of opening record_number) read → IsNumbered s stream read past →
-        AllByRecursion (λ entry. entry.lsn ≤ after.durable) begun.entries →
-        (redo : Redo) (old_pages : ℕ → List ℕ) (old_first : ℕ) → redo.stream ≡ s → redo.size ≡ size_said stream read →
-        HadBegun redo begun.entries (appended past log) (page_of opening) (valid_said stream read) old_pages old_first →
-        (i : Input) (script : Script) (replies : List LineReply) (journal : List Entry) (status : ℕ)
-        (handed_disks disks_begun : List D) (handed_logs logs_begun : List L) →
-        (next : IsBegun D.told D.faults L.told L.faults i (Some script) replies journal status handed_disks disks_begun
-        handed_logs logs_begun) → (n : ℕ) (other : StreamLine) (one : LogRestart) (handed : Disk) (kept : Log) →
-        IsRestartOf s log other script.streams script.restarts next.ended n one → SameNumbers stream other →
-        IsHandedOn left handed → IsKept after.durable after.entries kept.entries → TellsAt D.told handed_disks s handed →
-        TellsAt L.told handed_logs log kept → (numbers : Numbers) → one.ended ≡ Ok numbers →
-        (made : Disk) × TellsAt D.told disks_begun s made
-        × IsFileMade s (size_said stream read) kept.entries old_pages old_first made }
-{
-    restarts_redo_what_is_left::<D, L>();
-    what_a_run_leaves_can_be_redone();
-}
+/// A run goes on with a log from the greatest LSN that the restart of it read, if the line of the restart was answered as done, and that of
+/// a stream as opened: before anything was appended to the log, it was flushed up to that LSN, so later LSNs are greater.
+pub fn restarted_runs_go_on<D: PageDisk, L: LogFile>()
+    ensures { (s log : ℕ) (stream : StreamLine) (was : Disk) (had : Log) (call : ProgramCall D L) →
+        (restarted : HasRestarted D.told D.faults L.told L.faults s log stream was had call) →
+        WasOpened restarted.script call → GoesOnFrom log (last_of (readings restarted.kept.entries)) call.past }
+{}
 
-/// The same where the next run's restart is refused, at whichever of its calls it stopped: `first` and `later` say that the disk with
-/// which that run begins is one of which again a restart makes the file, whatever a crash leaves of it then. The run behind it is
-/// handed such a disk and the log as that restart read it: where its own restart is refused too, so is the disk that it begins with
-/// (`again`), and where it is done, the file is made (`done`), which is what the law on runs asks of a run that goes on from it.
+/// One stop and the call behind it. `first`: a first run leaves of its disk and of its log what can be redone to the file with which it
+/// began. `made`: what can be redone so is redone by the next call, if its restart is answered as done: the disk with which its run begins
+/// has the file with the kept updates applied in their order, each whole; and these are all that the kept entries record of the stream.
+/// `later`: what that run leaves in turn can be redone to the same file.
+pub fn stopped_runs_are_redone_by_the_next<D: PageDisk, L: LogFile>()
+    ensures first { (s log : ℕ) (stream : StreamLine) (read : Option StreamRecord) (opening : Disk) (call : ProgramCall D L)
+        (left : Disk) (after : Log) → IsFirst D.told D.faults L.told L.faults s log stream read opening call left after →
+        IsRedoneFrom s stream (size_said stream read) (page_of opening) (valid_said stream read) left after }
+    ensures made { (s log size first : ℕ) (stream : StreamLine) (pages : ℕ → List ℕ) (was : Disk) (had : Log) →
+        IsRedoneFrom s stream size pages first was had → (call : ProgramCall D L) →
+        (restarted : HasRestarted D.told D.faults L.told L.faults s log stream was had call) →
+        (made : Disk) × TellsAt D.told call.disks_begun s made × TellsAt L.told call.logs_begun log restarted.kept
+        × (file : IsFileMade s size restarted.kept.entries pages first made)
+        × (length (updates_in file.has.redo restarted.kept.entries)
+        ≡ length (filter (λ entry. is_update_of s (said_by entry.bytes)) restarted.kept.entries)) }
+    ensures later { (s log size first : ℕ) (stream : StreamLine) (pages : ℕ → List ℕ) (was : Disk) (had : Log) →
+        IsRedoneFrom s stream size pages first was had → (call : ProgramCall D L) (left : Disk) (after : Log) →
+        RunsOn D.told D.faults L.told L.faults s log stream was had call left after →
+        IsRedoneFrom s stream size pages first left after }
+{}
+
+/// A call that is stopped within its restarts, at whichever of their calls, or behind them, whether it then ran its script or found no
+/// memory for that, or that ended before them: the disk with which it began can be redone to the file, whatever a crash leaves of it, if the log
+/// still has the entries that it was handed.
 pub fn stopped_restarts_are_redone_by_the_next<D: PageDisk, L: LogFile>()
-    ensures first { (u : Setup) (past : List Entry) (disks disks_after : List D) (logs logs_after : List L) → IsGood u past →
-        DisksLeft D.told D.faults past disks disks_after → LogsLeft L.told L.faults past logs logs_after →
-        (s log : ℕ) (opening left : Disk) (begun after : Log) (stream : StreamLine) (read : Option StreamRecord) → s < 16 → log < 4 →
-        TellsAt D.told disks s opening → TellsAt D.told disks_after s left → TellsAt L.told logs log begun →
-        TellsAt L.told logs_after log after → IsUpdated s log past → IsWholeDisk opening →
-        IsReadAs (page_of opening record_number) read → IsNumbered s stream read past → begun.entries ≡ [] →
-        (i : Input) (script : Script) (replies : List LineReply) (journal : List Entry) (status : ℕ)
-        (handed_disks disks_begun : List D) (handed_logs logs_begun : List L) →
-        (next : IsBegun D.told D.faults L.told L.faults i (Some script) replies journal status handed_disks disks_begun
-        handed_logs logs_begun) → (n : ℕ) (other : StreamLine) (one : LogRestart) (handed : Disk) (kept : Log) →
-        IsRestartOf s log other script.streams script.restarts next.ended n one → SameNumbers stream other →
-        IsHandedOn left handed → IsKept after.durable after.entries kept.entries → TellsAt D.told handed_disks s handed →
-        TellsAt L.told handed_logs log kept →
-        (e : CcError) → one.ended ≡ Err e → (now : Disk) × TellsAt D.told disks_begun s now × TellsAt L.told logs_begun log kept
-        × IsRedoable s stream (size_said stream read) kept.entries (page_of opening) (valid_said stream read) now }
-    ensures later { (u : Setup) (past : List Entry) (disks disks_after : List D) (logs logs_after : List L) → IsGood u past →
-        DisksLeft D.told D.faults past disks disks_after → LogsLeft L.told L.faults past logs logs_after →
-        (s log : ℕ) (opening left : Disk) (begun after : Log) (stream : StreamLine) (read : Option StreamRecord) → s < 16 → log < 4 →
-        TellsAt D.told disks s opening → TellsAt D.told disks_after s left → TellsAt L.told logs log begun →
-        TellsAt L.told logs_after log after → IsUpdated s log past → IsWholeDisk opening →
-        IsReadAs (page_of opening record_number) read → IsNumbered s stream read past →
-        AllByRecursion (λ entry. entry.lsn ≤ after.durable) begun.entries →
-        (redo : Redo) (old_pages : ℕ → List ℕ) (old_first : ℕ) → redo.stream ≡ s → redo.size ≡ size_said stream read →
-        HadBegun redo begun.entries (appended past log) (page_of opening) (valid_said stream read) old_pages old_first →
-        (i : Input) (script : Script) (replies : List LineReply) (journal : List Entry) (status : ℕ)
-        (handed_disks disks_begun : List D) (handed_logs logs_begun : List L) →
-        (next : IsBegun D.told D.faults L.told L.faults i (Some script) replies journal status handed_disks disks_begun
-        handed_logs logs_begun) → (n : ℕ) (other : StreamLine) (one : LogRestart) (handed : Disk) (kept : Log) →
-        IsRestartOf s log other script.streams script.restarts next.ended n one → SameNumbers stream other →
-        IsHandedOn left handed → IsKept after.durable after.entries kept.entries → TellsAt D.told handed_disks s handed →
-        TellsAt L.told handed_logs log kept →
-        (e : CcError) → one.ended ≡ Err e → (now : Disk) × TellsAt D.told disks_begun s now × TellsAt L.told logs_begun log kept
-        × IsRedoable s stream (size_said stream read) kept.entries old_pages old_first now }
-    ensures again { (i : Input) (script : Script) (replies : List LineReply) (journal : List Entry) (status : ℕ)
-        (handed_disks disks_begun : List D) (handed_logs logs_begun : List L) →
-        (next : IsBegun D.told D.faults L.told L.faults i (Some script) replies journal status handed_disks disks_begun
-        handed_logs logs_begun) → (s log n size valid : ℕ) (stream other : StreamLine) (one : LogRestart) (kept : Log)
-        (pages : ℕ → List ℕ) (left handed : Disk) → IsRestartOf s log other script.streams script.restarts next.ended n one →
-        SameNumbers stream other → IsRedoable s stream size kept.entries pages valid left → IsHandedOn left handed →
-        TellsAt D.told handed_disks s handed → TellsAt L.told handed_logs log kept →
-        (e : CcError) → one.ended ≡ Err e → (now : Disk) × TellsAt D.told disks_begun s now × TellsAt L.told logs_begun log kept
-        × IsRedoable s stream size kept.entries pages valid now }
-    ensures done { (i : Input) (script : Script) (replies : List LineReply) (journal : List Entry) (status : ℕ)
-        (handed_disks disks_begun : List D) (handed_logs logs_begun : List L) →
-        (next : IsBegun D.told D.faults L.told L.faults i (Some script) replies journal status handed_disks disks_begun
-        handed_logs logs_begun) → (s log n size valid : ℕ) (stream other : StreamLine) (one : LogRestart) (kept : Log)
-        (pages : ℕ → List ℕ) (left handed : Disk) → IsRestartOf s log other script.streams script.restarts next.ended n one →
-        SameNumbers stream other → IsRedoable s stream size kept.entries pages valid left → IsHandedOn left handed →
-        TellsAt D.told handed_disks s handed → TellsAt L.told handed_logs log kept →
-        (numbers : Numbers) → one.ended ≡ Ok numbers → (made : Disk) × TellsAt D.told disks_begun s made
-        × TellsAt L.told logs_begun log kept × (file : IsFileMade s size kept.entries pages valid made)
-        × ((u : Setup) (past : List Entry) → IsGoodSoFar u past → GoesOnFrom log (last_of (readings kept.entries)) past →
-        AreAscending kept.entries → AllByRecursion (λ entry. entry.lsn ≤ 2 ^ 62) kept.entries →
-        HadBegun file.redo kept.entries (appended past log) (page_of made) file.valid pages valid) }
-{
-    restarts_redo_what_is_left::<D, L>();
-    what_a_run_leaves_can_be_redone();
-}
+    ensures { (s log size first : ℕ) (stream : StreamLine) (pages : ℕ → List ℕ) (was : Disk) (had : Log) →
+        IsRedoneFrom s stream size pages first was had → (call : ProgramCall D L) (handed : Disk) (kept : Log) →
+        HasClauses D.told D.faults L.told L.faults call →
+        IsHandedIn D.told L.told call.disks call.logs s log was had handed kept →
+        ((script : Script) → IsScriptOf call.input call.script script → NamesStream s log stream handed script) →
+        (left : Disk) × TellsAt D.told call.disks_begun s left × TellsAt L.told call.logs_begun log kept
+        × IsRedoneFrom s stream size pages first left (as_read kept) }
+{}
+
+/// Any number of calls, each behind a stop of the one before it: `left` says of what they leave that it can be redone, and `file` that the
+/// next call whose restart is answered as done begins with the file with which the first one's run began, with the updates of the kept
+/// entries applied in their order, each whole, and all that these record of the stream.
+pub fn any_number_of_stops_is_redone<D: PageDisk, L: LogFile>()
+    ensures left { (s log : ℕ) (stream : StreamLine) (read : Option StreamRecord) (opening : Disk) (calls : List (ProgramCall D L))
+        (left : Disk) (after : Log) → HaveLeft D.told D.faults L.told L.faults s log stream read opening calls left after →
+        IsRedoneFrom s stream (size_said stream read) (page_of opening) (valid_said stream read) left after }
+    ensures file { (s log : ℕ) (stream : StreamLine) (read : Option StreamRecord) (opening : Disk) (calls : List (ProgramCall D L))
+        (was : Disk) (had : Log) → HaveLeft D.told D.faults L.told L.faults s log stream read opening calls was had →
+        (call : ProgramCall D L) → (restarted : HasRestarted D.told D.faults L.told L.faults s log stream was had call) →
+        (made : Disk) × TellsAt D.told call.disks_begun s made
+        × (file : IsFileMade s (size_said stream read) restarted.kept.entries (page_of opening) (valid_said stream read) made)
+        × (length (updates_in file.has.redo restarted.kept.entries)
+        ≡ length (filter (λ entry. is_update_of s (said_by entry.bytes)) restarted.kept.entries)) }
+{}

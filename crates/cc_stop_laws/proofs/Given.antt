@@ -5,7 +5,6 @@ use Rattle.std.specs.declared.option.Option.TheVariants.{Some, None}
 use Rattle.std.proofs.Common.{ap, sym, subst, ◌∙◌, arith, inl, inr}
 use Rattle.std.proofs.lemmas.List.Elements.{Contains-push_cases}
 use Rattle.std.proofs.lemmas.Option.{same_Some}
-use Rattle.cc_format.proofs.Numbers.{spelled_once}
 use Rattle.cc_format.specs.Spelling.{IsReadAs}
 use Rattle.cc_format.specs.declared.record.StreamRecord.{StreamRecord}
 use Rattle.cc_redo.specs.Disks.{record_number}
@@ -14,14 +13,7 @@ use Rattle.cc_restarts.specs.Given.{AreSizes, GivenOf, GivenTo, GivenWith, IsRed
 use Rattle.cc_script.specs.declared.script.StreamLine.{StreamLine}
 use Rattle.cc_traits.specs.Disk.{Disk, page_of}
 use Rattle.cc_traits.specs.Told.{IfTold}
-use Rattle.cc_stop_laws.specs.Redoable.{SameNumbers}
-
--- a page is read in one way
-pub read-once : (content : List ℕ) (one other : Option StreamRecord) → IsReadAs content one → IsReadAs content other → one ≡ other
-read-once content None None one other = refl
-read-once content None (Some told) one other = absurd (one told other)
-read-once content (Some told) None one other = absurd (other told one)
-read-once content (Some first) (Some second) one other = ap (λ (r : StreamRecord). Some r) (spelled_once content first second one other)
+use Rattle.cc_stop_laws.specs.Redoable.{NamesAgain}
 
 -- a content that is one of one
 pub one-alone : {A : Type 0} (only x : A) → Contains (only ∷ []) x → only ≡ x
@@ -31,29 +23,29 @@ one-alone only x among = go (Contains-push_cases [] only x among)
     go (inl none) = absurd (omega (arith, none.1))
     go (inr is) = is
 
--- two lines with the same numbers say the same, whatever was read
-pub same-size : (one other : StreamLine) (read : Option StreamRecord) → SameNumbers one other → size_said other read ≡ size_said one read
-same-size one other None same = same.size
-same-size one other (Some told) same = refl
+-- two lines say the same numbers, where this was read
+abbrev pub SameSaid : StreamLine → StreamLine → Option StreamRecord → Type 0
+SameSaid one other read = (size_said other read ≡ size_said one read) × (valid_said other read ≡ valid_said one read)
 
-pub same-valid : (one other : StreamLine) (read : Option StreamRecord) → SameNumbers one other → valid_said other read ≡ valid_said one read
-same-valid one other None same = same.valid
-same-valid one other (Some told) same = refl
+-- so they do where one names those of the other again
+pub names-same : (disk : Disk) (one other : StreamLine) (read : Option StreamRecord) → NamesAgain disk one other → IsReadAs (page_of disk record_number) read → SameSaid one other read
+names-same disk one other None again reads = let same = again reads in (same.size, same.valid)
+names-same disk one other (Some told) again reads = (refl, refl)
 
-pub same-sizes : (one other : StreamLine) (read : Option StreamRecord) → SameNumbers one other → AreSizes one read → AreSizes other read
+pub same-sizes : (one other : StreamLine) (read : Option StreamRecord) → SameSaid one other read → AreSizes one read → AreSizes other read
 same-sizes one other read same sizes =
-    let size = same-size one other read same in
-    let valid = same-valid one other read same in
+    let size = same.0 in
+    let valid = same.1 in
     let within = sizes.within in
     let fits = sizes.in_range in
     record { within = omega (arith, size, valid, within); in_range = omega (arith, size, fits) }
 
-pub same-redo : (s : ℕ) (one other : StreamLine) (read : Option StreamRecord) (redo : Redo) → SameNumbers one other → AreSizes one read → IsRedoOf s other read redo → IsRedoOf s one read redo
+pub same-redo : (s : ℕ) (one other : StreamLine) (read : Option StreamRecord) (redo : Redo) → SameSaid one other read → AreSizes one read → IsRedoOf s other read redo → IsRedoOf s one read redo
 same-redo s one other read redo same sizes is = record {
   stream_is = is.stream_is;
   disk_is = is.disk_is;
-  size_is = is.size_is ∙ same-size one other read same;
-  valid_is = is.valid_is ∙ same-valid one other read same;
+  size_is = is.size_is ∙ same.0;
+  valid_is = is.valid_is ∙ same.1;
   sizes = sizes;
 }
 

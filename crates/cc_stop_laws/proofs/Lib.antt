@@ -1,10 +1,9 @@
 -- Lemmas.
-mod Same
 mod Given
 mod Position
 mod Outcome
 mod Made
-mod Restarting
-mod Runs
+pub mod Restarting
+pub mod Runs
 pub mod Computed
 mod WorkedRun

@@ -1,37 +1,33 @@
 -- A restart that is done makes the file; one that is refused leaves a disk of which the next one makes it.
-use Rattle.std.specs.Prelude.{◌≡◌, ℕ, zero, suc, ◌+◌, ◌*◌, ◌/◌, ◌%◌, ◌^◌, ◌<◌, ◌≤◌, ◌⊎◌, ◌||◌, ◌==◌, Bool, true, false, nat_lt, max, List, [], ◌∷◌, ◌++◌, length, replicate, slice_index, Contains, refl, if◌then◌else◌}
-use Rattle.std.specs.List.{AllByRecursion, list_any}
+use Rattle.std.specs.Prelude.{◌≡◌, ℕ, zero, suc, ◌+◌, ◌*◌, ◌/◌, ◌%◌, ◌<◌, ◌≤◌, ◌⊎◌, ◌||◌, ◌==◌, Bool, true, false, nat_lt, List, [], ◌∷◌, ◌++◌, length, replicate, slice_index, Contains, refl, if◌then◌else◌}
+use Rattle.std.specs.List.{list_any}
 use Rattle.std.specs.declared.option.Option.{Option}
 use Rattle.std.specs.declared.option.Option.TheVariants.{Some}
 use Rattle.std.proofs.Common.{ap, sym, subst, ◌∙◌, arith, inl, inr}
-use Rattle.std.proofs.lemmas.Bool.{eq-eqb, eqb-true}
+use Rattle.std.proofs.lemmas.Bool.{eq-eqb}
 use Rattle.std.proofs.lemmas.List.{length-append, length-replicate}
 use Rattle.cc_format.specs.Spelling.{IsReadAs}
 use Rattle.cc_format.specs.declared.record.StreamRecord.{StreamRecord}
 use Rattle.cc_format.specs.declared.record.StreamRecord.TheVariants.{V2}
-use Rattle.cc_entry.specs.declared.entry.Entry.{Entry}
-use Rattle.cc_log.specs.Turn.{appended}
-use Rattle.cc_model.specs.Good.{IsGoodSoFar}
-use Rattle.cc_model.specs.Setup.{Setup}
 use Rattle.cc_model.specs.Records.{little_endian, record_page}
 use Rattle.cc_redo.proofs.Patches.{length-after}
 use Rattle.cc_redo.specs.Changes.{byte_after, page_after}
-use Rattle.cc_redo.specs.Disks.{IsBetween, IsMade, Was, changed_page, record_number, with_record}
+use Rattle.cc_redo.specs.Disks.{IsBetween, IsMade, Was, changed_page, record_number}
 use Rattle.cc_redo.specs.Ends.{made_from}
-use Rattle.cc_redo.specs.Heard.{Change, from_of, is_given, last_of, readings, redone_of, valid_behind, valid_of, end_of}
+use Rattle.cc_redo.specs.Heard.{Change, from_of, is_given, readings, redone_of, valid_behind, valid_of}
 use Rattle.cc_redo.specs.declared.redo.Redo.{Redo}
-use Rattle.cc_restart_laws.proofs.Again.{made-file, valid-more}
-use Rattle.cc_restart_laws.proofs.Raised.{makes-same}
+use Rattle.cc_restart_laws.proofs.Again.{after-least, made-data, made-file, once-more, valid-more}
+use Rattle.cc_restart_laws.proofs.Ends.{page-byte}
+use Rattle.cc_restart_laws.proofs.Raised.{behind-same, from-same, makes-same, redone-same, updates-same}
 use Rattle.cc_restart_laws.proofs.Redoing.{contains-any, valid-within}
-use Rattle.cc_restart_laws.specs.Stops.{AreAscending, HadBegun, MakesFile, file_byte, updated_byte, updates_in, valid_after}
+use Rattle.cc_restart_laws.proofs.Told.{read-once}
+use Rattle.cc_restart_laws.specs.Stops.{MakesFile, file_byte, updated_byte, updates_in}
 use Rattle.cc_restarts.specs.Given.{AreSizes, IsRedoOf, size_said, valid_said}
 use Rattle.cc_script.specs.declared.script.StreamLine.{StreamLine}
 use Rattle.cc_traits.specs.Disk.{Disk, may_of, page_of}
 use Rattle.cc_traits.specs.Log.{LogEntry}
-use Rattle.cc_update_laws.specs.Devices.{GoesOnFrom}
 use Rattle.cc_stop_laws.specs.Redoable.{IsFileMade, IsHandedOn, IsRedoable}
-use Rattle.cc_stop_laws.proofs.Given.{one-alone, read-once}
-use Rattle.cc_stop_laws.proofs.Same.{behind-same, from-same, once-more, page-byte, redone-same, updates-same}
+use Rattle.cc_stop_laws.proofs.Given.{SameSaid, one-alone, same-redo, same-sizes}
 
 -- ---- the pages that are made are whole
 
@@ -65,21 +61,6 @@ made-record streams kept redo old =
     pick : (b : Bool) (x y : List ℕ) → b ≡ true → (if b then x else y) ≡ x
     pick true x y is = refl
     pick false x y is = absurd (cc)
-
-not-record : (p size : ℕ) → 4096 * p < size → size < 2 ^ 63 → (record_number == p) ≡ false
-not-record p size below fits = go (record_number == p) refl
-  where
-    go : (b : Bool) → (record_number == p) ≡ b → (record_number == p) ≡ false
-    go false is = is
-    go true is = let same = eqb-true record_number p is in absurd (omega (arith, same, below, fits))
-
-made-data : (streams : List Redo) (kept : List LogEntry) (redo : Redo) (old : Disk) (p : ℕ) → 4096 * p < redo.size →
-    made_from streams (readings kept) redo old p ≡ page_after (redone_of redo (from_of streams (readings kept)) (readings kept)) p (page_of old p)
-made-data streams kept redo old p below =
-    aside (record_page redo.size (valid_of (readings kept) redo)) (changed_page (redone_of redo (from_of streams (readings kept)) (readings kept)) old) (not-record p redo.size below redo.in_range)
-  where
-    aside : (told : List ℕ) (made : ℕ → List ℕ) → (record_number == p) ≡ false → with_record told made p ≡ made p
-    aside told made other = rw other refl
 
 -- ---- the page that a restart makes is made again by one that is given other streams
 
@@ -174,18 +155,10 @@ given-once redo later streams same contains n = go (redo.stream == n) refl
         rest : (redo.stream == n) ≡ false → (redo.stream == n || list_any (λ r. r.stream == n) streams) ≡ list_any (λ r. r.stream == n) streams
         rest is = rw is refl
 
-contains-first : (redo : Redo) (streams : List Redo) → Contains (redo ∷ streams) redo
-contains-first redo streams = (0, omega arith, refl)
+contains-first : {A : Type 0} (x : A) (xs : List A) → Contains (x ∷ xs) x
+contains-first x xs = (0, omega arith, refl)
 
 -- ---- what a restart leaves of a disk that was handed on
-
--- what it made is what the next run is to begin with, where that goes on from the last LSN (`restarts_begin_the_next_run`)
-abbrev pub Begins : Type 0
-Begins =
-    (u : Setup) (past : List Entry) (log : ℕ) (streams : List Redo) (kept : List LogEntry) (redo : Redo) (old_pages : ℕ → List ℕ) (old_first first : ℕ) (old new : Disk) → IsGoodSoFar u past →
-    GoesOnFrom log (last_of (readings kept)) past → AreAscending kept → AllByRecursion (λ entry. entry.lsn ≤ 2 ^ 62) kept →
-    ((p : ℕ) → 4096 * p < redo.size → MakesFile streams kept redo old_pages old_first p (page_of old p)) → IsMade (made_from streams (readings kept) redo old) new → old_first ≤ redo.valid →
-    first ≡ valid_of (readings kept) redo → HadBegun redo kept (appended past log) (page_of new) first old_pages old_first
 
 module _ (s size first : ℕ) (stream : StreamLine) (kept : List LogEntry) (pages : ℕ → List ℕ) (left handed : Disk) (redoable : IsRedoable s stream size kept pages first left) (handed_on : IsHandedOn left handed)
     (given : List Redo) (read : Option StreamRecord) (redo : Redo) (spelled : IsReadAs (page_of handed record_number) read) (of_it : IsRedoOf s stream read redo) (contains : Contains given redo) where
@@ -215,34 +188,23 @@ module _ (s size first : ℕ) (stream : StreamLine) (kept : List LogEntry) (page
       let fits = redo.in_range in
       record { in_range = record { size_in_range = omega (arith, its, fits); within = omega (arith, its, within) }; spelled = is ∙ ap (λ (n : ℕ). record_page n reached) its }
 
-  file-made : (made : Disk) → IsMade (made_from given (readings kept) redo handed) made → IsFileMade s size kept pages first made
+  pub file-made : (made : Disk) → IsMade (made_from given (readings kept) redo handed) made → IsFileMade s size kept pages first made
   file-made made is = record {
-    redo = redo;
-    stream_is = of_it.stream_is;
-    size_is = size-is;
     valid = reached;
     spelled = spells-reached (page_of made record_number) (is.holds record_number ∙ made-record given kept redo handed);
-    least = valid-more kept redo first least;
-    file = λ i below. let its = size-is in
-        made-file given kept redo pages first handed made (λ p in_size. makes-handed given contains p (omega (arith, its, in_size))) is i (omega (arith, its, below));
-    whole = record {
-      long = λ p. ap length (is.holds p) ∙ made-long given kept redo handed p (handed_on.whole.long p);
-      alone = λ p. is.may p ∙ ap (λ (l : List ℕ). l ∷ []) (sym (is.holds p));
+    has = record {
+      redo = redo;
+      stream_is = of_it.stream_is;
+      size_is = size-is;
+      least = valid-more kept redo first least;
+      file = λ i below. let its = size-is in
+          made-file given kept redo pages first handed made (λ p in_size. makes-handed given contains p (omega (arith, its, in_size))) is i (omega (arith, its, below));
+      whole = record {
+        long = λ p. ap length (is.holds p) ∙ made-long given kept redo handed p (handed_on.whole.long p);
+        alone = λ p. is.may p ∙ ap (λ (l : List ℕ). l ∷ []) (sym (is.holds p));
+      };
     };
   }
-
-  -- a run that goes on from what was made
-  next-run : Begins → (made : Disk) → IsMade (made_from given (readings kept) redo handed) made → (u : Setup) (past : List Entry) (log : ℕ) → IsGoodSoFar u past → GoesOnFrom log (last_of (readings kept)) past → AreAscending kept →
-      AllByRecursion (λ entry. entry.lsn ≤ 2 ^ 62) kept → HadBegun redo kept (appended past log) (page_of made) reached pages first
-  next-run begins made is u past log good goes rising fits =
-      let its = size-is in
-      begins u past log given kept redo pages first reached handed made good goes rising fits (λ p in_size. makes-handed given contains p (omega (arith, its, in_size))) is least refl
-
-  pub file-next : Begins → (made : Disk) → IsMade (made_from given (readings kept) redo handed) made → (file : IsFileMade s size kept pages first made)
-      × ((u : Setup) (past : List Entry) (log : ℕ) → IsGoodSoFar u past → GoesOnFrom log (last_of (readings kept)) past → AreAscending kept → AllByRecursion (λ entry. entry.lsn ≤ 2 ^ 62) kept →
-      HadBegun file.redo kept (appended past log) (page_of made) file.valid pages first)
-  unfolding file-made
-  file-next begins made is = (file-made made is, λ u past log good goes rising fits. next-run begins made is u past log good goes rising fits)
 
   module _ (now : Disk) (between : IsBetween (made_from given (readings kept) redo handed) handed now) where
     -- what a crash may leave of a page was handed in, or is made
@@ -266,7 +228,7 @@ module _ (s size first : ℕ) (stream : StreamLine) (kept : List LogEntry) (page
     makes-page streams p bytes among below (inl is) = subst (λ (l : List ℕ). MakesFile streams kept redo pages first p l) (sym is) (makes-handed streams among p below)
     makes-page streams p bytes among below (inr is) =
         let its = size-is in
-        subst (λ (l : List ℕ). MakesFile streams kept redo pages first p l) (sym (is ∙ made-data given kept redo handed p (omega (arith, its, below))))
+        subst (λ (l : List ℕ). MakesFile streams kept redo pages first p l) (sym (is ∙ made-data given kept redo pages first handed p (omega (arith, its, below))))
         (remade streams given kept redo pages first p (page_of handed p) (handed_on.whole.long p) (makes-handed streams among p below) (makes-handed given contains p below))
 
     makes-later : (other : Option StreamRecord) (streams : List Redo) (later : Redo) (p : ℕ) (bytes : List ℕ) → (other ≡ read) ⊎ (other ≡ Some (V2 size reached)) → IsRedoOf s stream other later → Contains streams later →
@@ -306,15 +268,8 @@ module _ (s size first : ℕ) (stream : StreamLine) (kept : List LogEntry) (page
     sizes-left other (inr is) = subst (λ o. AreSizes stream o × (size_said stream o ≡ size) × (first ≤ valid_said stream o)) (sym is) (
       record { within = let le = reached-within in let same = size-is in omega (arith, le, same); in_range = let fits = redo.in_range in let same = size-is in omega (arith, fits, same) },
       refl,
-      let more = valid-more kept redo first least in let grown = reaches (updates_in redo kept) first in omega (arith, more, grown),
+      let more = valid-more kept redo first least in let grown = after-least (updates_in redo kept) first in omega (arith, more, grown),
     )
-      where
-        over : (a b : ℕ) → a ≤ max a b
-        over a b = omega arith
-
-        reaches : (changes : List Change) (n : ℕ) → n ≤ valid_after changes n
-        reaches [] n = omega arith
-        reaches (change ∷ changes) n = let rest = reaches changes (max n (end_of change)) in let here = over n (end_of change) in omega (arith, rest, here)
 
     pub redoable-again : IsRedoable s stream size kept pages first now
     redoable-again = record {
@@ -334,3 +289,37 @@ redoable-handed s size first stream kept pages left handed redoable handed_on = 
   where
     still : (p : ℕ) (bytes : List ℕ) → Contains (may_of handed p) bytes → Contains (may_of left p) bytes
     still p bytes among = subst (λ (l : List ℕ). Contains (may_of left p) l) (one-alone (page_of handed p) bytes (subst (λ (l : List (List ℕ)). Contains l bytes) (handed_on.whole.alone p) among)) (handed_on.among p)
+
+-- and so can one on which the restart was done
+between-made : (made : ℕ → List ℕ) (old new : Disk) → IsMade made new → IsBetween made old new
+between-made made old new is = record {
+  pages = record {
+    holds = λ page possible.
+        subst (λ (l : List (List ℕ)). Contains l (page_of new page)) (sym (is.may page))
+        (subst (λ (bytes : List ℕ). Contains (made page ∷ []) bytes) (sym (is.holds page)) (contains-first (made page) []));
+    may = λ page bytes among. inr (sym (one-alone (made page) bytes (subst (λ (l : List (List ℕ)). Contains l bytes) (is.may page) among)));
+  };
+  ordered = inr (λ page other. (is.holds page, is.may page));
+}
+
+pub redoable-made : (s size first : ℕ) (stream : StreamLine) (kept : List LogEntry) (pages : ℕ → List ℕ) (left handed : Disk) → IsRedoable s stream size kept pages first left → IsHandedOn left handed →
+    (given : List Redo) (read : Option StreamRecord) (redo : Redo) → IsReadAs (page_of handed record_number) read → IsRedoOf s stream read redo → Contains given redo →
+    (made : Disk) → IsMade (made_from given (readings kept) redo handed) made → IsRedoable s stream size kept pages first made
+redoable-made s size first stream kept pages left handed redoable handed_on given read redo spelled of_it contains made is =
+    redoable-again s size first stream kept pages left handed redoable handed_on given read redo spelled of_it contains made (between-made (made_from given (readings kept) redo handed) handed made is)
+
+-- ---- for another line of the stream
+
+-- it is so for another line, where that says the same numbers whatever was read
+pub redoable-line : (s size first : ℕ) (line stream : StreamLine) (kept : List LogEntry) (pages : ℕ → List ℕ) (left : Disk) → IsRedoable s line size kept pages first left →
+    ((content : List ℕ) (read : Option StreamRecord) → Contains (may_of left record_number) content → IsReadAs content read → SameSaid line stream read) → IsRedoable s stream size kept pages first left
+redoable-line s size first line stream kept pages left redoable same = record {
+  sizes = λ content read among reads.
+      let its = redoable.sizes content read among reads in
+      let says = same content read among reads in
+      let least = its.2 in
+      let valid = says.1 in
+      (same-sizes line stream read says its.0, says.0 ∙ its.1, omega (arith, least, valid));
+  makes = λ content read among reads streams redo its contained p bytes below may.
+      redoable.makes content read among reads streams redo (same-redo s line stream read redo (same content read among reads) (redoable.sizes content read among reads).0 its) contained p bytes below may;
+}

@@ -11,13 +11,13 @@ use Rattle.cc_entry.specs.declared.error.CcError.TheVariants as error
 use Rattle.cc_format.specs.Spelling.{IsReadAs}
 use Rattle.cc_format.specs.declared.record.StreamRecord.{StreamRecord}
 use Rattle.cc_redo.specs.Disks.{IsBetween, IsMade, record_number}
-use Rattle.cc_redo.specs.Ends.{Leaves, LeavesBy, made_from}
-use Rattle.cc_redo.specs.Heard.{readings}
+use Rattle.cc_redo.specs.Ends.{IsAnswer, Leaves, LeavesBy, made_from}
+use Rattle.cc_redo.specs.Heard.{last_of, readings}
 use Rattle.cc_redo.specs.declared.redo.Redo.{Redo}
 use Rattle.cc_redo.specs.declared.streams.Restarted.{Restarted}
 use Rattle.cc_restarts.proofs.Counts.{held}
 use Rattle.cc_restarts.specs.Given.{AreSizes, IsRedoOf, is_log, is_restarted}
-use Rattle.cc_restarts.specs.Restarting.{LogRestarted, ReadingLeft, RecordsRead, WasRestarted, no_rise, numbers_of, one_rise}
+use Rattle.cc_restarts.specs.Restarting.{LogRestarted, ReadingLeft, RecordsRead, WasRestarted, lsn_of, no_rise, numbers_of, one_rise}
 use Rattle.cc_restarts.specs.declared.ended.Numbers.{Numbers}
 use Rattle.cc_script.specs.declared.script.StreamLine.{StreamLine}
 use Rattle.cc_traits.specs.Disk.{Disk, page_of}
@@ -40,6 +40,11 @@ pub restarted-from : (log : ℕ) (stream : StreamLine) → stream.stored ≡ tru
 restarted-from log stream stored logged =
     let its : is_log log stream.log ≡ true = ap (is_log log) logged ∙ eq-eqb log log refl in
     ap (λ b. b && is_log log stream.log) stored ∙ its
+
+-- the last LSN that a restart told
+abbrev last_in : Result Numbers CcError → Option ℕ
+last_in (Ok numbers) = numbers.last
+last_in (Err e) = None
 
 module _ {D L : Type 0} (told : D → Option Disk) (faults : D → ℕ) (log_told : L → Option Log) (log_count : L → ℕ) where
   -- the stream was given to the restart, with what its record said, and its disk stands as the restart left it
@@ -165,3 +170,15 @@ module _ {D L : Type 0} (told : D → Option Disk) (faults : D → ℕ) (log_tol
             ((after : D) × (slice_get new s ≡ Some after) × (told after ≡ Some handed)) ⊎ IsMadeOf new IsBetween
         go (Ok done) same k = absurd (cc (is, same))
         go (Err why) same k = inr (of-both new (Err why) IsBetween k k.leaves)
+
+  -- a restart that was done tells the greatest LSN of the log
+  pub done-last : (log : ℕ) (streams : List StreamLine) (kept : Log) (ended : Result Numbers CcError) (old new : List D) (was now : L) → log_told was ≡ Some kept → LogRestarted told faults log_told log_count log streams ended old new was now →
+      (numbers : Numbers) → ended ≡ Ok numbers → numbers.last ≡ lsn_of (last_of (readings kept.entries))
+  done-last log streams kept ended old new was now log_is (inl unread) numbers is = absurd (let other = unread.ended_is in cc (is, other))
+  done-last log streams kept ended old new was now log_is (inr w) numbers is = go w.answered refl w.ended_is
+    where
+      go : (answered : Result Restarted CcError) → w.answered ≡ answered → ended ≡ numbers_of log answered → numbers.last ≡ lsn_of (last_of (readings kept.entries))
+      go (Ok done) answers same =
+          let its : IsAnswer w.given kept done = subst (λ (o : Option Log). IfTold o (λ t. IsAnswer w.given t done)) log_is (w.answer done answers) in
+          ap last_in (sym is ∙ same) ∙ ap lsn_of its.numbers.last
+      go (Err e) answers same = absurd (cc (is, same))

@@ -1,48 +1,74 @@
--- The restarts of a script over what was handed on.
-use Rattle.std.specs.Prelude.{◌≡◌, ℕ, ◌^◌, ◌≤◌, ◌⊎◌, List, slice_get, Ok, Err}
+-- The restarts of a script over what was handed in.
+use Rattle.std.specs.Prelude.{◌≡◌, ℕ, ◌^◌, ◌<◌, ◌≤◌, ◌⊎◌, List, [], ◌∷◌, ◌++◌, slice_get, Result, Ok, Err, refl}
 use Rattle.std.specs.List.{AllByRecursion}
-use Rattle.cc_entry.specs.declared.entry.Entry.{Entry}
-use Rattle.cc_log.specs.Turn.{appended}
-use Rattle.cc_model.specs.Good.{IsGoodSoFar}
-use Rattle.cc_model.specs.Setup.{Setup}
-use Rattle.cc_redo.specs.Heard.{last_of, readings}
-use Rattle.cc_restart_laws.specs.Stops.{AreAscending, HadBegun}
-use Rattle.cc_update_laws.specs.Devices.{GoesOnFrom}
 use Rattle.std.specs.declared.option.Option.{Option}
 use Rattle.std.specs.declared.option.Option.TheVariants.{Some}
-use Rattle.std.proofs.Common.{ap, sym, ◌∙◌, inl, inr}
+use Rattle.std.proofs.Common.{ap, append-nil, sym, subst, ◌∙◌, arith, inl, inr}
+use Rattle.std.proofs.lemmas.Option.{same_Some}
 use Rattle.cc_entry.specs.declared.error.CcError.{CcError}
 use Rattle.cc_format.specs.Spelling.{IsReadAs}
 use Rattle.cc_format.specs.declared.record.StreamRecord.{StreamRecord}
 use Rattle.cc_redo.specs.Disks.{IsBetween, IsMade, record_number}
-use Rattle.std.proofs.lemmas.Option.{same_Some}
+use Rattle.cc_redo.specs.Heard.{last_of, readings}
+use Rattle.cc_restart_laws.proofs.Logs.{among-all, among-right}
+use Rattle.cc_restart_laws.proofs.Redoing.{IsAmong}
+use Rattle.cc_restart_laws.specs.Stops.{IsKept}
 use Rattle.cc_restarts.proofs.Kept.{one-tells}
 use Rattle.cc_restarts.specs.Given.{AreSizes}
-use Rattle.cc_restarts.specs.Restarting.{LogsRestarted}
+use Rattle.cc_restarts.specs.Restarting.{LogsRestarted, lsn_of}
 use Rattle.cc_restarts.specs.declared.ended.LogRestart.{LogRestart}
 use Rattle.cc_restarts.specs.declared.ended.Numbers.{Numbers}
 use Rattle.cc_script.specs.declared.script.RestartLine.{RestartLine}
 use Rattle.cc_script.specs.declared.script.StreamLine.{StreamLine}
 use Rattle.cc_traits.specs.Disk.{Disk, page_of}
-use Rattle.cc_traits.specs.Log.{Log}
-use Rattle.cc_stop_laws.proofs.Given.{same-redo, same-sizes}
-use Rattle.cc_stop_laws.proofs.Made.{Begins, file-next, redoable-again, redoable-handed}
-use Rattle.cc_stop_laws.proofs.Outcome.{IsMadeOf, done-made, refused-left, restarted-from}
+use Rattle.cc_traits.specs.Log.{Log, LogEntry}
+use Rattle.cc_update_laws.proofs.Devices.{last-least, log-front}
+use Rattle.cc_update_laws.specs.Logs.{IsLogOf}
+use Rattle.cc_stop_laws.proofs.Given.{SameSaid, names-same, same-redo, same-sizes}
+use Rattle.cc_stop_laws.proofs.Made.{file-made, redoable-again, redoable-handed, redoable-made}
+use Rattle.cc_stop_laws.proofs.Outcome.{IsMadeOf, done-last, done-made, refused-left, restarted-from}
 use Rattle.cc_stop_laws.proofs.Position.{IsAt, at-restart}
-use Rattle.cc_stop_laws.specs.Redoable.{IsFileMade, IsHandedOn, IsRedoable, IsRestartOf, SameNumbers, TellsAt}
+use Rattle.cc_stop_laws.specs.Redoable.{IsFileMade, IsHandedIn, IsHandedOn, IsRedoable, NamesAgain, RestartsStream, TellsAt}
+use Rattle.cc_stop_laws.specs.Runs.{IsRedoneFrom, as_read}
+
+-- a log that keeps each entry up to the last that was read keeps all that were read
+all-kept : (s size : ℕ) (entries kept : List LogEntry) → IsLogOf s size entries → IsKept (last_of (readings entries)) entries kept → entries ≡ kept
+all-kept s size entries kept are keeps = go keeps.rest keeps.splits keeps.beyond
+  where
+    go : (rest : List LogEntry) → entries ≡ kept ++ rest → AllByRecursion (λ entry. last_of (readings entries) < entry.lsn) rest → entries ≡ kept
+    go [] splits beyond = splits ∙ append-nil kept
+    go (x ∷ rest) splits beyond =
+        let among = subst (λ (l : List LogEntry). IsAmong l x) (sym splits) (among-right kept (x ∷ rest) x (inl refl)) in
+        let low = last-least 0 entries x among (among-all (λ (e : LogEntry). e.lsn ≤ 2 ^ 62) entries x are.in_range among) in
+        let above = beyond.0 in
+        absurd (omega (arith, low, above))
+
+-- so what makes the file of all that were read makes it again
+redone-read : (s size first : ℕ) (stream : StreamLine) (pages : ℕ → List ℕ) (now : Disk) (kept : Log) → IsLogOf s size kept.entries → IsRedoable s stream size kept.entries pages first now → IsRedoneFrom s stream size pages first now (as_read kept)
+redone-read s size first stream pages now kept are redoable = record {
+  entries = are;
+  redoable = λ fewer keeps. subst (λ (l : List LogEntry). IsRedoable s stream size l pages first now) (all-kept s size kept.entries fewer are keeps) redoable;
+}
+
+-- of what was handed in too
+pub redone-handed : (s size first : ℕ) (stream : StreamLine) (pages : ℕ → List ℕ) (left handed : Disk) (after kept : Log) → IsRedoneFrom s stream size pages first left after → IsHandedOn left handed → IsKept after.durable after.entries kept.entries →
+    IsRedoneFrom s stream size pages first handed (as_read kept)
+redone-handed s size first stream pages left handed after kept redone handed_on keeps =
+    redone-read s size first stream pages handed kept (log-front s size after.durable after.entries kept.entries redone.entries keeps)
+    (redoable-handed s size first stream kept.entries pages left handed (redone.redoable kept.entries keeps) handed_on)
 
 module _ {D L : Type 0} (told : D → Option Disk) (faults : D → ℕ) (log_told : L → Option Log) (log_count : L → ℕ) (streams : List StreamLine) (restarts : List RestartLine) (ended : List LogRestart) (disks disks_begun : List D) (logs logs_begun : List L)
-    (restarted : LogsRestarted told faults log_told log_count streams restarts ended disks disks_begun logs logs_begun) (s log n size first : ℕ) (stream other : StreamLine) (one : LogRestart) (kept : Log) (pages : ℕ → List ℕ) (left handed : Disk)
-    (is : IsRestartOf s log other streams restarts ended n one) (same : SameNumbers stream other) (redoable : IsRedoable s stream size kept.entries pages first left) (handed_on : IsHandedOn left handed) (disk_at : TellsAt told disks s handed)
-    (log_at : TellsAt log_told logs log kept) where
+    (restarted : LogsRestarted told faults log_told log_count streams restarts ended disks disks_begun logs logs_begun) (s log n : ℕ) (line : StreamLine) (one : LogRestart) (kept : Log) (is : RestartsStream s log line streams restarts n)
+    (ended_at : slice_get ended n ≡ Some one) (log_at : TellsAt log_told logs log kept) where
   place : IsAt told faults log_told log_count s log streams one disks disks_begun logs logs_begun
-  place = at-restart told faults log_told log_count streams s log other is.named is.logged restarts ended disks disks_begun logs logs_begun restarted n is.restart one is.at is.of_log is.ended_at is.once
+  place = at-restart told faults log_told log_count streams s log line is.named is.logged restarts ended disks disks_begun logs logs_begun restarted n is.restart one is.at is.of_log ended_at is.once
 
   log_is : log_told place.was ≡ Some kept
   log_is = ap log_told (same_Some place.was log_at.device (sym place.log_before ∙ log_at.at)) ∙ log_at.tells
 
-  before : slice_get place.old s ≡ Some disk_at.device
-  before = place.before ∙ disk_at.at
+  -- it tells the greatest LSN, where it was done
+  pub tells-last : (numbers : Numbers) → one.ended ≡ Ok numbers → numbers.last ≡ lsn_of (last_of (readings kept.entries))
+  tells-last numbers ok = done-last told faults log_told log_count log streams kept one.ended place.old place.new place.was place.now log_is place.restarted numbers ok
 
   -- the log tells what it told
   log-tells : TellsAt log_told logs_begun log kept
@@ -52,41 +78,77 @@ module _ {D L : Type 0} (told : D → Option Disk) (faults : D → ℕ) (log_tol
     tells = one-tells told faults log_told log_count log streams one.ended place.old place.new place.was place.now place.restarted ∙ log_is;
   }
 
-  stream-sizes : (read : Option StreamRecord) → IsReadAs (page_of handed record_number) read → AreSizes stream read
-  stream-sizes read reads = (redoable.sizes (page_of handed record_number) read (handed_on.among record_number) reads).0
+  module _ (size first : ℕ) (stream : StreamLine) (pages : ℕ → List ℕ) (left handed : Disk) (after : Log) (redone : IsRedoneFrom s stream size pages first left after)
+      (handed_in : IsHandedIn told log_told disks logs s log left after handed kept) (again : NamesAgain handed stream line) where
+    redoable : IsRedoable s stream size kept.entries pages first left
+    redoable = redone.redoable kept.entries handed_in.keeps
 
-  sizes : (read : Option StreamRecord) → IsReadAs (page_of handed record_number) read → AreSizes other read
-  sizes read reads = same-sizes stream other read same (stream-sizes read reads)
+    are-kept : IsLogOf s size kept.entries
+    are-kept = log-front s size after.durable after.entries kept.entries redone.entries handed_in.keeps
 
-  abbrev MadeOf : (P : (ℕ → List ℕ) → Disk → Disk → Type 0) → Type 0
-  MadeOf P =
-      IsMadeOf told faults log_told log_count s log streams other is.named (restarted-from log other is.stored is.logged) kept handed disk_at.device place.was log_is disk_at.tells sizes place.new P
+    before : slice_get place.old s ≡ Some handed_in.disk_at.device
+    before = place.before ∙ handed_in.disk_at.at
 
-  pub made-file : Begins → (numbers : Numbers) → one.ended ≡ Ok numbers → (made : Disk) × TellsAt told disks_begun s made × TellsAt log_told logs_begun log kept × (file : IsFileMade s size kept.entries pages first made)
-      × ((u : Setup) (past : List Entry) → IsGoodSoFar u past → GoesOnFrom log (last_of (readings kept.entries)) past → AreAscending kept.entries → AllByRecursion (λ entry. entry.lsn ≤ 2 ^ 62) kept.entries →
-      HadBegun file.redo kept.entries (appended past log) (page_of made) file.valid pages first)
-  made-file begins numbers ok =
-      let m : MadeOf (λ made old now. IsMade made now) =
-      done-made told faults log_told log_count s log streams other is.named (restarted-from log other is.stored is.logged) kept handed disk_at.device place.was log_is disk_at.tells sizes one.ended place.old place.new place.now before place.restarted numbers ok in
-      let both =
-      file-next s size first stream kept.entries pages left handed redoable handed_on m.given m.read m.redo m.spelled (same-redo s stream other m.read m.redo same (stream-sizes m.read m.spelled) m.of_it) m.contains begins m.made m.is in
-      (m.made, record { device = m.after; at = place.after ∙ m.at; tells = m.tells_made }, log-tells, both.0, λ u past good. both.1 u past log good)
+    said : (read : Option StreamRecord) → IsReadAs (page_of handed record_number) read → SameSaid stream line read
+    said read reads = names-same handed stream line read again reads
 
-  pub made-again : (e : CcError) → one.ended ≡ Err e → (now : Disk) × TellsAt told disks_begun s now × TellsAt log_told logs_begun log kept × IsRedoable s stream size kept.entries pages first now
-  made-again e err =
-      go (refused-left told faults log_told log_count s log streams other is.named (restarted-from log other is.stored is.logged) kept handed disk_at.device place.was log_is disk_at.tells sizes one.ended place.old place.new place.now before place.restarted e err)
-    where
-      go : ((after : D) × (slice_get place.new s ≡ Some after) × (told after ≡ Some handed)) ⊎ MadeOf IsBetween →
-          (now : Disk) × TellsAt told disks_begun s now × TellsAt log_told logs_begun log kept × IsRedoable s stream size kept.entries pages first now
-      go (inl stays) = (
-        handed,
-        record { device = stays.0; at = place.after ∙ stays.1; tells = stays.2 },
-        log-tells,
-        redoable-handed s size first stream kept.entries pages left handed redoable handed_on,
-      )
-      go (inr m) = (
-        m.made,
-        record { device = m.after; at = place.after ∙ m.at; tells = m.tells_made },
-        log-tells,
-        redoable-again s size first stream kept.entries pages left handed redoable handed_on m.given m.read m.redo m.spelled (same-redo s stream other m.read m.redo same (stream-sizes m.read m.spelled) m.of_it) m.contains m.made m.is,
-      )
+    stream-sizes : (read : Option StreamRecord) → IsReadAs (page_of handed record_number) read → AreSizes stream read
+    stream-sizes read reads = (redoable.sizes (page_of handed record_number) read (handed_in.handed_on.among record_number) reads).0
+
+    sizes : (read : Option StreamRecord) → IsReadAs (page_of handed record_number) read → AreSizes line read
+    sizes read reads = same-sizes stream line read (said read reads) (stream-sizes read reads)
+
+    abbrev MadeOf : (P : (ℕ → List ℕ) → Disk → Disk → Type 0) → Type 0
+    MadeOf P =
+        IsMadeOf told faults log_told log_count s log streams line is.named (restarted-from log line is.stored is.logged) kept handed handed_in.disk_at.device place.was log_is handed_in.disk_at.tells sizes place.new P
+
+    done : (numbers : Numbers) → one.ended ≡ Ok numbers → MadeOf (λ made old now. IsMade made now)
+    done numbers ok =
+        done-made told faults log_told log_count s log streams line is.named (restarted-from log line is.stored is.logged) kept handed handed_in.disk_at.device place.was log_is handed_in.disk_at.tells sizes one.ended place.old place.new place.now before place.restarted numbers ok
+
+    pub made-file : (numbers : Numbers) → one.ended ≡ Ok numbers → (made : Disk) × TellsAt told disks_begun s made × TellsAt log_told logs_begun log kept × IsFileMade s size kept.entries pages first made
+        × IsLogOf s size kept.entries
+    made-file numbers ok =
+        let m : MadeOf (λ made old now. IsMade made now) = done numbers ok in (
+          m.made,
+          record { device = m.after; at = place.after ∙ m.at; tells = m.tells_made },
+          log-tells,
+          file-made s size first stream kept.entries pages left handed redoable handed_in.handed_on m.given m.read m.redo m.spelled
+              (same-redo s stream line m.read m.redo (said m.read m.spelled) (stream-sizes m.read m.spelled) m.of_it) m.contains m.made m.is,
+          are-kept,
+        )
+
+    -- however it ended, a restart of the same entries makes the file of what it left
+    abbrev pub Again : Type 0
+    Again = (now : Disk) × TellsAt told disks_begun s now × TellsAt log_told logs_begun log kept × IsRedoneFrom s stream size pages first now (as_read kept)
+
+    redone-again : (now : Disk) → TellsAt told disks_begun s now → IsRedoable s stream size kept.entries pages first now → Again
+    redone-again now at redoable = (
+      now,
+      at,
+      log-tells,
+      redone-read s size first stream pages now kept are-kept redoable,
+    )
+
+    pub made-again : Again
+    made-again = ends one.ended refl
+      where
+        go : ((after : D) × (slice_get place.new s ≡ Some after) × (told after ≡ Some handed)) ⊎ MadeOf IsBetween → Again
+        go (inl stays) =
+            redone-again handed (record { device = stays.0; at = place.after ∙ stays.1; tells = stays.2 })
+            (redoable-handed s size first stream kept.entries pages left handed redoable handed_in.handed_on)
+        go (inr m) =
+            redone-again m.made (record { device = m.after; at = place.after ∙ m.at; tells = m.tells_made })
+            (redoable-again s size first stream kept.entries pages left handed redoable handed_in.handed_on m.given m.read m.redo m.spelled
+            (same-redo s stream line m.read m.redo (said m.read m.spelled) (stream-sizes m.read m.spelled) m.of_it) m.contains m.made m.is)
+
+        ends : (answered : Result Numbers CcError) → one.ended ≡ answered → Again
+        ends (Ok numbers) ok =
+            let m : MadeOf (λ made old now. IsMade made now) = done numbers ok in
+            redone-again m.made (record { device = m.after; at = place.after ∙ m.at; tells = m.tells_made })
+            (redoable-made s size first stream kept.entries pages left handed redoable handed_in.handed_on m.given m.read m.redo m.spelled
+            (same-redo s stream line m.read m.redo (said m.read m.spelled) (stream-sizes m.read m.spelled) m.of_it) m.contains m.made m.is)
+        ends (Err e) err =
+            go
+            (refused-left told faults log_told log_count s log streams line is.named (restarted-from log line is.stored is.logged) kept handed handed_in.disk_at.device place.was log_is handed_in.disk_at.tells sizes one.ended place.old place.new place.now before
+            place.restarted e err)

@@ -1,3 +1,4 @@
 -- What the contracts cite.
 pub mod Redoable
+pub mod Runs
 pub mod Worked

@@ -1,7 +1,7 @@
 -- What a stop leaves of a stream's disk, how the next run is handed it, and what the restart of its log makes of it.
 use Rattle.std.specs.Prelude.{◌≡◌, ℕ, ◌*◌, ◌<◌, ◌≤◌, true, List, ◌∷◌, ◌++◌, Contains, slice_get}
 use Rattle.std.specs.declared.option.Option.{Option}
-use Rattle.std.specs.declared.option.Option.TheVariants.{Some}
+use Rattle.std.specs.declared.option.Option.TheVariants.{Some, None}
 use Rattle.cc_entry.specs.declared.entry.End.{End}
 use Rattle.cc_entry.specs.declared.entry.Entry.{Entry}
 use Rattle.cc_entry.specs.declared.entry.Entry.TheVariants as entry
@@ -16,9 +16,8 @@ use Rattle.cc_model.specs.Records.{first_valid}
 use Rattle.cc_model.specs.Touches.{size_of}
 use Rattle.cc_redo.specs.Disks.{record_number}
 use Rattle.cc_redo.specs.declared.redo.Redo.{Redo}
-use Rattle.cc_restart_laws.specs.Stops.{MakesFile, file_byte, updated_byte, updates_in, valid_after}
+use Rattle.cc_restart_laws.specs.Stops.{IsKept, MakesFile, file_byte, updated_byte, updates_in, valid_after}
 use Rattle.cc_restarts.specs.Given.{AreSizes, IsRedoOf, size_said, valid_said}
-use Rattle.cc_restarts.specs.declared.ended.LogRestart.{LogRestart}
 use Rattle.cc_script.specs.declared.script.RestartLine.{RestartLine}
 use Rattle.cc_script.specs.declared.script.StreamLine.{StreamLine}
 use Rattle.cc_traits.specs.Disk.{Disk, may_of, page_of}
@@ -69,14 +68,27 @@ pub record SameNumbers (one other : StreamLine) : Type 0 where
   pub size : other.size ≡ one.size
   pub valid : other.valid ≡ one.valid
 
+-- a stream whose record page spells none is named with the same size and valid data length again
+abbrev pub NamesAgain : Disk → StreamLine → StreamLine → Type 0
+NamesAgain disk one other = IsReadAs (page_of disk record_number) None → SameNumbers one other
+
 -- What a crash left of a disk is handed in: each page has one of the contents that the crash may leave, and no other.
 pub record IsHandedOn (left handed : Disk) : Type 0 where
   pub whole : IsWholeDisk handed
   pub among : (p : ℕ) → Contains (may_of left p) (page_of handed p)
 
--- A log is restarted by one line, which is the n-th of these and ended so; the stream is stored, and has that log.
-pub record IsRestartOf (s log : ℕ) (stream : StreamLine) (streams : List StreamLine) (restarts : List RestartLine) (ended : List LogRestart)
-    (n : ℕ) (one : LogRestart) : Type 0 where
+-- Of several disks and logs that are handed in, the ones of these numbers are what a crash left of a disk and of a log: a front of the
+-- log's entries that has each durable one.
+pub record IsHandedIn {D L : Type 0} (told : D → Option Disk) (log_told : L → Option Log) (disks : List D) (logs : List L) (s log : ℕ)
+    (left : Disk) (after : Log) (handed : Disk) (kept : Log) : Type 0 where
+  pub disk_at : TellsAt told disks s handed
+  pub log_at : TellsAt log_told logs log kept
+  pub handed_on : IsHandedOn left handed
+  pub keeps : IsKept after.durable after.entries kept.entries
+
+-- Of the lines of a script the n-th that restarts a log restarts this one, and no other does; the stream is stored, and has that log.
+pub record RestartsStream (s log : ℕ) (stream : StreamLine) (streams : List StreamLine) (restarts : List RestartLine) (n : ℕ)
+    : Type 0 where
   pub named : slice_get streams s ≡ Some stream
   pub stored : stream.stored ≡ true
   pub logged : stream.log ≡ Some log
@@ -84,16 +96,19 @@ pub record IsRestartOf (s log : ℕ) (stream : StreamLine) (streams : List Strea
   pub at : slice_get restarts n ≡ Some restart
   pub of_log : restart.handle ≡ log
   pub once : (k : ℕ) (other : RestartLine) → slice_get restarts k ≡ Some other → other.handle ≡ log → k ≡ n
-  pub ended_at : slice_get ended n ≡ Some one
 
--- A disk has the file with these pages and this valid data length, with the updates of these entries applied in their order, each
--- whole; and its record tells the size, and no less valid data than the file has. A crash leaves that alone.
-pub record IsFileMade (s size : ℕ) (kept : List LogEntry) (pages : ℕ → List ℕ) (first : ℕ) (made : Disk) : Type 0 where
+-- A disk has, with this valid data length, the file with these pages and this valid data length at first, with the updates of these
+-- entries applied in their order, each whole. A crash leaves that alone.
+pub record HasFile (s size : ℕ) (kept : List LogEntry) (pages : ℕ → List ℕ) (first valid : ℕ) (disk : Disk) : Type 0 where
   pub redo : Redo
   pub stream_is : redo.stream ≡ s
   pub size_is : redo.size ≡ size
+  pub least : valid_after (updates_in redo kept) first ≤ valid
+  pub file : (i : ℕ) → i < size → file_byte (page_of disk) valid i ≡ updated_byte pages first (updates_in redo kept) i
+  pub whole : IsWholeDisk disk
+
+-- It has it with the valid data length that its record tells, and the record tells the size.
+pub record IsFileMade (s size : ℕ) (kept : List LogEntry) (pages : ℕ → List ℕ) (first : ℕ) (made : Disk) : Type 0 where
   pub valid : ℕ
   pub spelled : IsReadAs (page_of made record_number) (Some (V2 size valid))
-  pub least : valid_after (updates_in redo kept) first ≤ valid
-  pub file : (i : ℕ) → i < size → file_byte (page_of made) valid i ≡ updated_byte pages first (updates_in redo kept) i
-  pub whole : IsWholeDisk made
+  pub has : HasFile s size kept pages first valid made

@@ -1,15 +1,19 @@
 -- From what a run leaves of a disk and of a log: what a stop leaves of them is redone, and the next run goes on with it.
-use Rattle.std.specs.Prelude.{◌≡◌, ℕ, ◌*◌, ◌^◌, ◌<◌, ◌≤◌, Bool, true, false, nat_le, max, List, [], ◌∷◌, ◌++◌, Contains, refl, ◌⊎◌, if◌then◌else◌}
+use Rattle.std.specs.Prelude.{◌≡◌, ℕ, ◌*◌, ◌^◌, ◌<◌, ◌≤◌, Bool, true, false, nat_le, ◌==◌, max, List, [], ◌∷◌, ◌++◌, Contains, refl, ◌⊎◌, if◌then◌else◌}
 use Rattle.std.specs.List.{AllByRecursion}
 use Rattle.std.proofs.Common.{ap, sym, subst, ◌∙◌, inl, inr, arith}
 use Rattle.std.proofs.lemmas.Bool.{le-leb, leb-false, leb-true}
 use Rattle.cc_entry.specs.declared.entry.Entry.{Entry}
+use Rattle.cc_entry.specs.declared.entry.Entry.TheVariants as entry
+use Rattle.cc_laws.proofs.LogSteps.{floor_of-appended_other, floor_of-flushed, floor_of-flushed_other, floor_of-other, flushed_to-flushed, flushed_to-flushed_other, flushed_to-other}
 use Rattle.cc_log.specs.Turn.{Holds, appended}
 use Rattle.cc_model.specs.Good.{IsGoodSoFar}
 use Rattle.cc_model.specs.History.{history}
 use Rattle.cc_model.specs.Images.{crash_pages}
 use Rattle.cc_model.specs.Logs.{floor_of, flushed_to}
+use Rattle.cc_model.specs.Objects.{had_map}
 use Rattle.cc_model.specs.Setup.{Setup}
+use Rattle.cc_model.specs.Touches.{size_of}
 use Rattle.cc_traits.specs.Disk.{Disk, page_of}
 use Rattle.cc_traits.specs.Log.{Log, LogEntry}
 use Rattle.cc_turns.specs.Disk.{HasGone}
@@ -17,16 +21,19 @@ use Rattle.cc_turns.proofs.RecordPage.{apart}
 use Rattle.cc_redo.specs.Disks.{IsMade}
 use Rattle.cc_redo.specs.Ends.{made_from}
 use Rattle.cc_redo.specs.Heard.{last_behind, last_of, lsn_read, reading, readings, valid_of}
+use Rattle.cc_redo.specs.Reading.{said_by}
 use Rattle.cc_redo.specs.declared.redo.Redo.{Redo}
 use Rattle.cc_restart_laws.proofs.Again.{made-file, valid-more}
 use Rattle.cc_restart_laws.proofs.Files.{first-file, later-file}
 use Rattle.cc_restart_laws.proofs.Left.{log-left}
-use Rattle.cc_restart_laws.proofs.Logs.{among-all, among-cases, are-rising, is-appended, is-listed}
-use Rattle.cc_restart_laws.proofs.Records.{IsAppended, appended-before}
+use Rattle.cc_restart_laws.proofs.Logs.{all-among, all-both, all-first, among-all, among-cases, are-rising, is-appended, is-listed, lsn-fits, rising-first}
+use Rattle.cc_restart_laws.proofs.Records.{IsAppended, appended-before, flushed-grows}
 use Rattle.cc_restart_laws.proofs.Redoing.{IsAmong}
 use Rattle.cc_restart_laws.specs.Stops.{AreAscending, HadBegun, IsGivenAs, IsKept, MakesFile, file_byte, redone_byte, updated_byte, updates_in}
 use Rattle.cc_restart_laws.specs.Updates.{IsUpdated}
 use Rattle.cc_update_laws.specs.Devices.{AreLeft, GoesOnFrom, IsWholeDisk}
+use Rattle.cc_update_laws.specs.Logs.{EndsWithin, IsLogOf}
+use Rattle.cc_update_laws.proofs.Within.{appended-within}
 
 -- ---- a stop
 
@@ -69,7 +76,7 @@ last-grows n (x ∷ kept) =
     over : (a b : ℕ) → a ≤ max a b
     over a b = omega arith
 
-last-least : (n : ℕ) (kept : List LogEntry) (x : LogEntry) → IsAmong kept x → x.lsn ≤ 2 ^ 62 → x.lsn ≤ last_behind n (readings kept)
+pub last-least : (n : ℕ) (kept : List LogEntry) (x : LogEntry) → IsAmong kept x → x.lsn ≤ 2 ^ 62 → x.lsn ≤ last_behind n (readings kept)
 last-least n [] x among fits = absurd among
 last-least n (y ∷ kept) x (inl same) fits =
     let its : x.lsn ≡ y.lsn = ap (λ (e : LogEntry). e.lsn) same in
@@ -86,14 +93,10 @@ last-least n (y ∷ kept) x (inl same) fits =
     over a b = omega arith
 last-least n (y ∷ kept) x (inr among) fits = last-least (max n (lsn_read (reading y))) kept x among fits
 
-all-of : (P : LogEntry → Type 0) (xs : List LogEntry) → ((x : LogEntry) → IsAmong xs x → P x) → AllByRecursion P xs
-all-of P [] each = tt
-all-of P (x ∷ xs) each = (each x (inl refl), all-of P xs (λ y among. each y (inr among)))
-
 ascending-both : (xs ys : List LogEntry) → AreAscending xs → AreAscending ys → ((x y : LogEntry) → IsAmong xs x → IsAmong ys y → x.lsn < y.lsn) → AreAscending (xs ++ ys)
 ascending-both [] ys first second across = second
 ascending-both (x ∷ xs) ys first second across = (
-  all-of (λ later. x.lsn < later.lsn) (xs ++ ys) (λ y among. by y (among-cases xs ys y among)),
+  all-among (λ (later : LogEntry). x.lsn < later.lsn) (xs ++ ys) (λ y among. by y (among-cases xs ys y among)),
   ascending-both xs ys first.1 second (λ a b here there. across a b (inr here) there),
 )
   where
@@ -118,16 +121,111 @@ appended-above u log lsn past good goes y among = go (nat_le y.lsn (floor_of goe
         absurd (none-among (appended goes.front log) y goes.none (is-listed log y.lsn y.bytes goes.front before))
     go false above = let higher = leb-false y.lsn (floor_of goes.front log) above in let reached = goes.reached in omega (arith, higher, reached)
 
+-- so the LSNs of all entries ascend
+rising-on : (u : Setup) (past : List Entry) (log : ℕ) (kept : List LogEntry) → IsGoodSoFar u past → GoesOnFrom log (last_of (readings kept)) past → AreAscending kept → AllByRecursion (λ entry. entry.lsn ≤ 2 ^ 62) kept → AreAscending (kept ++ appended past log)
+rising-on u past log kept good goes rising fits =
+    ascending-both kept (appended past log) rising (are-rising u log past good)
+    (λ x y here there.
+    let low = last-least 0 kept x here (among-all (λ (e : LogEntry). e.lsn ≤ 2 ^ 62) kept x fits here) in
+    let high = appended-above u log (last_of (readings kept)) past good goes y there in
+    omega (arith, low, high))
+
 pub next-begins : (u : Setup) (past : List Entry) (log : ℕ) (streams : List Redo) (kept : List LogEntry) (redo : Redo) (old_pages : ℕ → List ℕ) (old_first first : ℕ) (old new : Disk) → IsGoodSoFar u past → GoesOnFrom log (last_of (readings kept)) past →
     AreAscending kept → AllByRecursion (λ entry. entry.lsn ≤ 2 ^ 62) kept → ((p : ℕ) → 4096 * p < redo.size → MakesFile streams kept redo old_pages old_first p (page_of old p)) → IsMade (made_from streams (readings kept) redo old) new →
     old_first ≤ redo.valid → first ≡ valid_of (readings kept) redo → HadBegun redo kept (appended past log) (page_of new) first old_pages old_first
 next-begins u past log streams kept redo old_pages old_first first old new good goes rising fits makes made least is = record {
-  ascending =
-      ascending-both kept (appended past log) rising (are-rising u log past good)
-      (λ x y here there.
-      let low = last-least 0 kept x here (among-all (λ (e : LogEntry). e.lsn ≤ 2 ^ 62) kept x fits here) in
-      let high = appended-above u log (last_of (readings kept)) past good goes y there in
-      omega (arith, low, high));
+  ascending = rising-on u past log kept good goes rising fits;
   valid = let more = valid-more kept redo old_first least in omega (arith, more, is);
   file = λ i below. ap (λ (n : ℕ). file_byte (page_of new) n i) is ∙ made-file streams kept redo old_pages old_first old new makes made i below;
 }
+
+-- ---- the log of a run that went on so
+
+floor-none : (log : ℕ) → floor_of [] log ≤ flushed_to [] log
+unfolding floor_of flushed_to
+floor-none log = omega arith
+
+-- where nothing was appended, the floor is what was flushed
+floor-flushed : (log : ℕ) (past : List Entry) → appended past log ≡ [] → floor_of past log ≤ flushed_to past log
+unfolding appended
+floor-flushed log [] none = floor-none log
+floor-flushed log (entry.Append pass handle lsn bytes ∷ past) none = go (handle == log) refl (λ is. floor-flushed log past is)
+  where
+    pushed : (xs : List LogEntry) (x : LogEntry) → xs ++ x ∷ [] ≡ [] → ⊥
+    pushed [] x is = cc
+    pushed (y ∷ ys) x is = cc
+
+    put : (handle == log) ≡ true → appended (entry.Append pass handle lsn bytes ∷ past) log ≡ appended past log ++ record { lsn = lsn; bytes = bytes } ∷ []
+    put same = rw same refl
+
+    aside : (handle == log) ≡ false → appended (entry.Append pass handle lsn bytes ∷ past) log ≡ appended past log
+    aside other = rw other refl
+
+    go : (b : Bool) → (handle == log) ≡ b → (appended past log ≡ [] → floor_of past log ≤ flushed_to past log) → floor_of (entry.Append pass handle lsn bytes ∷ past) log ≤ flushed_to (entry.Append pass handle lsn bytes ∷ past) log
+    go true same rest = absurd (pushed (appended past log) (record { lsn = lsn; bytes = bytes }) (sym (put same) ∙ none))
+    go false other rest =
+        let floor = floor_of-appended_other pass handle lsn bytes past log other in
+        let flushed = flushed_to-other (entry.Append pass handle lsn bytes) past log refl in
+        let before = rest (sym (aside other) ∙ none) in
+        omega (arith, floor, flushed, before)
+floor-flushed log (entry.Flushed pass handle to ∷ past) none = go (handle == log) refl (floor-flushed log past none)
+  where
+    both : (a b c : ℕ) → a ≤ b → max c a ≤ max c b
+    both a b c le = omega arith
+
+    go : (b : Bool) → (handle == log) ≡ b → floor_of past log ≤ flushed_to past log → floor_of (entry.Flushed pass handle to ∷ past) log ≤ flushed_to (entry.Flushed pass handle to ∷ past) log
+    go true same before =
+        let floor = floor_of-flushed pass handle to past log same in
+        let flushed = flushed_to-flushed pass handle to past log same in
+        let more = both (floor_of past log) (flushed_to past log) to before in
+        omega (arith, floor, flushed, more)
+    go false other before =
+        let floor = floor_of-flushed_other pass handle to past log other in
+        let flushed = flushed_to-flushed_other pass handle to past log other in
+        omega (arith, floor, flushed, before)
+floor-flushed log (other ∷ past) none =
+    let floor = floor_of-other other past log refl in
+    let flushed = flushed_to-other other past log refl in
+    let before = floor-flushed log past none in
+    omega (arith, floor, flushed, before)
+
+-- the entries with which it began are durable
+pub begun-durable : (past : List Entry) (log : ℕ) (begun after : Log) → GoesOnFrom log (last_of (readings begun.entries)) past → AllByRecursion (λ entry. entry.lsn ≤ 2 ^ 62) begun.entries → Holds (appended past log) (flushed_to past log) begun after →
+    AllByRecursion (λ entry. entry.lsn ≤ after.durable) begun.entries
+begun-durable past log begun after goes fits holds = all-among (λ (x : LogEntry). x.lsn ≤ after.durable) begun.entries durable
+  where
+    flushed : last_of (readings begun.entries) ≤ flushed_to past log
+    flushed =
+        let reached = goes.reached in
+        let floor = floor-flushed log goes.front goes.none in
+        let grows = flushed-grows log goes.later goes.front in
+        let is : flushed_to past log ≡ flushed_to (goes.later ++ goes.front) log = ap (λ (l : List Entry). flushed_to l log) goes.splits in
+        omega (arith, reached, floor, grows, is)
+
+    durable : (x : LogEntry) → IsAmong begun.entries x → x.lsn ≤ after.durable
+    durable x among =
+        let low = last-least 0 begun.entries x among (among-all (λ (e : LogEntry). e.lsn ≤ 2 ^ 62) begun.entries x fits among) in
+        let high = flushed in
+        let its = holds.durable in
+        omega (arith, low, high, its)
+
+-- what it leaves of the log is again the log of the stream
+pub log-whole : (u : Setup) (past : List Entry) (s log size : ℕ) (begun : List LogEntry) → IsGoodSoFar u past → IsUpdated s log past → (had_map (history past s) ≡ true → size_of (history past s) ≡ size) → GoesOnFrom log (last_of (readings begun)) past →
+    IsLogOf s size begun → IsLogOf s size (begun ++ appended past log)
+log-whole u past s log size begun good updated sized goes is = record {
+  ascending = rising-on u past log begun good goes is.ascending is.in_range;
+  in_range = all-both (λ (x : LogEntry). x.lsn ≤ 2 ^ 62) begun (appended past log) is.in_range
+      (all-among (λ (x : LogEntry). x.lsn ≤ 2 ^ 62) (appended past log) (λ x among. lsn-fits u log x.lsn x.bytes past good (is-appended log x past among)));
+  within = all-both (λ (x : LogEntry). EndsWithin s size (said_by x.bytes)) begun (appended past log) is.within (appended-within u past s log size good updated sized);
+}
+
+-- and so is each front of it
+pub log-front : (s size durable : ℕ) (all kept : List LogEntry) → IsLogOf s size all → IsKept durable all kept → IsLogOf s size kept
+log-front s size durable all kept is keeps = record {
+  ascending = rising-first kept keeps.rest whole.ascending;
+  in_range = all-first (λ (x : LogEntry). x.lsn ≤ 2 ^ 62) kept keeps.rest whole.in_range;
+  within = all-first (λ (x : LogEntry). EndsWithin s size (said_by x.bytes)) kept keeps.rest whole.within;
+}
+  where
+    whole : IsLogOf s size (kept ++ keeps.rest)
+    whole = subst (IsLogOf s size) keeps.splits is

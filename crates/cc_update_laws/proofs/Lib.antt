@@ -1,15 +1,15 @@
 -- Lemmas.
 mod LastOwn
 mod Silent
-mod Keeping
+pub mod Keeping
 mod Owed
 mod Growing
 mod Replies
 mod LogCalls
-mod Recorded
-mod Said
-mod Updates
-mod Checkpoints
+pub mod Recorded
+pub mod Said
+pub mod Updates
+pub mod Checkpoints
 mod Whole
-mod Devices
-mod Within
+pub mod Within
+pub mod Devices

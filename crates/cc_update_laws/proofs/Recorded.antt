@@ -120,17 +120,17 @@ stamped-later s log lsn old later w = record {
 }
 
 -- where an entry of a stretch stands
-record IsInside (e : Entry) (during front old : List Entry) : Type 0 where
-  later : List Entry
-  rest : List Entry
-  is : during ≡ later ++ e ∷ rest
-  behind : front ≡ rest ++ old
+pub record IsInside (e : Entry) (during front old : List Entry) : Type 0 where
+  pub later : List Entry
+  pub rest : List Entry
+  pub is : during ≡ later ++ e ∷ rest
+  pub behind : front ≡ rest ++ old
 
-record IsBefore (e : Entry) (front old : List Entry) : Type 0 where
-  rest : List Entry
-  is : old ≡ rest ++ e ∷ front
+pub record IsBefore (e : Entry) (front old : List Entry) : Type 0 where
+  pub rest : List Entry
+  pub is : old ≡ rest ++ e ∷ front
 
-cut-at : (e : Entry) (during later front old : List Entry) → during ++ old ≡ later ++ e ∷ front → IsInside e during front old ⊎ IsBefore e front old
+pub cut-at : (e : Entry) (during later front old : List Entry) → during ++ old ≡ later ++ e ∷ front → IsInside e during front old ⊎ IsBefore e front old
 cut-at e [] later front old is = inr (record { rest = later; is = is })
 cut-at e (x ∷ during) [] front old is = inl (record { later = []; rest = during; is = ap (λ (y : Entry). y ∷ during) (head_of is); behind = sym (tail_of is) })
   where
@@ -149,7 +149,7 @@ cut-at e (x ∷ during) (y ∷ later) front old is = go (cut-at e during later f
     go (inr k) = inr k
 
 -- an entry that records an update is none of a stretch in which nobody records one
-own-inside : (me : ℕ) (test : Entry → Bool) (xs : List Entry) (e : Entry) (ys : List Entry) → list_any test (own me (xs ++ e ∷ ys)) ≡ false → is_mine me e ≡ true → test e ≡ true → ⊥
+pub own-inside : (me : ℕ) (test : Entry → Bool) (xs : List Entry) (e : Entry) (ys : List Entry) → list_any test (own me (xs ++ e ∷ ys)) ≡ false → is_mine me e ≡ true → test e ≡ true → ⊥
 own-inside me test xs e ys none mine is =
     let both : (list_any test (own me xs) || list_any test (own me (e ∷ ys))) ≡ false = sym (ap (list_any test) (own-append me xs (e ∷ ys)) ∙ list_any-append test (own me xs) (own me (e ∷ ys))) ∙ none in
     let here : list_any test (own me (e ∷ ys)) ≡ false = (or_parts (list_any test (own me xs)) _ both).1 in
@@ -162,7 +162,7 @@ own-inside me test xs e ys none mine is =
         by true own_it there = clash is (or_parts (test e) (list_any test (own me ys)) there).0
         by false own_it there = clash own_it refl
 
-is-record : (s log pass lsn at : ℕ) (bytes spelled : List ℕ) → said_by spelled ≡ Some (Update s at bytes) → records_update s log (entry.Append pass log lsn spelled) ≡ true
+pub is-record : (s log pass lsn at : ℕ) (bytes spelled : List ℕ) → said_by spelled ≡ Some (Update s at bytes) → records_update s log (entry.Append pass log lsn spelled) ≡ true
 is-record s log pass lsn at bytes spelled said =
     let test : Option LogRecord → Bool = λ o. is_update_of s o in
     rw (eq-eqb log log refl) (ap test said ∙ eq-eqb s s refl)

@@ -420,13 +420,13 @@ module _ (u : Setup) (s log me : ℕ) (file : File) (at : ℕ) (bytes : List ℕ
   -- ---- which updates are set dirty behind it
 
   -- it recorded no update, or one that was set dirty
-  record HasUpdate (old new : List Entry) : Type 0 where
-    handle : ℕ
-    lsn : ℕ
-    front : List Entry
-    first : RecordsNone s log me old front
-    then : RecordsNone s log me (entry.Append me handle lsn (update_record file at bytes) ∷ front) new
-    stamped : handle ≡ log → file.stream ≡ s → IsUpdated s log new → WasStamped s log lsn new
+  pub record HasUpdate (old new : List Entry) : Type 0 where
+    pub handle : ℕ
+    pub lsn : ℕ
+    pub front : List Entry
+    pub first : RecordsNone s log me old front
+    pub then : RecordsNone s log me (entry.Append me handle lsn (update_record file at bytes) ∷ front) new
+    pub stamped : handle ≡ log → file.stream ≡ s → IsUpdated s log new → WasStamped s log lsn new
 
   abbrev LeavesStamped : List Entry → List Entry → Type 0
   LeavesStamped old new = RecordsNone s log me old new ⊎ HasUpdate old new
@@ -508,7 +508,7 @@ module _ (u : Setup) (s log me : ℕ) (file : File) (at : ℕ) (bytes : List ℕ
       leaves-before old between new (none-call u s log me (call.State file) (outcome.Done (reply.State state)) old between told)
       (leaves-told id state.log state.sizes.valid answered k.later k.since between new k.grew k.its k.reached good has_between wants rest)
 
-  leaves-update : (answered : Result ℕ CcError) (new : List Entry) → IsGoodSoFar u new → WantsNothing answered → UpdateLeft u me file at bytes answered begun new → LeavesStamped begun new
+  pub leaves-update : (answered : Result ℕ CcError) (new : List Entry) → IsGoodSoFar u new → WantsNothing answered → UpdateLeft u me file at bytes answered begun new → LeavesStamped begun new
   leaves-update answered new good wants (inl (e, is, failed)) = inl (none-call u s log me (call.PinRead file at (length bytes) true) (outcome.Failed e) begun new failed)
   leaves-update answered new good wants (inr (id, made, done, pin, pinned, ended)) =
       let good_done : IsGoodSoFar u done = good-grown u done new (call-grown u me (call.EndHold id) (outcome.Done reply.Unit) done new ended) good in

@@ -15,6 +15,7 @@ ghost use Rattle.cc_model.specs.Objects.{had_map};
 ghost use Rattle.cc_model.specs.Settings.{log_of};
 ghost use Rattle.cc_model.specs.Passes.{is_mine};
 ghost use Rattle.cc_model.specs.Setup.{Setup};
+ghost use Rattle.cc_model.specs.Touches.{size_of};
 ghost use Rattle.cc_pieces.specs.Checkpoints.{CheckpointLeft};
 ghost use Rattle.cc_pieces.specs.Shim.{IsForWant, UpdateLeft, update_record};
 ghost use Rattle.cc_redo.specs.Disks.{IsMade};
@@ -28,6 +29,7 @@ ghost use Rattle.cc_traits.specs.Disk.{Disk, page_of};
 ghost use Rattle.cc_traits.specs.Log.{Log, LogEntry};
 ghost use Rattle.cc_turns.specs.Disk.{HasGone};
 ghost use Rattle.cc_update_laws.specs.Devices.{AreLeft, GoesOnFrom, IsWholeDisk};
+ghost use Rattle.cc_update_laws.specs.Logs.{EachEndsWithin, IsLogOf};
 ghost use Rattle.cc_update_laws.specs.Keeping.{AreStamped, HasNoneOpen, IsCalm, Keeps, KeepsForm, OthersRecordNone, RowsFit};
 
 /// What an update leaves, whatever it was answered, keeps the form that is asked of a stream that changes by updates alone: of
@@ -90,12 +92,30 @@ pub fn left_devices_are_redone()
         redone_byte streams kept redo disk i ≡ updated_byte old_pages old_first (updates_in redo kept) i }
 {}
 
-/// No update that a run recorded is passed over by a restart: the updates that it applies are as many as the kept entries that record
-/// one of the stream.
+/// No update that a run recorded is passed over by a restart, and none that the log had before, if each of those ends within the size
+/// of the stream, as it does where an earlier run of that size recorded it. `within`: so it is of what the log keeps. `applied`: of
+/// such entries a restart applies as many updates as record one of the stream.
 pub fn each_kept_update_is_applied()
-    ensures { (u : Setup) (past : List Entry) (s log first : ℕ) → IsGoodSoFar u past → IsUpdated s log past → (redo : Redo) →
-        IsGivenAs s first past redo → (durable : ℕ) (kept : List LogEntry) → IsKept durable (appended past log) kept →
-        length (updates_in redo kept) ≡ length (filter (λ entry. is_update_of s (said_by entry.bytes)) kept) }
+    ensures within { (u : Setup) (past : List Entry) (s log size durable : ℕ) → IsGoodSoFar u past → IsUpdated s log past →
+        (had_map (history past s) ≡ true → size_of (history past s) ≡ size) → (begun kept : List LogEntry) →
+        EachEndsWithin s size begun → IsKept durable (begun ++ appended past log) kept → EachEndsWithin s size kept }
+    ensures applied { (redo : Redo) (kept : List LogEntry) → EachEndsWithin redo.stream redo.size kept →
+        length (updates_in redo kept) ≡ length (filter (λ entry. is_update_of redo.stream (said_by entry.bytes)) kept) }
+{}
+
+/// A run that goes on with the log of a stream from the greatest LSN that its restart read: the entries that the log had are durable
+/// as the run is stopped, whenever that is (`durable`); what it leaves is again the log of the stream (`left`); and so is each front
+/// of that, as a stop may leave it (`front`).
+pub fn runs_go_on_with_their_logs()
+    ensures durable { (past : List Entry) (log : ℕ) (begun after : Log) →
+        GoesOnFrom log (last_of (readings begun.entries)) past → AllByRecursion (λ entry. entry.lsn ≤ 2 ^ 62) begun.entries →
+        Holds (appended past log) (flushed_to past log) begun after →
+        AllByRecursion (λ entry. entry.lsn ≤ after.durable) begun.entries }
+    ensures left { (u : Setup) (past : List Entry) (s log size : ℕ) (begun : List LogEntry) → IsGoodSoFar u past →
+        IsUpdated s log past → (had_map (history past s) ≡ true → size_of (history past s) ≡ size) →
+        GoesOnFrom log (last_of (readings begun)) past → IsLogOf s size begun → IsLogOf s size (begun ++ appended past log) }
+    ensures front { (s size durable : ℕ) (all kept : List LogEntry) → IsLogOf s size all → IsKept durable all kept →
+        IsLogOf s size kept }
 {}
 
 /// What a restart leaves on the disk of a stream is what the law on restarted runs asks of the next run, which goes on with the log

@@ -9,5 +9,5 @@ mod laws;
 pub use laws::{
     answered_updates_are_set_dirty, checkpoints_keep_the_form, each_kept_update_is_applied,
     kept_forms_are_the_journals, left_devices_are_redone, restarts_begin_the_next_run,
-    updates_keep_the_form,
+    runs_go_on_with_their_logs, updates_keep_the_form,
 };

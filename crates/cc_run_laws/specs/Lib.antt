@@ -1,0 +1,5 @@
+-- What the contracts cite.
+pub mod Calls
+pub mod Chains
+pub mod Scripts
+pub mod Complete

@@ -1,0 +1,15 @@
+-- Lemmas.
+mod LineWalks
+mod RunWalks
+mod Growing
+mod Settles
+mod Opened
+mod Numbered
+mod Beside
+mod BesideLines
+mod Scripts
+mod RecordsNone
+mod Stamps
+mod Syncs
+mod Stamping
+mod Phases

@@ -1,0 +1,93 @@
+-- Which lines of a script leave a stream to its updates: no other of its lines changes its bytes or its size, closes its first object,
+-- gives it another log, or gives its log a record that a restart would read as an update of the stream or as a checkpoint.
+use Rattle.std.specs.Prelude.{◌≡◌, ℕ, ◌^◌, ◌*◌, ◌<◌, ◌==◌, ◌&&◌, ◌||◌, nat_lt, not, Bool, true, false, List, ◌∷◌, ◌++◌, drop, length}
+use Rattle.std.specs.List.{list_any}
+use Rattle.std.specs.declared.option.Option.{Option}
+use Rattle.std.specs.declared.option.Option.TheVariants.{Some, None}
+use Rattle.cc_entry.specs.Place.{File}
+use Rattle.cc_entry.specs.declared.answer.Answer.{Answer}
+use Rattle.cc_entry.specs.declared.answer.Answer.TheVariants as answer
+use Rattle.cc_entry.specs.declared.entry.End.TheVariants as how
+use Rattle.cc_entry.specs.declared.entry.Entry.{Entry}
+use Rattle.cc_entry.specs.declared.entry.Entry.TheVariants as entry
+use Rattle.cc_entry.specs.declared.call.Call.TheVariants as call
+use Rattle.cc_entry.specs.declared.error.CcError.{CcError}
+use Rattle.cc_entry.specs.declared.reply.Outcome.TheVariants as outcome
+use Rattle.cc_entry.specs.declared.reply.Reply.{Reply}
+use Rattle.cc_model.specs.Discards.{is_known}
+use Rattle.cc_model.specs.History.{history}
+use Rattle.cc_model.specs.Touches.{size_of}
+use Rattle.cc_pieces.specs.Explained.{Answered, Given}
+use Rattle.cc_pieces.specs.Runs.{asked_of}
+use Rattle.cc_pieces.specs.Shim.{IsForWant}
+use Rattle.cc_redo.specs.Reading.{said_by}
+use Rattle.cc_redo.specs.declared.record.LogRecord.{LogRecord}
+use Rattle.cc_redo.specs.declared.record.LogRecord.TheVariants.{Update, Checkpoint}
+use Rattle.cc_script.specs.declared.script.Action.{Action}
+use Rattle.cc_script.specs.declared.script.Action.TheVariants as action
+use Rattle.cc_update_laws.specs.Keeping.{AreStamped}
+
+-- whether a file is of another stream
+abbrev pub is_apart : ℕ → File → Bool
+is_apart s file = not (file.stream == s)
+
+-- whether a record says neither an update of the stream nor a checkpoint
+abbrev pub says_neither : ℕ → Option LogRecord → Bool
+says_neither s None = true
+says_neither s (Some (Update stream at bytes)) = not (stream == s)
+says_neither s (Some (Checkpoint rows)) = false
+
+-- Whether a line leaves the stream to its updates. Of a line that writes through a word it is not asked of which stream the word's hold
+-- is: a script has none. The numbers of an update fit the bytes in which its record spells them; a checkpoint asks the stream.
+abbrev pub leaves_to_updates : ℕ → ℕ → Action → Bool
+leaves_to_updates s log (action.Uninitialise file truncate) = is_apart s file || not (file.object == 0)
+leaves_to_updates s log (action.CopyWrite file at bytes) = is_apart s file
+leaves_to_updates s log (action.Zero file span) = is_apart s file
+leaves_to_updates s log (action.PreparePin file at len word true exclusive) = is_apart s file
+leaves_to_updates s log (action.PinnedWrite word at bytes) = false
+leaves_to_updates s log (action.MdlStore word at bytes) = false
+leaves_to_updates s log (action.SetSizes file allocation size) = is_apart s file
+leaves_to_updates s log (action.Discard file span) = is_apart s file
+leaves_to_updates s log (action.NcWrite file at bytes) = is_apart s file
+leaves_to_updates s log (action.Write file at bytes) = is_apart s file
+leaves_to_updates s log (action.Update file at bytes) =
+    nat_lt file.stream 255 && (nat_lt at (2 ^ 64) && nat_lt (length bytes) (2 ^ 32))
+leaves_to_updates s log (action.SetLog file handle) = is_apart s file || handle == log
+leaves_to_updates s log (action.Checkpoint streams handle) = not (handle == log) || nat_lt s streams
+leaves_to_updates s log (action.Append handle bytes) = not (handle == log) || says_neither s (said_by bytes)
+leaves_to_updates s log other = true
+
+-- whether a line is a checkpoint of the log
+abbrev pub checkpoints : ℕ → Action → Bool
+checkpoints log (action.Checkpoint streams handle) = handle == log
+checkpoints log other = false
+
+-- a line is not refused for want of room or of memory, where it updates the stream
+abbrev pub IsUnwanting : ℕ → Action → Answer → Type 0
+IsUnwanting s (action.Update file at bytes) told = file.stream ≡ s → (e : CcError) → told ≡ answer.Refused e → IsForWant e → ⊥
+IsUnwanting s other told = Unit {0}
+
+-- whether an entry is an append of the pass to the log
+abbrev pub appends_to : ℕ → ℕ → Entry → Bool
+appends_to me log (entry.Append pass handle lsn bytes) = pass == me && handle == log
+appends_to me log other = false
+
+-- At each good sync of the stream that the pass made behind a table of the log's dirty pages that it listed, with no append of its own
+-- to the log between them, the image of each page of the stream was known. So the syncs of a checkpoint stand.
+abbrev pub IsKnownAt : ℕ → ℕ → ℕ → List Entry → Type 0
+IsKnownAt s log me past =
+    (later since before : List Entry) (nth : ℕ) (reply : Reply) →
+    past ≡ later ++ entry.Sync me s how.Good ∷ (since ++ entry.Call me nth None (call.DirtyPages log) (outcome.Done reply) ∷ before) →
+    list_any (appends_to me log) since ≡ false → (p : ℕ) →
+    4096 * p < size_of (history (since ++ entry.Call me nth None (call.DirtyPages log) (outcome.Done reply) ∷ before) s) →
+    is_known (history (since ++ entry.Call me nth None (call.DirtyPages log) (outcome.Done reply) ∷ before) s) p ≡ true
+
+-- the lines of a run with their answers, in the order of the script
+abbrev pub lines_answered : Given → Answered → List (Action × Answer)
+lines_answered given told = asked_of (λ line. true) given.lines (drop (length given.streams) (drop (length given.restarts) told.replies))
+
+-- At each table of the log's dirty pages that was listed, each recorded update of the stream had been written and set dirty.
+abbrev pub AreStampedAtTables : ℕ → ℕ → List Entry → Type 0
+AreStampedAtTables s log past =
+    (later front : List Entry) (me nth : ℕ) (reply : Reply) →
+    past ≡ later ++ entry.Call me nth None (call.DirtyPages log) (outcome.Done reply) ∷ front → AreStamped s log front

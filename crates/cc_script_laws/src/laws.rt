@@ -1,0 +1,85 @@
+//! What follows of the clause that explains a run's journal. Each function does nothing: its contract is the law.
+
+ghost use Rattle.std.specs.Prelude.{◌≡◌, ℕ, ◌+◌, ◌⊎◌, true, false, Some, None, List, ◌∷◌, ◌++◌, length, slice_get};
+ghost use Rattle.std.specs.List.{AllByRecursion};
+ghost use Rattle.std.specs.declared.option.Option.{Option};
+ghost use Rattle.cc_entry.specs.declared.answer.Answer.TheVariants as answer;
+ghost use Rattle.cc_entry.specs.declared.answer.LineReply.{LineReply};
+ghost use Rattle.cc_entry.specs.declared.entry.End.{End};
+ghost use Rattle.cc_entry.specs.declared.entry.Entry.{Entry};
+ghost use Rattle.cc_entry.specs.declared.entry.Entry.TheVariants as entry;
+ghost use Rattle.cc_entry.specs.declared.place.Request.{Request};
+ghost use Rattle.cc_entry.specs.declared.reply.Reply.TheVariants as reply;
+ghost use Rattle.cc_format.specs.Spelling.{IsReadAs};
+ghost use Rattle.cc_format.specs.declared.record.StreamRecord.{StreamRecord};
+ghost use Rattle.cc_model.specs.Good.{IsGoodSoFar};
+ghost use Rattle.cc_model.specs.Setup.{Setup};
+ghost use Rattle.cc_pieces.specs.Explained.{Answered, Given, IsExplained};
+ghost use Rattle.cc_redo.specs.Disks.{record_number};
+ghost use Rattle.cc_restart_laws.specs.Updates.{IsUpdated};
+ghost use Rattle.cc_restarts.specs.Given.{AreSizes};
+ghost use Rattle.cc_script.specs.Checkpoints.{CheckpointsStandApart};
+ghost use Rattle.cc_script.specs.declared.script.StreamLine.{StreamLine};
+ghost use Rattle.cc_script_laws.specs.Lines.{AreStampedAtTables, IsKnownAt, IsUnwanting, checkpoints, leaves_to_updates, lines_answered};
+ghost use Rattle.cc_script_laws.specs.Told.{TellsLesser, initialises};
+ghost use Rattle.cc_stop_laws.specs.Redoable.{IsNumbered};
+ghost use Rattle.cc_update_laws.specs.Keeping.{RowsFit};
+
+/// Each write of a stream's record in a run is that of a settle: it tells the lesser of the valid data lengths of two moments at which
+/// the stream had a map, the second one that of the write.
+pub fn records_tell_what_was_valid()
+    ensures { (u : Setup) (given : Given) (told : Answered) (taken : List Request) (past : List Entry) →
+        IsExplained u given told taken past → IsGoodSoFar u past → (s : ℕ) (later front : List Entry) (pass size valid : ℕ) (how : End) →
+        past ≡ later ++ entry.Record pass s size valid how ∷ front → TellsLesser s valid front }
+{}
+
+/// A stream of a run, which changes by updates alone, was first initialised with the numbers of its record, where its line stores it,
+/// or else of its line, and no record that was written of it tells less valid data (`IsNumbered`). `done` is of a stream whose line
+/// was done; `kept` of one whose line may have been refused, where no line of a caller initialises an object of it.
+pub fn streams_open_with_their_numbers()
+    ensures done { (u : Setup) (given : Given) (told : Answered) (taken : List Request) (past : List Entry) →
+        IsExplained u given told taken past → IsGoodSoFar u past → (s log : ℕ) → IsUpdated s log past →
+        (stream : StreamLine) (line : LineReply) → slice_get given.streams s ≡ Some stream →
+        slice_get told.replies (length given.restarts + s) ≡ Some line → (read : Option StreamRecord) (pages : ℕ → List ℕ) →
+        u.opening s ≡ Some pages → IsReadAs (pages record_number) read → (stream.stored ≡ true) ⊎ (read ≡ None) →
+        line.answer ≡ answer.Given reply.Unit → IsNumbered s stream read past }
+    ensures kept { (u : Setup) (given : Given) (told : Answered) (taken : List Request) (past : List Entry) →
+        IsExplained u given told taken past → IsGoodSoFar u past → (s log : ℕ) → IsUpdated s log past →
+        (stream : StreamLine) (line : LineReply) → slice_get given.streams s ≡ Some stream →
+        slice_get told.replies (length given.restarts + s) ≡ Some line → (read : Option StreamRecord) (pages : ℕ → List ℕ) →
+        u.opening s ≡ Some pages → IsReadAs (pages record_number) read → (stream.stored ≡ true) ⊎ (read ≡ None) →
+        AllByRecursion (λ each. initialises s each.action ≡ false) given.lines → AreSizes stream read → IsNumbered s stream read past }
+{}
+
+/// A run whose script's lines leave a stream to its updates (`leaves_to_updates`), and whose line of the stream was done and gave it
+/// this log, leaves a journal in which the stream changes by logged updates alone (`IsUpdated`), also where callers run beside one
+/// another. `updates` is of a script without a checkpoint of the log. `checkpoints` is of one with some, each alone in its phase with
+/// lines of its caller, as the grammar asks: no update of the stream was refused for want of room or of memory; at the sync of the
+/// stream that each checkpoint made the image of each of its pages was known; and the rows of the log's dirty page table have numbers
+/// that a record can spell. `set_dirty` asks, in place of these answers, that each recorded update was set dirty where a table of the
+/// log's dirty pages was listed.
+pub fn scripts_of_updates_keep_the_form()
+    ensures updates { (u : Setup) (given : Given) (told : Answered) (taken : List Request) (past : List Entry) →
+        IsExplained u given told taken past → IsGoodSoFar u past → (s log : ℕ) (stream : StreamLine) (line : LineReply) →
+        slice_get given.streams s ≡ Some stream → slice_get told.replies (length given.restarts + s) ≡ Some line →
+        stream.log ≡ Some log → line.answer ≡ answer.Given reply.Unit →
+        AllByRecursion (λ each. leaves_to_updates s log each.action ≡ true) given.lines →
+        AllByRecursion (λ each. checkpoints log each.action ≡ false) given.lines → IsUpdated s log past }
+    ensures checkpoints { (u : Setup) (given : Given) (told : Answered) (taken : List Request) (past : List Entry) →
+        IsExplained u given told taken past → IsGoodSoFar u past → (s log : ℕ) (stream : StreamLine) (line : LineReply) →
+        slice_get given.streams s ≡ Some stream → slice_get told.replies (length given.restarts + s) ≡ Some line →
+        stream.log ≡ Some log → line.answer ≡ answer.Given reply.Unit →
+        AllByRecursion (λ each. leaves_to_updates s log each.action ≡ true) given.lines →
+        CheckpointsStandApart given.lines →
+        AllByRecursion (λ each. IsUnwanting s each.0 each.1) (lines_answered given told) →
+        AllByRecursion (λ each. checkpoints log each.action ≡ true → IsKnownAt s log each.caller past) given.lines →
+        ((later front : List Entry) → past ≡ later ++ front → RowsFit log front) → IsUpdated s log past }
+    ensures set_dirty { (u : Setup) (given : Given) (told : Answered) (taken : List Request) (past : List Entry) →
+        IsExplained u given told taken past → IsGoodSoFar u past → (s log : ℕ) (stream : StreamLine) (line : LineReply) →
+        slice_get given.streams s ≡ Some stream → slice_get told.replies (length given.restarts + s) ≡ Some line →
+        stream.log ≡ Some log → line.answer ≡ answer.Given reply.Unit →
+        AllByRecursion (λ each. leaves_to_updates s log each.action ≡ true) given.lines → CheckpointsStandApart given.lines →
+        AreStampedAtTables s log past →
+        AllByRecursion (λ each. checkpoints log each.action ≡ true → IsKnownAt s log each.caller past) given.lines →
+        ((later front : List Entry) → past ≡ later ++ front → RowsFit log front) → IsUpdated s log past }
+{}
