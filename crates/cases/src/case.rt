@@ -2,7 +2,7 @@
 
 use crate::moments::Work;
 use crate::stage::Event;
-use crate::trouble::{Device, Kind, Trouble};
+use crate::trouble::{Device, Kind, Trouble, Troubles};
 use crate::words::Words;
 use anyhow::Result;
 use std::alloc::Global;
@@ -19,6 +19,8 @@ pub struct Case {
     /// How many bytes the source gives in a call, above 0, and the sink takes.
     pub gives: usize,
     pub takes: usize,
+    /// After how many calls the sink takes nothing more.
+    pub stalls_after: u64,
     pub troubles: Vec<Trouble>,
     pub orders: Vec<(Event, Event)>,
     pub works: Vec<Work>,
@@ -27,8 +29,8 @@ pub struct Case {
     pub sweep: Option<Sweep>,
     /// What has to hold in each run.
     pub wants: Vec<Want>,
-    /// What has to hold, besides, in the one run of a sweep that has this trouble.
-    pub at: Vec<(Trouble, Vec<Want>)>,
+    /// What has to hold, besides, in a run of a sweep that has these troubles.
+    pub at: Vec<(Troubles, Vec<Want>)>,
 }
 
 impl Case {
@@ -46,6 +48,7 @@ impl Case {
             routines: 16,
             gives: 4096,
             takes: 4096,
+            stalls_after: u64::MAX,
             troubles: Vec::new(alloc),
             orders: Vec::new(alloc),
             works: Vec::new(alloc),
@@ -111,6 +114,10 @@ pub enum Sweep {
     StopsTogether,
     /// Each of them stops after each number of its calls, likewise.
     StopsAlone,
+    /// The first disk stops after each number of its calls, and the first log after each of its own.
+    StopsBoth,
+    /// Each two of their calls fail.
+    Pairs,
 }
 
 /// A number that a run leaves.
@@ -178,6 +185,8 @@ pub enum Part {
 #[derive(Drop)]
 pub enum Want {
     Text(Part, String),
+    /// The lines of the text that answer a line of the script. Where a run has lines of its own with the same numbers, these.
+    Answers(String),
     /// Each line of the text from one to another has one of these forms, a line each.
     Each {
         from: usize,

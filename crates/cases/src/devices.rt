@@ -196,11 +196,12 @@ impl<'a> Source for CaseSource<'a> {
     }
 }
 
-/// A sink of a text that takes at most so many bytes a call.
+/// A sink of a text that takes at most so many bytes a call, and after so many calls nothing.
 #[derive(Drop)]
 pub struct CaseSink<'a> {
     pub calls: Calls<'a>,
     pub most: usize,
+    pub stalls_after: u64,
     pub taken: Vec<u8>,
     pub stalls: u64,
     pub faults: Faults,
@@ -219,7 +220,12 @@ impl<'a> Sink for CaseSink<'a> {
             Fate::Fails => return Err(self.faults.raise()),
             Fate::NoMemory => return Err(Stop::NoMemory),
         }
-        let front = bytes.len().min(self.most);
+        let most = if self.calls.made(Kind::Put) > self.stalls_after {
+            0
+        } else {
+            self.most
+        };
+        let front = bytes.len().min(most);
         if front == 0 && !bytes.is_empty() {
             // A count at its end cannot rise.
             if self.stalls == u64::MAX {

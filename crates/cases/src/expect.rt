@@ -1,13 +1,19 @@
 //! Whether a run left what a case wants.
 
 use crate::case::{Case, Count, DiskPlan, Part, Want};
+use crate::crashes::{fits, flushed_to, pages_of, work_of};
 use crate::devices::{Calls, CaseDisk, CaseLog, Routine};
 use crate::records::RECORD_PAGE;
 use crate::run::{Left, whole_page};
 use crate::stage::Stage;
 use crate::trouble::{Device, Trouble};
+use crate::words::number_of;
 use anyhow::{Context, Error, Result, anyhow, bail, ensure};
+use cc_entry::PageId;
 use std::alloc::Global;
+
+/// How many entries are gone over at most for the pages of one run.
+const MOST_WORK: usize = 10_000;
 
 /// Whether a trouble came.
 fn was_reached(trouble: Trouble, stage: &Stage, left: &Left) -> bool {
@@ -36,8 +42,8 @@ fn stop_in(trouble: Trouble, stage: &Stage, left: &Left) -> Option<(u64, u64)> {
 }
 
 /// What has to hold in every run: each trouble of the case came and each fault was counted, nothing waited in vain, the gate was
-/// told of each call's two moments, what was handed in is back in its order, and the record pages are as the journal says.
-pub fn check_run(case: &Case, stage: &Stage, left: &Left) -> Result<()> {
+/// told of each call's two moments, what was handed in is back in its order, and what a crash may leave is as the journal says.
+pub fn check_run(alloc: Global, case: &Case, stage: &Stage, left: &Left) -> Result<()> {
     for trouble in case.troubles.iter() {
         ensure!(
             was_reached(*trouble, stage, left),
@@ -64,6 +70,8 @@ pub fn check_run(case: &Case, stage: &Stage, left: &Left) -> Result<()> {
     );
     check_devices(left)?;
     check_records(case, left)?;
+    check_pages(alloc, case, left)?;
+    check_logs(left)?;
     check_routines(case.routines, &left.posts)?;
     let posted = left.posts.iter().filter(|routine| routine.posted).count();
     ensure!(
@@ -83,20 +91,56 @@ fn check_records(case: &Case, left: &Left) -> Result<()> {
     for (nth, ((plan, disk), told)) in plans.zip(left.records.iter()).enumerate() {
         let may = disk.inner.may(RECORD_PAGE)?;
         ensure!(
-            told.fits(&may, &opening_record(plan)),
+            told.fits(&may, &opening_of(plan, RECORD_PAGE)),
             "the record page of disk {nth} may be left otherwise than the journal says"
         );
     }
     Ok(())
 }
 
-/// The record page of a disk as the run finds it.
-fn opening_record(plan: &DiskPlan) -> [u8; 4096] {
-    let found = plan
-        .pages
-        .iter()
-        .rev()
-        .find(|(page, _)| *page == RECORD_PAGE);
+/// What a crash may leave of the pages that a journal names is what it allows, where the run restarted nothing. Those of most
+/// work are left out where all would take too much.
+fn check_pages(alloc: Global, case: &Case, left: &Left) -> Result<()> {
+    let mut left_over = MOST_WORK;
+    for page in pages_of(alloc, &left.journal)?.iter() {
+        let work = work_of(&left.journal, *page);
+        if work <= left_over && !left.restarts {
+            check_crash(alloc, case, left, *page)?;
+            left_over = left_over.saturating_sub(work);
+        }
+    }
+    Ok(())
+}
+
+/// What a crash may leave of a page is what the journal allows.
+fn check_crash(alloc: Global, case: &Case, left: &Left, page: PageId) -> Result<()> {
+    let (stream, number) = (page.stream().number() as usize, page.page());
+    let plan = case.disks.get(stream).ok_or(anyhow!("no such disk"))?;
+    let may = disk_of(left, stream)?.inner.may(number)?;
+    let opening = opening_of(plan, number);
+    ensure!(
+        fits(alloc, &left.journal, &opening, page, &may)?,
+        "page {number} of disk {stream} may be left otherwise than the journal allows"
+    );
+    Ok(())
+}
+
+/// Each log is on its medium up to where the journal says that it was flushed.
+fn check_logs(left: &Left) -> Result<()> {
+    for (nth, log) in left.logs.iter().enumerate() {
+        let durable = log.inner.durable();
+        let flushed = flushed_to(&left.journal, nth);
+        ensure!(
+            flushed <= durable,
+            "log {nth} is durable up to {durable}, and flushed to {flushed}"
+        );
+    }
+    Ok(())
+}
+
+/// A page of a disk as the run finds it.
+fn opening_of(plan: &DiskPlan, page: u64) -> [u8; 4096] {
+    let found = plan.pages.iter().rev().find(|(listed, _)| *listed == page);
     match found {
         Some((_, bytes)) => whole_page(plan.fill, bytes),
         None => [plan.fill; 4096],
@@ -148,8 +192,8 @@ fn check_routines(many: u64, posts: &[Routine]) -> Result<()> {
     Ok(())
 }
 
-/// What has to hold in a run of a sweep in which one call was made to fail, or to find no memory: the journal tells of as
-/// many failures, and of no other.
+/// What has to hold in a run of a sweep in which so many calls were made to fail: the journal tells of as many failures, and of
+/// no other. What a restart met has no entry.
 pub fn check_failures(faults: u64, left: &Left) -> Result<()> {
     let counted = count_of(Count::Faults, left);
     ensure!(
@@ -158,7 +202,7 @@ pub fn check_failures(faults: u64, left: &Left) -> Result<()> {
     );
     let told = left.failures as u64;
     ensure!(
-        told == faults,
+        told == faults || left.restarts && told < faults,
         "the journal tells of {told} faults, wanted {faults}"
     );
     Ok(())
@@ -178,7 +222,68 @@ pub fn check_status(wants: &[Want], more: &[Want], left: &Left) -> Result<()> {
     Ok(())
 }
 
-/// A run left what is wanted beside the status.
+/// Each line of the script is answered as is wanted: as the run wants it, where it wants one of that number, else as the case.
+pub fn check_answers(wants: &[Want], more: &[Want], text: &str) -> Result<()> {
+    let (all, own) = (answers_of(wants), answers_of(more));
+    let front = match text.split_once("\njournal\n") {
+        Some((front, _)) => front,
+        None => text,
+    };
+    let kept = all
+        .lines()
+        .filter(|line| line_of(own, first_word(line)).is_none());
+    for wanted in own.lines().chain(kept) {
+        check_answer(front, wanted)?;
+    }
+    let (many, found) = (answers_in(all), answers_in(front));
+    ensure!(
+        many == 0 || many == found,
+        "{found} lines are answered, wanted {many}"
+    );
+    Ok(())
+}
+
+/// The answers that are wanted, none where no line says so.
+fn answers_of(wants: &[Want]) -> &str {
+    for want in wants {
+        if let Want::Answers(answers) = want {
+            return answers.as_str();
+        }
+    }
+    ""
+}
+
+/// How many lines of a text begin with a number.
+fn answers_in(text: &str) -> usize {
+    text.lines()
+        .filter(|line| number_of(first_word(line)).is_ok())
+        .count()
+}
+
+/// A line of the script is answered so.
+fn check_answer(front: &str, wanted: &str) -> Result<()> {
+    let line = line_of(front, first_word(wanted)).unwrap_or("");
+    ensure!(
+        has_form(line, wanted),
+        "an answer is `{line}`, wanted `{wanted}`"
+    );
+    Ok(())
+}
+
+/// The first line of a text that begins with a word.
+fn line_of<'a>(text: &'a str, word: &str) -> Option<&'a str> {
+    text.lines().find(|line| first_word(line) == word)
+}
+
+/// The first word of a line.
+fn first_word(line: &str) -> &str {
+    match line.split_once(' ') {
+        Some((word, _)) => word,
+        None => line,
+    }
+}
+
+/// A run left what is wanted beside the status and the answers.
 pub fn check_wants(alloc: Global, wants: &[Want], case: &Case, left: &Left) -> Result<()> {
     for want in wants {
         check_want(alloc, want, case, left)?;
@@ -190,6 +295,7 @@ pub fn check_wants(alloc: Global, wants: &[Want], case: &Case, left: &Left) -> R
 fn check_want(alloc: Global, want: &Want, case: &Case, left: &Left) -> Result<()> {
     match want {
         Want::Text(part, wanted) => check_text(alloc, *part, wanted, &left.text),
+        Want::Answers(_) => Ok(()),
         Want::Each { from, to, forms } => check_each(*from, *to, forms, &left.text),
         Want::Count(Count::Status, _) => Ok(()),
         Want::Count(count, wanted) => check_count(*count, *wanted, left),

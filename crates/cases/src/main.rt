@@ -3,11 +3,12 @@
 //! The cases stand in the files of the folder that it runs in whose names end in `.cases`; the README has their grammar. It
 //! prints a line for each case, and ends with status 1 where one failed. `lines`, `words` and `read` read the cases, which
 //! `case` has as values. `devices` has the devices, `trouble` what is made of their calls, `stage` what those of one run
-//! share with its callers, `moments` what the gate is told. `run` makes a run, `expect` says whether it left what is wanted,
-//! and `sweep` makes the runs of a case. Below is the top call (`cc_run`).
+//! share with its callers, `moments` what the gate is told. `run` makes a run, `records` and `crashes` compute what a crash may
+//! leave, `expect` says whether a run left what is wanted, and `sweep` makes the runs of a case. Below is the top call (`cc_run`).
 #![tactic(auto)]
 
 mod case;
+mod crashes;
 mod devices;
 mod expect;
 mod lines;

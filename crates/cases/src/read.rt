@@ -47,6 +47,7 @@ fn read_line(alloc: Global, case: &mut Case, lines: &mut Lines, line: &str) -> R
         "devices" | "at" => read_trouble(alloc, case, first, &mut words),
         "text" | "begins" | "ends" | "has" | "lacks" => read_text(case, lines, first, &mut words),
         "each" => read_each(case, lines, &mut words),
+        "answers" => read_answers(case, lines, &mut words),
         "words" | "disks" | "logs" | "routines" | "script" | "sweep" | "tries" => {
             read_setup(alloc, case, lines, first, &mut words)
         }
@@ -59,13 +60,18 @@ fn read_line(alloc: Global, case: &mut Case, lines: &mut Lines, line: &str) -> R
     }
 }
 
-/// Reads a trouble of all devices, or that of the run to which the lines behind belong.
+/// Reads a trouble of all devices, or those of the run to which the lines behind belong.
 fn read_trouble(alloc: Global, case: &mut Case, first: &str, words: &mut Words) -> Result<()> {
     match first {
-        "devices" => case.troubles.push(words.trouble_of_all()?)?,
-        _ => case.at.push((words.trouble()?, Vec::new(alloc)))?,
+        "devices" => {
+            case.troubles.push(words.trouble_of_all()?)?;
+            words.end()
+        }
+        _ => {
+            case.at.push((words.troubles()?, Vec::new(alloc)))?;
+            Ok(())
+        }
     }
-    Ok(())
 }
 
 /// Reads a part of the text.
@@ -80,6 +86,13 @@ fn read_each(case: &mut Case, lines: &mut Lines, words: &mut Words) -> Result<()
     let (from, to) = words.range()?;
     let forms = lines.block()?;
     case.add(Want::Each { from, to, forms })
+}
+
+/// Reads the answers of a text.
+fn read_answers(case: &mut Case, lines: &mut Lines, words: &mut Words) -> Result<()> {
+    words.end()?;
+    let answers = lines.block()?;
+    case.add(Want::Answers(answers))
 }
 
 /// The part of the text that a word speaks of.
@@ -134,6 +147,8 @@ fn sweep_of(words: &mut Words) -> Result<Sweep> {
         ("no", Some("memory")) => Ok(Sweep::NoMemory),
         ("stops", Some("together")) => Ok(Sweep::StopsTogether),
         ("stops", Some("alone")) => Ok(Sweep::StopsAlone),
+        ("stops", Some("both")) => Ok(Sweep::StopsBoth),
+        ("pairs", None) => Ok(Sweep::Pairs),
         _ => bail!("`{kind}` is no sweep"),
     }
 }
@@ -163,6 +178,11 @@ fn read_device(alloc: Global, case: &mut Case, first: &str, words: &mut Words) -
             case.takes = words.size()?;
             words.end()
         }
+        (Device::Sink, "stalls") => {
+            words.expect("after")?;
+            case.stalls_after = words.last_number()?;
+            Ok(())
+        }
         (Device::Disk(disk), "fill" | "tells" | "opens") => {
             let plan = case.disks.get_mut(disk);
             read_disk(alloc, plan.ok_or(anyhow!("no such disk"))?, verb, words)
@@ -186,7 +206,7 @@ fn read_device(alloc: Global, case: &mut Case, first: &str, words: &mut Words) -
         }
         _ => {
             case.troubles.push(words.trouble_of(device, verb)?)?;
-            Ok(())
+            words.end()
         }
     }
 }

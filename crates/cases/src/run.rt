@@ -24,6 +24,8 @@ pub struct Left<'a> {
     pub text: String,
     pub replies: usize,
     pub entries: usize,
+    /// The entries of the journal, the oldest first.
+    pub journal: Vec<Entry>,
     /// How many entries of the journal say that a device failed.
     pub failures: usize,
     /// How many of them say that a deferred write was posted.
@@ -84,6 +86,7 @@ pub fn run_once<'a, R: Threads + Wait + Sync>(
     let mut sink = CaseSink {
         calls: Calls::new(Device::Sink, stage),
         most: case.takes,
+        stalls_after: case.stalls_after,
         taken: Vec::new(alloc),
         stalls: 0,
         faults: Faults::new(),
@@ -130,6 +133,7 @@ pub fn run_once<'a, R: Threads + Wait + Sync>(
         passed: stage.moments.passed(),
         records: records(alloc, &journal, disks.len())?,
         restarts: script.lines().any(|line| line.starts_with("restart ")),
+        journal,
         source,
         sink,
         disks,

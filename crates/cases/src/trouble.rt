@@ -114,12 +114,22 @@ pub struct Place {
 }
 
 impl Place {
+    /// The number of a place that stands for each number.
+    pub const ANY: u64 = 0;
+
     /// The next call of the kind.
     fn next(self) -> Place {
         Place {
             number: self.number.saturating_add(1),
             ..self
         }
+    }
+
+    /// Whether it is a call, or stands for each of its kind on its device.
+    fn stands_for(self, call: Place) -> bool {
+        let is_any = self.number == Place::ANY;
+        let is_same_kind = self.device == call.device && self.kind == call.kind;
+        self == call || is_any && is_same_kind
     }
 }
 
@@ -166,6 +176,15 @@ impl Trouble {
         }
     }
 
+    /// Whether it is a trouble, or stands for each of its kind.
+    fn stands_for(self, other: Trouble) -> bool {
+        match (self, other) {
+            (Trouble::Fails(place), Trouble::Fails(call)) => place.stands_for(call),
+            (Trouble::NoMemory(place), Trouble::NoMemory(call)) => place.stands_for(call),
+            _ => self == other,
+        }
+    }
+
     /// What it makes of a call, the one of these numbers on its device and on all disks and logs.
     pub fn fate(self, place: Place, own: u64, all: u64) -> Fate {
         match self {
@@ -187,6 +206,45 @@ impl fmt::Display for Trouble {
             Trouble::NoMemory(place) => write!(f, "{place} finds no memory"),
             Trouble::Stops(device, after) => write!(f, "{device} stops after {after}"),
             Trouble::AllStop(after) => write!(f, "devices stop after {after}"),
+        }
+    }
+}
+
+/// The troubles of a run of a sweep: one, or two.
+#[derive(Clone, Copy)]
+pub struct Troubles {
+    pub first: Trouble,
+    pub second: Option<Trouble>,
+}
+
+impl Troubles {
+    /// Whether these are others, or stand for each of their kind.
+    pub fn stand_for(self, others: Troubles) -> bool {
+        let is_second = match (self.second, others.second) {
+            (Some(one), Some(other)) => one.stands_for(other),
+            (None, None) => true,
+            _ => false,
+        };
+        is_second && self.first.stands_for(others.first)
+    }
+
+    /// How many calls they make fail, where they stop none.
+    pub fn failures(self) -> Option<u64> {
+        match (self.first, self.second) {
+            (Trouble::Fails(_), None) => Some(1),
+            (Trouble::Fails(_), Some(Trouble::Fails(_))) => Some(2),
+            (Trouble::NoMemory(_), None) => Some(0),
+            _ => None,
+        }
+    }
+}
+
+impl fmt::Display for Troubles {
+    fn fmt<W: fmt::Write>(&self, f: &mut fmt::Formatter<W>) -> fmt::Result {
+        let first = self.first;
+        match self.second {
+            None => write!(f, "{first}"),
+            Some(second) => write!(f, "{first} and {second}"),
         }
     }
 }

@@ -1,6 +1,6 @@
 //! The words of a line of a case file.
 
-use crate::trouble::{Device, Kind, Place, Trouble};
+use crate::trouble::{Device, Kind, Place, Trouble, Troubles};
 use anyhow::{Result, anyhow, bail, ensure};
 use std::alloc::Global;
 
@@ -116,11 +116,13 @@ impl<'a> Words<'a> {
         }
     }
 
-    /// The call of this number and kind on a device.
+    /// The call of this number and kind on a device; `any` stands for each number.
     pub fn place(&mut self, device: Device, kind: &str) -> Result<Place> {
         let kind = kind_of(device, kind)?;
-        let number = self.number()?;
-        ensure!(number > 0, "calls are numbered from 1");
+        let number = match self.word()? {
+            "any" => Place::ANY,
+            word => call_number_of(word)?,
+        };
         Ok(Place {
             device,
             kind,
@@ -128,36 +130,34 @@ impl<'a> Words<'a> {
         })
     }
 
-    /// A trouble of a device, whose verb was taken, to the end of the line.
+    /// A trouble of a device, whose verb was taken.
     pub fn trouble_of(&mut self, device: Device, verb: &str) -> Result<Trouble> {
         if verb == "stops" {
             self.expect("after")?;
-            return Ok(Trouble::Stops(device, self.last_number()?));
+            return Ok(Trouble::Stops(device, self.number()?));
         }
         let place = self.place(device, verb)?;
-        let trouble = match self.word()? {
-            "fails" => Trouble::Fails(place),
+        match self.word()? {
+            "fails" => Ok(Trouble::Fails(place)),
             "finds" => {
                 ensure!(place.kind != Kind::Flush, "a log's flush takes no memory");
                 self.expect("no")?;
                 self.expect("memory")?;
-                Trouble::NoMemory(place)
+                Ok(Trouble::NoMemory(place))
             }
             word => bail!("`{word}` is no trouble"),
-        };
-        self.end()?;
-        Ok(trouble)
+        }
     }
 
-    /// The trouble of all devices, whose first word was taken, to the end of the line.
+    /// The trouble of all devices, whose first word was taken.
     pub fn trouble_of_all(&mut self) -> Result<Trouble> {
         self.expect("stop")?;
         self.expect("after")?;
-        Ok(Trouble::AllStop(self.last_number()?))
+        Ok(Trouble::AllStop(self.number()?))
     }
 
-    /// A trouble, to the end of the line.
-    pub fn trouble(&mut self) -> Result<Trouble> {
+    /// A trouble.
+    fn trouble(&mut self) -> Result<Trouble> {
         let first = self.word()?;
         if first == "devices" {
             return self.trouble_of_all();
@@ -165,6 +165,18 @@ impl<'a> Words<'a> {
         let device = self.device(first)?;
         let verb = self.word()?;
         self.trouble_of(device, verb)
+    }
+
+    /// The troubles of a run, to the end of the line: one, or two with `and` between them.
+    pub fn troubles(&mut self) -> Result<Troubles> {
+        let first = self.trouble()?;
+        let second = match self.maybe() {
+            None => None,
+            Some("and") => Some(self.trouble()?),
+            Some(word) => bail!("`{word}` is one word too many"),
+        };
+        self.end()?;
+        Ok(Troubles { first, second })
     }
 }
 
@@ -174,6 +186,13 @@ pub fn number_of(word: &str) -> Result<u64> {
         Ok(number) => Ok(number),
         Err(_) => bail!("`{word}` is no number"),
     }
+}
+
+/// The number of a call that a word is.
+fn call_number_of(word: &str) -> Result<u64> {
+    let number = number_of(word)?;
+    ensure!(number > 0, "calls are numbered from 1");
+    Ok(number)
 }
 
 /// The kind of call that a word names, which a device has.
