@@ -37,3 +37,5 @@ mod text;
 mod vacb;
 #[cfg(test)]
 mod values;
+#[cfg(test)]
+mod volume;

@@ -1,4 +1,5 @@
-//! Devices in memory that stop together after so many calls, and some of whose calls may be left out though they are answered.
+//! Devices in memory that stop after so many calls, together or apart, and some of whose calls may be left out or late though they
+//! are answered.
 
 ghost use Rattle.std.specs.Prelude.{◌≡◌, if◌then◌else◌, Some, None};
 
@@ -10,7 +11,7 @@ use std::sync::atomic::{AtomicU64, Ordering};
 /// The page of a disk that has the record of its stream.
 pub const RECORD_PAGE: u64 = 1 << 51;
 
-/// What is left out on purpose.
+/// What is left out on purpose, or late.
 #[derive(Clone, Copy, PartialEq, Eq)]
 pub enum Wrong {
     Nothing,
@@ -18,6 +19,8 @@ pub enum Wrong {
     RunSyncs,
     /// Each flush of the log in a run, so that before a page is written.
     LogFlushes,
+    /// A flush of the log in a run comes behind the next call on a disk, so behind the write of a page that it has to precede.
+    LateLogFlushes,
     /// The sync of a restart before the record is written.
     FirstSync,
     /// The sync of a restart behind the record.
@@ -32,6 +35,7 @@ impl Wrong {
         match word {
             "run-syncs" => Some(Wrong::RunSyncs),
             "log-flushes" => Some(Wrong::LogFlushes),
+            "late-log-flushes" => Some(Wrong::LateLogFlushes),
             "first-sync" => Some(Wrong::FirstSync),
             "last-sync" => Some(Wrong::LastSync),
             "records" => Some(Wrong::Records),
@@ -40,7 +44,7 @@ impl Wrong {
     }
 }
 
-/// The calls on all devices of a run, counted, and the number after which each fails.
+/// The calls on some devices of a run, counted, and the number after which each fails.
 #[derive(Drop)]
 pub struct Calls {
     after: u64,
@@ -59,6 +63,11 @@ impl Calls {
     /// How many were made.
     pub fn made(&self) -> u64 {
         self.made.load(Ordering::SeqCst)
+    }
+
+    /// How many did not fail.
+    pub fn kept(&self) -> u64 {
+        self.made().min(self.after)
     }
 
     /// Whether a call failed.
@@ -216,12 +225,20 @@ impl<'a> PageDisk for TrialDisk<'a> {
     }
 }
 
-/// A log in memory. One whose flushes are left out tells nothing of what it holds.
+/// A log in memory. One whose flushes are left out or late tells nothing of what it holds.
 #[derive(Drop)]
 pub struct TrialLog<'a> {
     calls: &'a Calls,
+    /// Those on disks.
+    disk_calls: &'a Calls,
     inner: MemLog,
     tells: bool,
+    /// Where its flushes are late: up to where they came, and of the last one how far it goes and behind which call on a disk it
+    /// was asked for.
+    is_late: bool,
+    came: u64,
+    asked: u64,
+    behind: u64,
     reads: u64,
 }
 
@@ -230,6 +247,7 @@ impl<'a> TrialLog<'a> {
     pub fn new(
         alloc: Global,
         calls: &'a Calls,
+        disk_calls: &'a Calls,
         entries: Vec<(u64, Vec<u8>)>,
         wrong: Wrong,
     ) -> TrialLog<'a> {
@@ -238,17 +256,33 @@ impl<'a> TrialLog<'a> {
             flushes: Vec::new(alloc),
             reads: Vec::new(alloc),
         };
+        let is_late = wrong == Wrong::LateLogFlushes;
         TrialLog {
             calls,
+            disk_calls,
             inner: MemLog::with_entries(alloc, entries, fails),
-            tells: wrong != Wrong::LogFlushes,
+            tells: wrong != Wrong::LogFlushes && !is_late,
+            is_late,
+            came: 0,
+            asked: 0,
+            behind: 0,
             reads: 0,
         }
     }
 
-    /// What it holds.
-    pub fn inner(&self) -> &MemLog {
-        &self.inner
+    /// Its entries, the oldest first.
+    pub fn entries(&self) -> &[(u64, Vec<u8>)] {
+        self.inner.entries()
+    }
+
+    /// The LSN up to which they are on the medium, or 0.
+    pub fn durable(&self) -> u64 {
+        let come = if self.behind < self.disk_calls.kept() {
+            self.asked
+        } else {
+            0
+        };
+        self.inner.durable().max(self.came).max(come)
     }
 
     /// How many reads of an entry there were.
@@ -265,6 +299,18 @@ impl<'a> TrialLog<'a> {
         let stop = self.calls.next_stop();
         self.inner.stop_after(stop);
     }
+
+    // Notes a flush that is answered and not made.
+    fn note_flush(&mut self, lsn: u64)
+        ensures faults { self.new.inner.faults ≡ self.old.inner.faults }
+        ensures tells { self.new.tells ≡ self.old.tells }
+    {
+        if self.is_late {
+            self.came = self.durable();
+            self.asked = self.asked.max(lsn);
+            self.behind = self.disk_calls.kept();
+        }
+    }
 }
 
 impl<'a> LogFile for TrialLog<'a> {
@@ -280,6 +326,7 @@ impl<'a> LogFile for TrialLog<'a> {
     fn flush(&mut self, lsn: u64) -> Result<(), Stop> {
         self.begin();
         if !self.tells && !self.calls.have_stopped() {
+            self.note_flush(lsn);
             return Ok(());
         }
         self.inner.flush(lsn)

@@ -102,8 +102,8 @@ pub fn draw_entries(
     choice: Choice,
     draws: &mut Draws,
 ) -> Result<Vec<LogEntry>> {
-    let entries = log.inner().entries();
-    let durable = log.inner().durable();
+    let entries = log.entries();
+    let durable = log.durable();
     let least = entries.iter().filter(|entry| entry.0 <= durable).count();
     let more = entries.len().saturating_sub(least);
     let kept = match choice {

@@ -1,17 +1,21 @@
 //! The program of trials that take longer than the gate gives: its first word chooses one, and without a word it ends at once.
 //!
-//! `restarts N SEED` stops N drawn scripts at each of their calls on devices, and restarts what a crash may leave of them; a
-//! third word leaves something out on purpose, and the trial has to fail then. `costs N` counts the calls of a restart over a log
-//! of N updates. `files SCRIPT FOLDER` runs a script over the files of a folder, and notes each line as soon as it is answered, so
-//! that whoever stops the program knows which were.
+//! `restarts N SEED` stops N drawn scripts at each of their calls on devices, and restarts what a crash may leave of them, and
+//! `worked SEED` does so with a script that is written out, and with the one that restarts it. `crashes SCRIPT` stops a script
+//! after each number of calls on its disks and on its log, and tells what a crash may leave then. A further word of these leaves
+//! something out on purpose, and the trial has to fail then. `costs N` counts the calls of a restart over a log of N updates.
+//! `files SCRIPT FOLDER` runs a script over the files of a folder, and notes each line as soon as it is answered, so that whoever
+//! stops the program knows which were.
 //!
 //! `stream` says what the streams of a trial are, `script` draws a script over them, `draws` is what all is drawn from.
-//! `devices` has disks and logs that stop together, `runs` what is run over them, `image` what a crash leaves of them. `model`
-//! has the plain files by which an image is judged, and knows nothing of the cache or of a restart. `restarts`, `costs` and
-//! `files` are the trials.
+//! `devices` has disks and logs that stop, `runs` what is run over them, `image` what a crash leaves of them. `model` has the
+//! plain files by which an image is judged, and knows nothing of the cache or of a restart; `changes` has the changes that a
+//! journal tells, and which of them a page shows. `restarts`, `worked`, `crashes`, `costs` and `files` are the trials.
 #![tactic(auto)]
 
+mod changes;
 mod costs;
+mod crashes;
 mod devices;
 mod draws;
 mod files;
@@ -21,16 +25,19 @@ mod restarts;
 mod runs;
 mod script;
 mod stream;
+mod worked;
 
-use anyhow::{Result, bail};
+use anyhow::{Context, Result, bail};
 use costs::count_costs;
+use crashes::{Crashes, HEADING, look_at_crashes};
 use devices::Wrong;
 use files::run_noting;
 use restarts::try_restarts;
-use std::env;
 use std::process::ExitCode;
 use std::sync::Wait;
 use std::thread::Threads;
+use std::{env, fs};
+use worked::try_worked;
 
 fn main(rt: HostRuntime) -> ExitCode {
     match run(rt, &rt) {
@@ -55,6 +62,21 @@ fn run<R: Threads + Wait + Sync>(rt: HostRuntime, threads: &R) -> Result<bool> {
             println!(rt; "{found}")?;
             Ok(found.failures == 0)
         }
+        Some(word) if word.as_str() == "worked" => {
+            let seed = number_at(&words, 1)?;
+            let found = try_worked(threads, rt.alloc(), seed, wrong_at(&words, 2)?)?;
+            println!(rt; "{found}")?;
+            Ok(found.failures == 0)
+        }
+        Some(word) if word.as_str() == "crashes" => {
+            let Some(path) = words.get(1) else {
+                bail!("a script is missing")
+            };
+            let script = fs::read_to_string(&rt, path.as_str()).context(format_args!("{path}"))?;
+            let crashes = look_at_crashes(threads, rt.alloc(), &script, wrong_at(&words, 2)?)?;
+            print_crashes(rt, &crashes)?;
+            Ok(crashes.unlogged == 0)
+        }
         Some(word) if word.as_str() == "costs" => {
             let costs = count_costs(rt.alloc(), number_at(&words, 1)?)?;
             println!(rt; "{costs}")?;
@@ -69,6 +91,17 @@ fn run<R: Threads + Wait + Sync>(rt: HostRuntime, threads: &R) -> Result<bool> {
         }
         Some(word) => bail!("`{word}` is no trial"),
     }
+}
+
+/// Prints the rows of a trial of crashes, and what it counted.
+fn print_crashes(rt: HostRuntime, crashes: &Crashes) -> Result<()> {
+    println!(rt; "{HEADING}")?;
+    println!(rt; "|---|---|---|---|---|---|---|---|")?;
+    for row in crashes.rows.iter() {
+        println!(rt; "{row}")?;
+    }
+    println!(rt; "{crashes}")?;
+    Ok(())
 }
 
 /// The words of the command line, without the program's name.

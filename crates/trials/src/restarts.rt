@@ -5,7 +5,7 @@ use crate::devices::{Calls, Wrong};
 use crate::draws::Draws;
 use crate::image::{Choice, Image, LogEntry, draw_disks, draw_entries};
 use crate::model::{File, count_updates, is_once_given, is_settled};
-use crate::runs::{Left, restart_image, run_script};
+use crate::runs::{Left, Ran, restart_image, run_script};
 use crate::script::draw_script;
 use crate::stream::{Stream, draw_streams, opening_image};
 use anyhow::{Result, bail};
@@ -17,10 +17,10 @@ use std::sync::Wait;
 use std::thread::Threads;
 
 /// More calls on devices than any run of a trial makes.
-const MOST: u64 = 100_000;
+pub const MOST: u64 = 100_000;
 
-/// What a crash leaves of one stop, so many times.
-const CHOICES: [(Choice, Choice); 5] = [
+/// What a crash leaves of the pages and of the log of one stop, so many times.
+pub const CHOICES: [(Choice, Choice); 5] = [
     (Choice::Oldest, Choice::Oldest),
     (Choice::Newest, Choice::Oldest),
     (Choice::Oldest, Choice::Newest),
@@ -48,7 +48,8 @@ pub struct Found {
 }
 
 impl Found {
-    fn new() -> Found {
+    /// Nothing yet.
+    pub fn new() -> Found {
         Found {
             scripts: 0,
             stops: 0,
@@ -64,7 +65,7 @@ impl Found {
     }
 
     /// Notes what is wrong, where something is.
-    fn note(&mut self, alloc: Global, at: &Place, wrong: Option<&str>) -> Result<()> {
+    pub fn note(&mut self, alloc: Global, at: &Place, wrong: Option<&str>) -> Result<()> {
         if let Some(wrong) = wrong {
             self.failures = self.failures.saturating_add(1);
             if self.first.is_none() {
@@ -108,11 +109,11 @@ impl fmt::Display for Found {
 
 /// Where a trial stands: its script's number, after how many calls the run was stopped, and the restart.
 #[derive(Clone, Copy)]
-struct Place {
-    script: u64,
-    run: u64,
-    stop: u64,
-    restart: u64,
+pub struct Place {
+    pub script: u64,
+    pub run: u64,
+    pub stop: u64,
+    pub restart: u64,
 }
 
 impl fmt::Display for Place {
@@ -132,17 +133,16 @@ impl fmt::Display for Place {
 
 /// What a script is tried over: its streams, their files before all updates, and what is left out.
 #[derive(Drop)]
-struct Trial {
-    alloc: Global,
-    streams: Vec<Stream>,
+pub struct Trial {
+    pub alloc: Global,
+    pub streams: Vec<Stream>,
     firsts: Vec<File>,
     wrong: Wrong,
 }
 
 impl Trial {
-    /// A trial of drawn streams.
-    fn new(alloc: Global, wrong: Wrong, draws: &mut Draws) -> Result<Trial> {
-        let streams = draw_streams(alloc, draws)?;
+    /// A trial of these streams.
+    pub fn new(alloc: Global, streams: Vec<Stream>, wrong: Wrong) -> Result<Trial> {
         let mut firsts = Vec::new(alloc);
         for stream in streams.iter() {
             firsts.push(File::at_first(alloc, stream)?)?;
@@ -156,13 +156,13 @@ impl Trial {
     }
 
     /// Runs a script over an image, with these calls.
-    fn run<'a, R: Threads + Wait + Sync>(
+    pub fn run<'a, R: Threads + Wait + Sync>(
         &self,
         rt: &R,
         image: &Image,
         script: &str,
         calls: &'a Calls,
-    ) -> Result<Left<'a>> {
+    ) -> Result<Ran<'a>> {
         run_script(
             rt,
             self.alloc,
@@ -193,7 +193,7 @@ impl Trial {
     }
 
     /// What a crash leaves of what a run left.
-    fn crash(
+    pub fn crash(
         &self,
         left: &Left,
         of_pages: Choice,
@@ -208,7 +208,7 @@ impl Trial {
 
     /// What is wrong with an image before it is restarted: a byte below a recorded valid data length that its file never had.
     fn fault_of_image(&self, image: &Image, left: &Left) -> Option<&'static str> {
-        let entries = left.log.inner().entries();
+        let entries = left.log.entries();
         let files = self.streams.iter().zip(self.firsts.iter());
         for ((stream, first), disk) in files.zip(image.disks.iter()) {
             if !is_once_given(stream, first, entries, disk) {
@@ -277,7 +277,7 @@ pub fn try_restarts<R: Threads + Wait + Sync>(
     let mut found = Found::new();
     for script in 0..scripts {
         let mut draws = Draws::new(seed.wrapping_add(script));
-        let trial = Trial::new(alloc, wrong, &mut draws)?;
+        let trial = Trial::new(alloc, draw_streams(alloc, &mut draws)?, wrong)?;
         try_script(rt, &trial, script, &mut draws, &mut found)?;
         found.scripts = found.scripts.saturating_add(1);
     }
@@ -296,7 +296,7 @@ fn try_script<R: Threads + Wait + Sync>(
     let text = draw_script(trial.alloc, &trial.streams, false, draws)?;
     for stop in 0..MOST {
         let calls = Calls::stopping_after(stop);
-        let left = trial.run(rt, &opening, &text, &calls)?;
+        let Ran { left, .. } = trial.run(rt, &opening, &text, &calls)?;
         found.stops = found.stops.saturating_add(1);
         let place = Place {
             script,
@@ -328,7 +328,7 @@ fn try_second<R: Threads + Wait + Sync>(
     let text = draw_script(trial.alloc, &trial.streams, true, draws)?;
     let stop = draws.between(0, 120);
     let calls = Calls::stopping_after(stop);
-    let left = trial.run(rt, image, &text, &calls)?;
+    let Ran { left, .. } = trial.run(rt, image, &text, &calls)?;
     found.second_runs = found.second_runs.saturating_add(1);
     let place = Place {
         run: 2,
@@ -339,7 +339,7 @@ fn try_second<R: Threads + Wait + Sync>(
 }
 
 /// Tries what a crash leaves of a run that was stopped, several times.
-fn try_left(
+pub fn try_left(
     trial: &Trial,
     left: &Left,
     place: Place,

@@ -2,11 +2,11 @@
 
 ghost use Rattle.std.specs.Prelude.{◌≡◌, length, IfOk};
 
-use crate::devices::{Calls, Open, RECORD_PAGE, TrialDisk, TrialLog, Wrong};
+use crate::devices::{Calls, Open, TrialDisk, TrialLog, Wrong};
 use crate::image::Image;
 use crate::stream::Stream;
-use anyhow::{Context, Result, bail, ensure};
-use cc_entry::CcError;
+use anyhow::{Context, Result, bail};
+use cc_entry::{CcError, Entry};
 use cc_memdev::{MemSink, MemSource};
 use cc_redo::{Redo, Restarted, restart, stored_record};
 use cc_run::{Ended, cache_main};
@@ -15,11 +15,19 @@ use std::alloc::Global;
 use std::sync::Wait;
 use std::thread::Threads;
 
-/// What a run of a script, or a restart, gave back.
+/// What a run of a script, or a restart, left.
 #[derive(Drop)]
 pub struct Left<'a> {
     pub disks: Vec<TrialDisk<'a>>,
     pub log: TrialLog<'a>,
+}
+
+/// What a run of a script gave back.
+#[derive(Drop)]
+pub struct Ran<'a> {
+    pub text: String,
+    pub journal: Vec<Entry>,
+    pub left: Left<'a>,
 }
 
 /// Runs a script over devices that hold an image.
@@ -31,20 +39,32 @@ pub fn run_script<'a, R: Threads + Wait + Sync>(
     script: &str,
     calls: &'a Calls,
     wrong: Wrong,
-) -> Result<Left<'a>> {
+) -> Result<Ran<'a>> {
+    let mut disks = Vec::new(alloc);
+    for (number, stream) in streams.iter().enumerate() {
+        let pages = image.pages(alloc, number)?;
+        disks.push(TrialDisk::of_run(alloc, calls, stream.fill(), pages, wrong))?;
+    }
+    let log = TrialLog::new(alloc, calls, calls, image.entries(alloc)?, wrong);
+    run_over(rt, alloc, script, disks, log)
+}
+
+/// Runs a script over these devices.
+pub fn run_over<'a, R: Threads + Wait + Sync>(
+    rt: &R,
+    alloc: Global,
+    script: &str,
+    disks: Vec<TrialDisk<'a>>,
+    log: TrialLog<'a>,
+) -> Result<Ran<'a>> {
     let mut words = Vec::new(alloc);
     for word in ["run", "s"] {
         words.push(String::from_str(alloc, word)?)?;
     }
     let mut source = MemSource::new(script.as_bytes().to_vec(alloc)?, 4096, Vec::new(alloc));
     let mut sink = MemSink::new(alloc, Vec::new(alloc));
-    let mut disks = Vec::new(alloc);
-    for (number, stream) in streams.iter().enumerate() {
-        let pages = image.pages(alloc, number)?;
-        disks.push(TrialDisk::of_run(alloc, calls, stream.fill(), pages, wrong))?;
-    }
     let mut logs = Vec::new(alloc);
-    logs.push(TrialLog::new(alloc, calls, image.entries(alloc)?, wrong))?;
+    logs.push(log)?;
     let posts: Vec<Box<dyn PostRoutine + Send>> = Vec::new(alloc);
     let Ended {
         status,
@@ -54,7 +74,7 @@ pub fn run_script<'a, R: Threads + Wait + Sync>(
         aheads: _aheads,
         places: _places,
         async_places: _async_places,
-        journal: _journal,
+        journal,
         disks,
         mut logs,
         posts: _posts,
@@ -71,15 +91,19 @@ pub fn run_script<'a, R: Threads + Wait + Sync>(
         posts,
         &Open,
     );
+    let text = String::from_utf8_lossy(alloc, sink.taken())?;
     if status != 0 {
-        let text = String::from_utf8_lossy(alloc, sink.taken())?;
         bail!("a run ended with status {status}: {text}");
     }
     let log = logs.pop().context("no log came back")?;
-    Ok(Left { disks, log })
+    Ok(Ran {
+        text,
+        journal,
+        left: Left { disks, log },
+    })
 }
 
-/// Restarts the two streams of a trial over devices that hold an image. Answers what was answered, and what was left.
+/// Restarts the one or two streams of a trial over devices that hold an image. Answers what was answered, and what was left.
 pub fn restart_image<'a>(
     alloc: Global,
     streams: &[Stream],
@@ -93,16 +117,31 @@ pub fn restart_image<'a>(
         disks.push(TrialDisk::of_restart(alloc, calls, stream.fill(), pages, wrong))?;
     }
     // A log of which flushes are left out is none of a restart, which makes none.
-    let mut log = TrialLog::new(alloc, calls, image.entries(alloc)?, Wrong::Nothing);
-    let (Some(first), Some(second)) = (streams.first(), streams.get(1)) else {
-        bail!("a trial has two streams")
+    let mut log = TrialLog::new(alloc, calls, calls, image.entries(alloc)?, Wrong::Nothing);
+    let answer = match streams {
+        [only] if disks.len() == 1 => restart_one(alloc, only, &mut log, &mut disks),
+        [first, second] if disks.len() == 2 => {
+            restart_two(alloc, first, second, &mut log, &mut disks)
+        }
+        _ => bail!("a trial has one stream or two, and a disk for each"),
     };
-    ensure!(disks.len() == 2, "a trial has two disks");
-    let answer = restart_two(alloc, first, second, &mut log, &mut disks);
     Ok((answer, Left { disks, log }))
 }
 
-/// Restarts two streams, with the numbers of their records, or those that are said of them.
+/// Restarts a stream, with the numbers of its record, or those that are said of it.
+fn restart_one(
+    alloc: Global,
+    stream: &Stream,
+    log: &mut TrialLog,
+    disks: &mut [TrialDisk],
+) -> Result<Restarted, CcError>
+    requires one { length disks.old ≡ 1 }
+{
+    let redo = redo_of(0, stream, &mut disks[0])?;
+    restart(alloc, log, &[redo], disks)
+}
+
+/// Restarts two streams likewise.
 fn restart_two(
     alloc: Global,
     first: &Stream,

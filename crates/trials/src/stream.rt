@@ -37,9 +37,28 @@ pub struct Stream {
     /// The pages that updates may change, which are all that a trial looks at.
     pub pages: Vec<u64>,
     opening: Opening,
+    /// Whether its disk holds one byte everywhere at first, the one that fills it.
+    is_filled: bool,
 }
 
 impl Stream {
+    /// A stream of two pages, all of whose bytes are valid, over a disk that holds one byte everywhere.
+    pub fn filled(alloc: Global, number: u8, name: &'static str) -> Result<Stream> {
+        let mut pages = Vec::new(alloc);
+        for page in 0..2u64 {
+            pages.push(page)?;
+        }
+        Ok(Stream {
+            number,
+            name,
+            size: 2 * PAGE,
+            valid: 2 * PAGE,
+            pages,
+            opening: Opening::Line,
+            is_filled: true,
+        })
+    }
+
     /// A stream of more view blocks than its quota has, all of whose bytes are valid, so that its pages go out.
     pub fn wide(
         alloc: Global,
@@ -61,6 +80,7 @@ impl Stream {
             valid: size,
             pages,
             opening: draw_opening(draws),
+            is_filled: false,
         })
     }
 
@@ -88,6 +108,7 @@ impl Stream {
             valid,
             pages,
             opening,
+            is_filled: false,
         })
     }
 
@@ -96,8 +117,11 @@ impl Stream {
         if self.number == 0 { 0x5A } else { 0xC3 }
     }
 
-    /// What a page of its disk holds at first: bytes that differ from page to page and along each.
+    /// What a page of its disk holds at first: the byte that fills it, or else bytes that differ from page to page and along each.
     pub fn content(&self, page: u64) -> [u8; 4096] {
+        if self.is_filled {
+            return [self.fill(); 4096];
+        }
         let begin = page % 1000 * 7 + u64::from(self.fill());
         let mut content = [0; 4096];
         for (at, byte) in content.iter_mut().enumerate() {
@@ -167,7 +191,7 @@ pub fn record_page(version: u32, size: u64, valid: u64) -> [u8; 4096] {
     page
 }
 
-/// What the devices of two streams with an empty log hold at first.
+/// What the devices of streams with an empty log hold at first.
 pub fn opening_image(alloc: Global, streams: &[Stream]) -> Result<Image> {
     let mut disks = Vec::new(alloc);
     for stream in streams {
