@@ -1,12 +1,11 @@
 -- A script that leaves a stream to its logged updates, and what a checkpoint of its log asks beside.
-use Rattle.std.specs.Prelude.{◌≡◌, ◌⊎◌, ◌+◌, ◌<◌, ℕ, true, List, ◌++◌, length, slice_get}
+use Rattle.std.specs.Prelude.{◌≡◌, ◌⊎◌, ◌+◌, ◌<◌, ℕ, true, length, slice_get}
 use Rattle.std.specs.List.{AllByRecursion}
 use Rattle.std.specs.declared.option.Option.{Option}
 use Rattle.std.specs.declared.option.Option.TheVariants.{Some, None}
 use Rattle.cc_command.specs.Words.{mode_in}
 use Rattle.cc_entry.specs.declared.answer.Answer.TheVariants as answer
 use Rattle.cc_entry.specs.declared.answer.LineReply.{LineReply}
-use Rattle.cc_entry.specs.declared.entry.Entry.{Entry}
 use Rattle.cc_entry.specs.declared.reply.Reply.TheVariants as reply
 use Rattle.cc_format.specs.Spelling.{IsReadAs}
 use Rattle.cc_format.specs.declared.record.StreamRecord.{StreamRecord}
@@ -20,7 +19,6 @@ use Rattle.cc_script_laws.specs.Lines.{AreStampedAtTables, IsKnownAt, IsUnwantin
 use Rattle.cc_stop_laws.specs.Redoable.{TellsAt}
 use Rattle.cc_traits.specs.Disk.{Disk, page_of}
 use Rattle.cc_traits.specs.Log.{Log}
-use Rattle.cc_update_laws.specs.Keeping.{RowsFit}
 use Rattle.cc_run_laws.specs.Calls.{ProgramCall}
 
 -- A call ran a script whose line of a stream names the log, and was answered as done. Each other line leaves the stream to its updates.
@@ -50,11 +48,9 @@ pub record HadDevices {D L : Type 0} (told : D → Option Disk) (log_told : L �
 
 -- What the checkpoints of the log ask: each is alone in its phase with lines of its caller, as the grammar says; each recorded update of
 -- the stream was set dirty as a table of the log's dirty pages was listed, or no update of it was refused for want of room or of memory;
--- at the sync of the stream that each made the image of each of its pages was known; and the rows of the dirty page table had numbers
--- that a record can spell.
+-- and at the sync of the stream that each made the image of each of its pages was known.
 pub record CheckpointsAreRight {D L : Type 0} (call : ProgramCall D L) (s log : ℕ) (script : Script) : Type 0 where
   pub apart : CheckpointsStandApart script.lines
   pub stamped : AreStampedAtTables s log call.past
       ⊎ AllByRecursion (λ each. IsUnwanting s each.0 each.1) (lines_answered (given_of script) call.told)
   pub known : AllByRecursion (λ each. checkpoints log each.action ≡ true → IsKnownAt s log each.caller call.past) script.lines
-  pub fit : (later front : List Entry) → call.past ≡ later ++ front → RowsFit log front

@@ -52,8 +52,8 @@ pub fn stopped_runs_are_redone_by_the_next<D: PageDisk, L: LogFile>()
 {}
 
 /// A call that is stopped within its restarts, at whichever of their calls, or behind them, whether it then ran its script or found no
-/// memory for that, or that ended before them: the disk with which it began can be redone to the file, whatever a crash leaves of it, if the log
-/// still has the entries that it was handed.
+/// memory for that, or that ended before them: the disk with which it began can be redone to the file, whatever a crash leaves of it, if
+/// the log still has the entries that it was handed.
 pub fn stopped_restarts_are_redone_by_the_next<D: PageDisk, L: LogFile>()
     ensures { (s log size first : ℕ) (stream : StreamLine) (pages : ℕ → List ℕ) (was : Disk) (had : Log) →
         IsRedoneFrom s stream size pages first was had → (call : ProgramCall D L) (handed : Disk) (kept : Log) →

@@ -13,3 +13,5 @@ mod Stamps
 mod Syncs
 mod Stamping
 mod Phases
+mod Rows
+mod SmallStamps

@@ -38,7 +38,8 @@ says_neither s (Some (Update stream at bytes)) = not (stream == s)
 says_neither s (Some (Checkpoint rows)) = false
 
 -- Whether a line leaves the stream to its updates. Of a line that writes through a word it is not asked of which stream the word's hold
--- is: a script has none. The numbers of an update fit the bytes in which its record spells them; a checkpoint asks the stream.
+-- is: a script has none. The numbers of an update fit the bytes in which its record spells them, and so does an LSN with which a line
+-- sets a hold dirty, in the record of a checkpoint; a checkpoint asks the stream.
 abbrev pub leaves_to_updates : ℕ → ℕ → Action → Bool
 leaves_to_updates s log (action.Uninitialise file truncate) = is_apart s file || not (file.object == 0)
 leaves_to_updates s log (action.CopyWrite file at bytes) = is_apart s file
@@ -46,6 +47,7 @@ leaves_to_updates s log (action.Zero file span) = is_apart s file
 leaves_to_updates s log (action.PreparePin file at len word true exclusive) = is_apart s file
 leaves_to_updates s log (action.PinnedWrite word at bytes) = false
 leaves_to_updates s log (action.MdlStore word at bytes) = false
+leaves_to_updates s log (action.SetDirty word (Some lsn)) = nat_lt lsn (2 ^ 64)
 leaves_to_updates s log (action.SetSizes file allocation size) = is_apart s file
 leaves_to_updates s log (action.Discard file span) = is_apart s file
 leaves_to_updates s log (action.NcWrite file at bytes) = is_apart s file

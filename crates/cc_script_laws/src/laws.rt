@@ -23,7 +23,6 @@ ghost use Rattle.cc_script.specs.declared.script.StreamLine.{StreamLine};
 ghost use Rattle.cc_script_laws.specs.Lines.{AreStampedAtTables, IsKnownAt, IsUnwanting, checkpoints, leaves_to_updates, lines_answered};
 ghost use Rattle.cc_script_laws.specs.Told.{TellsLesser, initialises};
 ghost use Rattle.cc_stop_laws.specs.Redoable.{IsNumbered};
-ghost use Rattle.cc_update_laws.specs.Keeping.{RowsFit};
 
 /// Each write of a stream's record in a run is that of a settle: it tells the lesser of the valid data lengths of two moments at which
 /// the stream had a map, the second one that of the write.
@@ -54,10 +53,9 @@ pub fn streams_open_with_their_numbers()
 /// A run whose script's lines leave a stream to its updates (`leaves_to_updates`), and whose line of the stream was done and gave it
 /// this log, leaves a journal in which the stream changes by logged updates alone (`IsUpdated`), also where callers run beside one
 /// another. `updates` is of a script without a checkpoint of the log. `checkpoints` is of one with some, each alone in its phase with
-/// lines of its caller, as the grammar asks: no update of the stream was refused for want of room or of memory; at the sync of the
-/// stream that each checkpoint made the image of each of its pages was known; and the rows of the log's dirty page table have numbers
-/// that a record can spell. `set_dirty` asks, in place of these answers, that each recorded update was set dirty where a table of the
-/// log's dirty pages was listed.
+/// lines of its caller, as the grammar asks: no update of the stream was refused for want of room or of memory; and at the sync of
+/// the stream that each checkpoint made the image of each of its pages was known. `set_dirty` asks, in place of the answers, that each
+/// recorded update was set dirty where a table of the log's dirty pages was listed.
 pub fn scripts_of_updates_keep_the_form()
     ensures updates { (u : Setup) (given : Given) (told : Answered) (taken : List Request) (past : List Entry) →
         IsExplained u given told taken past → IsGoodSoFar u past → (s log : ℕ) (stream : StreamLine) (line : LineReply) →
@@ -73,7 +71,7 @@ pub fn scripts_of_updates_keep_the_form()
         CheckpointsStandApart given.lines →
         AllByRecursion (λ each. IsUnwanting s each.0 each.1) (lines_answered given told) →
         AllByRecursion (λ each. checkpoints log each.action ≡ true → IsKnownAt s log each.caller past) given.lines →
-        ((later front : List Entry) → past ≡ later ++ front → RowsFit log front) → IsUpdated s log past }
+        IsUpdated s log past }
     ensures set_dirty { (u : Setup) (given : Given) (told : Answered) (taken : List Request) (past : List Entry) →
         IsExplained u given told taken past → IsGoodSoFar u past → (s log : ℕ) (stream : StreamLine) (line : LineReply) →
         slice_get given.streams s ≡ Some stream → slice_get told.replies (length given.restarts + s) ≡ Some line →
@@ -81,5 +79,5 @@ pub fn scripts_of_updates_keep_the_form()
         AllByRecursion (λ each. leaves_to_updates s log each.action ≡ true) given.lines → CheckpointsStandApart given.lines →
         AreStampedAtTables s log past →
         AllByRecursion (λ each. checkpoints log each.action ≡ true → IsKnownAt s log each.caller past) given.lines →
-        ((later front : List Entry) → past ≡ later ++ front → RowsFit log front) → IsUpdated s log past }
+        IsUpdated s log past }
 {}

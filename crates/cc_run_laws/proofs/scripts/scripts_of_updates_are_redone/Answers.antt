@@ -28,7 +28,7 @@ returns-clause-checkpoints g c = λ call clauses s log line read opening left be
     let so_far = good g.D.Told.told g.D.Told.faults g.L.LogFile.told g.L.LogFile.faults call clauses s log line read opening left begun after leaves had in
     let tells = opens g.D.Told.told g.D.Told.faults g.L.LogFile.told g.L.LogFile.faults call clauses s log line read opening left begun after leaves had in
     let updated : IsUpdated s log call.past = either right.stamped
-    (λ stamped. c.scripts_of_updates_keep_the_form.ensures.set_dirty u (given_of leaves.script) call.told call.taken call.past is so_far s log line leaves.opening leaves.named leaves.opening_at leaves.logged leaves.opened leaves.updates right.apart stamped right.known right.fit)
-    (λ unwanting. c.scripts_of_updates_keep_the_form.ensures.checkpoints u (given_of leaves.script) call.told call.taken call.past is so_far s log line leaves.opening leaves.named leaves.opening_at leaves.logged leaves.opened leaves.updates right.apart unwanting right.known right.fit) in
+    (λ stamped. c.scripts_of_updates_keep_the_form.ensures.set_dirty u (given_of leaves.script) call.told call.taken call.past is so_far s log line leaves.opening leaves.named leaves.opening_at leaves.logged leaves.opened leaves.updates right.apart stamped right.known)
+    (λ unwanting. c.scripts_of_updates_keep_the_form.ensures.checkpoints u (given_of leaves.script) call.told call.taken call.past is so_far s log line leaves.opening leaves.named leaves.opening_at leaves.logged leaves.opened leaves.updates right.apart unwanting right.known) in
     ran-updated g.D.Told.told g.D.Told.faults g.L.LogFile.told g.L.LogFile.faults call clauses s log line read opening left begun after leaves had updated
     (c.streams_open_with_their_numbers.ensures.done u (given_of leaves.script) call.told call.taken call.past is so_far s log updated line leaves.opening leaves.named leaves.opening_at read (page_of opening) tells had.reads had.stored leaves.opened)
