@@ -106,7 +106,7 @@ drop-item {A} l i x below is =
     let next : suc i ≡ i + 1 = omega arith in
     drop-cons l i x below ∙ ap (λ (y : A). y ∷ drop (suc i) l) (sym is) ∙ ap (λ (n : ℕ). x ∷ drop n l) next
 
-redone-some : (redo : Redo) (from : ℕ) (entry : ReadEntry) (change : Change) → from ≤ entry.lsn → change_said redo entry.says ≡ Some change → redone_by redo from entry ≡ Some change
+pub redone-some : (redo : Redo) (from : ℕ) (entry : ReadEntry) (change : Change) → from ≤ entry.lsn → change_said redo entry.says ≡ Some change → redone_by redo from entry ≡ Some change
 redone-some redo from entry change late some = chosen (nat_le from entry.lsn) (change_said redo entry.says) None (grind (arith, nat_tests)) ∙ some
 
 redone-early : (redo : Redo) (from : ℕ) (entry : ReadEntry) → entry.lsn < from → redone_by redo from entry ≡ None

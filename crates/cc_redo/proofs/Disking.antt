@@ -123,18 +123,30 @@ pub each-same : {D : Type 0} (streams : List Redo) (Q : Redo → D → D → Typ
 each-same {D} streams Q old new same itself = subst (λ (l : List D). EachDisk streams Q old l) (sym same) (reached-some streams 0 (λ redo was here. ⊥) Q old old (λ redo was here no. absurd no) itself (reached-begun streams (λ redo was here. ⊥) old))
 
 -- a disk that failed behind disks that were reached and did not
-pub failed-at : {D : Type 0} (faults : D → ℕ) (streams : List Redo) (n : ℕ) (P : Redo → D → D → Type 0) (old now new : List D) (redo : Redo) (here next : D) →
-    slice_get streams n ≡ Some redo → IsReached streams n P old now → Changed redo.disk here next now new → faults next ≡ faults here + 1 → OneFailed faults streams old new
-failed-at faults streams n P old now new redo here next is reached changed failed =
-    (n, redo, here, next, is, reached-was streams n P old now redo here is reached changed.was, changed.is, failed)
+pub failed-at : {D : Type 0} (faults : D → ℕ) (Q : Redo → D → D → Type 0) (streams : List Redo) (n : ℕ) (P : Redo → D → D → Type 0) (old now new : List D)
+    (redo : Redo) (here next : D) → slice_get streams n ≡ Some redo → IsReached streams n P old now → Changed redo.disk here next now new →
+    faults next ≡ faults here + 1 → Q redo here next → OneFailed faults Q streams old new
+failed-at faults Q streams n P old now new redo here next is reached changed failed of_it =
+    (n, redo, here, next, is, reached-was streams n P old now redo here is reached changed.was, changed.is, failed, of_it)
 
 -- one that failed behind a stage in which none did
-pub failed-then : {D : Type 0} (faults : D → ℕ) (streams : List Redo) (P : Redo → D → D → Type 0) (old now new : List D) → EachDisk streams P old now →
-    ((redo : Redo) (was here : D) → P redo was here → faults here ≡ faults was) → OneFailed faults streams now new → length new ≡ length now → OneFailed faults streams old new
-failed-then faults streams P old now new each none failed long =
+pub failed-then : {D : Type 0} (faults : D → ℕ) (Q R : Redo → D → D → Type 0) (streams : List Redo) (P : Redo → D → D → Type 0) (old now new : List D) →
+    EachDisk streams P old now → ((redo : Redo) (was here : D) → P redo was here → faults here ≡ faults was) →
+    ((redo : Redo) (was here next : D) → P redo was here → Q redo here next → R redo was next) → OneFailed faults Q streams now new →
+    length new ≡ length now → OneFailed faults R streams old new
+failed-then faults Q R streams P old now new each none joined failed long =
     let redo = failed.1 in
     let here = failed.2 in
     let inside : redo.disk < length old = let in_now = slice_get_within now redo.disk here failed.5 in let same = each.count in omega arith in
     let was = some-held old redo.disk inside in
-    let count = none redo was.0 here (each.given failed.0 redo was.0 here failed.4 was.1 failed.5) in
-    (failed.0, redo, was.0, failed.3, failed.4, was.1, failed.6, failed.7 ∙ ap (λ (f : ℕ). f + 1) count)
+    let before = each.given failed.0 redo was.0 here failed.4 was.1 failed.5 in (
+      failed.0,
+      redo,
+      was.0,
+      failed.3,
+      failed.4,
+      was.1,
+      failed.6,
+      failed.7 ∙ ap (λ (f : ℕ). f + 1) (none redo was.0 here before),
+      joined redo was.0 here failed.3 before failed.8,
+    )

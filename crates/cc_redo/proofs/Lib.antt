@@ -15,4 +15,5 @@ pub mod Steps
 pub mod Settling
 pub mod Keeping
 pub mod Popping
+pub mod Covering
 pub mod SaidSpells

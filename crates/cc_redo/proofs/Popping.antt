@@ -25,6 +25,11 @@ pub pop-keeps : (m n : BTreeMap ℕ (List ℕ)) (k : ℕ) → Updates nat_cmp m 
 pop-keeps m n k updates keeps = λ page beyond.
     updates.0 page ∙ ap (λ (o : Option (List ℕ)). cond (is_at (nat_cmp k) page) None o) (keeps page beyond) ∙ no-page (is_at (nat_cmp k) page)
 
+-- what was not kept is not kept then
+pub pop-none : (m n : BTreeMap ℕ (List ℕ)) (k : ℕ) → Updates nat_cmp m n k None → (page : ℕ) → get nat_cmp m page ≡ None → get nat_cmp n page ≡ None
+pop-none m n k updates page none =
+    updates.0 page ∙ ap (λ (o : Option (List ℕ)). cond (is_at (nat_cmp k) page) None o) none ∙ no-page (is_at (nat_cmp k) page)
+
 -- what is kept is no record
 below : (m : BTreeMap ℕ (List ℕ)) (k : ℕ) (v : List ℕ) → KeepsData m → get nat_cmp m k ≡ Some v → k < record_number
 below m k v keeps is = ⊎_elim (λ (b : k < record_number). b) (λ (a : record_number ≤ k). absurd (let none = keeps k a in (cc))) (cases_lt k record_number)

@@ -10,16 +10,32 @@ use Rattle.cc_model.specs.Records.{record_page}
 use Rattle.cc_redo.specs.declared.redo.Redo.{Redo}
 use Rattle.cc_redo.specs.declared.scan.ReadEntry.{ReadEntry}
 use Rattle.cc_redo.specs.Heard.{redone_of, valid_of}
-use Rattle.cc_redo.specs.Disks.{changed_page}
-use Rattle.cc_redo.specs.Scanned.{IsDiskRefusal, IsSettled, IsSettling, IsWriteRefusal, IsWriting}
-use Rattle.cc_redo.specs.Stages.{PagesDone, PagesLeft, RecordDone, RecordLeft}
+use Rattle.cc_redo.specs.Disks.{RecordStands, changed_page}
+use Rattle.cc_redo.specs.Ends.{IsFaultOf}
+use Rattle.cc_redo.specs.Scanned.{IsPagesRefusal, IsSettleRefusal, IsSettled, IsSettling, IsWriting}
+use Rattle.cc_redo.specs.Stages.{IsRecordFault, PagesDone, PagesLeft, RecordDone, RecordLeft}
 use Rattle.cc_redo.proofs.Options.{both-map, both-same}
+use Rattle.cc_redo.proofs.Steps.{IsFault}
 use Rattle.cc_redo.proofs.Writes.{settled-settling, writing-begun}
 
-pub write-refusal : (e : CcError) → IsWriteRefusal e → IsDiskRefusal e
-write-refusal (error.WriteFault page) may = tt
-write-refusal error.NoMemory may = tt
-write-refusal other may = absurd may
+-- a refusal is a fault of which this holds, or want of memory
+pub settle-fault : {D : Type 0} (told : D → Option Disk) (redo : Redo) (was now : D) (e : CcError) → IsSettleRefusal (told was) (told now) e →
+    IsFault (λ x. IsRecordFault told x redo was now) e
+settle-fault told redo was now (error.WriteFault page) refused = refused
+settle-fault told redo was now error.NoMemory refused = tt
+settle-fault told redo was now other refused = absurd refused
+
+pub pages-fault : {D : Type 0} (told : D → Option Disk) (from : ℕ) (items : List ReadEntry) (redo : Redo) (was now : D) (e : CcError) →
+    Both (told was) (told now) (λ old new. IsWriting (changed_page (redone_of redo from items) old) old new) →
+    IsPagesRefusal (redone_of redo from items) (told was) (told now) e → IsFault (λ x. IsFaultOf told from items x redo was now) e
+pages-fault told from items redo was now (error.ReadFault page) writing refused = refused
+pages-fault told from items redo was now (error.WriteFault page) writing refused =
+    inl (
+      refused,
+      both-map (λ old new. IsWriting (changed_page (redone_of redo from items) old) old new) RecordStands (told was) (told now) (λ o n w. w.stands) writing,
+    )
+pages-fault told from items redo was now error.NoMemory writing refused = tt
+pages-fault told from items redo was now other writing refused = absurd refused
 
 module _ {D : Type 0} (told : D → Option Disk) (faults : D → ℕ) (items : List ReadEntry) where
   -- the record of a stream

@@ -9,7 +9,7 @@ use Rattle.cc_entry.specs.declared.error.CcError.{CcError}
 use Rattle.cc_entry.specs.declared.error.CcError.TheVariants as error
 use Rattle.cc_redo.specs.declared.redo.Redo.{Redo}
 use Rattle.cc_redo.specs.Ends.{DisksDiffer, EachDisk}
-use Rattle.cc_redo.specs.Scanned.{IsDiskRefusal, disk_faults}
+use Rattle.cc_redo.specs.Scanned.{disk_faults}
 use Rattle.cc_redo.specs.Stages.{IsReached, IsStageRefusal}
 use Rattle.cc_redo.proofs.Disking.{Changed, failed-at, get-set_other, get-set_same, reached-some, reached-step}
 
@@ -17,6 +17,13 @@ use Rattle.cc_redo.proofs.Disking.{Changed, failed-at, get-set_other, get-set_sa
 pub handed-on : {A : Type 0} (P : Result A CcError → Type 0) (answer : Result A CcError) (e : CcError) → IsErrAnd answer (λ x. x ≡ e) → P (Err e) → P answer
 handed-on P (Ok done) e is p = absurd is
 handed-on P (Err x) e is p = subst (λ x. P (Err x)) (sym is) p
+
+-- a fault of a disk of which this holds, or want of memory
+abbrev pub IsFault : (CcError → Type 0) → CcError → Type 0
+IsFault P (error.ReadFault page) = P (error.ReadFault page)
+IsFault P (error.WriteFault page) = P (error.WriteFault page)
+IsFault P error.NoMemory = Unit {0}
+IsFault P other = ⊥
 
 -- the loop has come to a stream, and the disk of that stream was changed
 pub record IsAt {D : Type 0} (streams : List Redo) (n : ℕ) (P : Redo → D → D → Type 0) (old now : List D) (redo : Redo) : Type 0 where
@@ -63,8 +70,11 @@ module _ {D : Type 0} (streams : List Redo) (n : ℕ) (P : Redo → D → D → 
       reached-some streams (n + 1) Q Q old (set now redo.disk next) (λ r was is q. q) itself
       (reached-step streams n Q old now (set now redo.disk next) redo here next at_it.differ given weak changed holds)
 
-  pub refuses : (faults : D → ℕ) (e : CcError) → IsDiskRefusal e → faults next ≡ faults (get_or now redo.disk one) + disk_faults e → IsStageRefusal faults streams old (set now redo.disk next) e
-  refuses faults (error.ReadFault page) may count = failed-at faults streams n P old now (set now redo.disk next) redo here next given at_it.reached changed count
-  refuses faults (error.WriteFault page) may count = failed-at faults streams n P old now (set now redo.disk next) redo here next given at_it.reached changed count
-  refuses faults error.NoMemory may count = tt
-  refuses faults other may count = absurd may
+  pub refuses : (faults : D → ℕ) (Q : CcError → Redo → D → D → Type 0) (e : CcError) → IsFault (λ x. Q x redo (get_or now redo.disk one) next) e →
+      faults next ≡ faults (get_or now redo.disk one) + disk_faults e → IsStageRefusal faults Q streams old (set now redo.disk next) e
+  refuses faults Q (error.ReadFault page) of_it count =
+      failed-at faults (Q (error.ReadFault page)) streams n P old now (set now redo.disk next) redo here next given at_it.reached changed count of_it
+  refuses faults Q (error.WriteFault page) of_it count =
+      failed-at faults (Q (error.WriteFault page)) streams n P old now (set now redo.disk next) redo here next given at_it.reached changed count of_it
+  refuses faults Q error.NoMemory of_it count = tt
+  refuses faults Q other of_it count = absurd of_it

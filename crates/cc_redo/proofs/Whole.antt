@@ -1,8 +1,8 @@
 -- The stages of a restart, put together for all streams.
-use Rattle.std.specs.Prelude.{◌≡◌, ℕ, ◌≤◌, List, length, ◌⊎◌, Result, Ok, Err, IfOk, IfErr, refl}
+use Rattle.std.specs.Prelude.{◌≡◌, ℕ, ◌≤◌, List, [], ◌∷◌, length, ◌⊎◌, Result, Ok, Err, IfOk, IfErr, refl}
 use Rattle.std.specs.declared.option.Option.{Option}
 use Rattle.std.specs.declared.option.Option.TheVariants.{Some, None}
-use Rattle.std.proofs.Common.{subst, ◌∙◌, arith}
+use Rattle.std.proofs.Common.{ap, sym, subst, ◌∙◌, arith, inl, inr}
 use Rattle.cc_entry.specs.declared.error.CcError.{CcError}
 use Rattle.cc_entry.specs.declared.error.CcError.TheVariants as error
 use Rattle.cc_traits.specs.Told.{Both, IfTold}
@@ -13,10 +13,10 @@ use Rattle.cc_redo.specs.declared.redo.Redo.{Redo}
 use Rattle.cc_redo.specs.declared.streams.Restarted.{Restarted}
 use Rattle.cc_redo.specs.declared.scan.ReadEntry.{ReadEntry}
 use Rattle.cc_redo.specs.Heard.{from_of, readings, redone_of, valid_of}
-use Rattle.cc_redo.specs.Disks.{IsBetween, IsMade, changed_page}
-use Rattle.cc_redo.specs.Ends.{EachDisk, IsAnswer, IsAnswerOf, IsRefused, Leaves, LeavesBy, log_faults, made_from}
-use Rattle.cc_redo.specs.Scanned.{Holds, IsLogRefusal, IsSettled, IsSettling, IsWriting}
-use Rattle.cc_redo.specs.Stages.{IsStageRefusal, PagesDone, PagesLeft, RecordDone, RecordLeft}
+use Rattle.cc_redo.specs.Disks.{DataIsMade, IsBetween, IsMade, changed_page}
+use Rattle.cc_redo.specs.Ends.{AwaitsSync, EachDisk, IsAnswer, IsAnswerOf, IsFaultBy, IsFaultOf, IsRefused, Leaves, LeavesBy, OneFailed, log_faults, made_from}
+use Rattle.cc_redo.specs.Scanned.{DataIsSettled, Holds, IsLogRefusal, IsSettled, IsSettling, IsWriting}
+use Rattle.cc_redo.specs.Stages.{IsRecordFault, IsStageRefusal, PagesDone, PagesLeft, RecordDone, RecordLeft}
 use Rattle.cc_redo.proofs.Options.{both-map, both-then, both-with}
 use Rattle.cc_redo.proofs.Stopped.{between-begun, between-pages, between-record, made-all}
 use Rattle.cc_redo.proofs.Disking.{each-map, each-same, each-then, failed-then}
@@ -95,25 +95,67 @@ module _ {D : Type 0} (told : D → Option Disk) (faults : D → ℕ) (streams :
       (λ o n x w s. made-all (record_page redo.size (valid_of items redo)) (changed_page (redone_of redo (from_of streams items) items) o) n x w.1 s)
       (written redo was here done) settled.settled
 
+  -- a fault as the record was written says it of the disk as the restart found it
+  record-fault : (e : CcError) (redo : Redo) (was here now : D) → PagesDone told faults (from_of streams items) items redo was here → IsRecordFault told e redo here now →
+      IsFaultOf told (from_of streams items) items e redo was now
+  record-fault (error.WriteFault page) redo was here now done (inl first) =
+      inr (inl (
+        first.0,
+        subst (λ (d : Option Disk). Both (told was) d (AwaitsSync (redone_of redo (from_of streams items) items))) (sym first.1)
+            (both-map (IsWritten redo) (AwaitsSync (redone_of redo (from_of streams items) items)) (told was) (told here)
+            (λ o n w. record { holds = w.1; stands = w.0.stands }) (written redo was here done)),
+      ))
+  record-fault (error.WriteFault page) redo was here now done (inr last) =
+      inr (inr (
+        last.0,
+        both-then (IsWritten redo) DataIsSettled (λ old new. DataIsMade (changed_page (redone_of redo (from_of streams items) items) old) new)
+            (told was) (told here) (told now)
+            (λ o n x w s. λ page e. ((s page e).0 ∙ w.1 page, (s page e).1 ∙ ap (λ (l : List ℕ). l ∷ []) (w.1 page)))
+            (written redo was here done) last.1,
+      ))
+  record-fault other redo was here now done fault = absurd fault
+
 -- why it was refused
-pub refused-log : {D : Type 0} (faults : D → ℕ) (streams : List Redo) (log : Option Log) (old new : List D) (e : CcError) → new ≡ old → IsLogRefusal log e → IsRefused faults streams log old new e
-refused-log faults streams log old new (error.TooLong limit) same refused = (refused.0, refused.1, same)
-refused-log faults streams log old new (error.LogFault handle) same refused = (refused, same)
-refused-log faults streams log old new error.NoMemory same refused = tt
-refused-log faults streams log old new other same refused = absurd refused
+pub refused-log : {D : Type 0} (told : D → Option Disk) (faults : D → ℕ) (streams : List Redo) (log : Option Log) (old new : List D) (e : CcError) → new ≡ old →
+    IsLogRefusal log e → IsRefused told faults streams log old new e
+refused-log told faults streams log old new (error.TooLong limit) same refused = (refused.0, refused.1, same)
+refused-log told faults streams log old new (error.LogFault handle) same refused = (refused, same)
+refused-log told faults streams log old new error.NoMemory same refused = tt
+refused-log told faults streams log old new other same refused = absurd refused
 
-pub refused-stage : {D : Type 0} (faults : D → ℕ) (streams : List Redo) (log : Option Log) (old new : List D) (e : CcError) → IsStageRefusal faults streams old new e → IsRefused faults streams log old new e
-refused-stage faults streams log old new (error.ReadFault page) refused = refused
-refused-stage faults streams log old new (error.WriteFault page) refused = refused
-refused-stage faults streams log old new error.NoMemory refused = tt
-refused-stage faults streams log old new other refused = absurd refused
+-- what a fault says by the entries it says by the log
+fault-told : {D : Type 0} (told : D → Option Disk) (streams : List Redo) (log : Option Log) (items : List ReadEntry) (e : CcError) (redo : Redo) (was now : D) →
+    AreOf log items → IsFaultOf told (from_of streams items) items e redo was now → IsFaultBy told streams log e redo was now
+fault-told told streams None items e redo was now are fault = tt
+fault-told told streams (Some log) items e redo was now are fault =
+    subst (λ (l : List ReadEntry). IsFaultOf told (from_of streams l) l e redo was now) are.0 fault
 
-pub refused-later : {D : Type 0} (faults : D → ℕ) (streams : List Redo) (P : Redo → D → D → Type 0) (old now new : List D) (e : CcError) → EachDisk streams P old now →
-    ((redo : Redo) (was here : D) → P redo was here → faults here ≡ faults was) → length new ≡ length now → IsStageRefusal faults streams now new e → IsStageRefusal faults streams old new e
-refused-later faults streams P old now new (error.ReadFault page) each none long refused = failed-then faults streams P old now new each none refused long
-refused-later faults streams P old now new (error.WriteFault page) each none long refused = failed-then faults streams P old now new each none refused long
-refused-later faults streams P old now new error.NoMemory each none long refused = tt
-refused-later faults streams P old now new other each none long refused = absurd refused
+failed-so : {D : Type 0} (faults : D → ℕ) (P Q : Redo → D → D → Type 0) (streams : List Redo) (old new : List D) →
+    ((redo : Redo) (was now : D) → P redo was now → Q redo was now) → OneFailed faults P streams old new → OneFailed faults Q streams old new
+failed-so faults P Q streams old new weaker failed =
+    (failed.0, failed.1, failed.2, failed.3, failed.4, failed.5, failed.6, failed.7, weaker failed.1 failed.2 failed.3 failed.8)
+
+pub refused-stage : {D : Type 0} (told : D → Option Disk) (faults : D → ℕ) (streams : List Redo) (log : Option Log) (items : List ReadEntry) (old new : List D)
+    (e : CcError) → AreOf log items → IsStageRefusal faults (IsFaultOf told (from_of streams items) items) streams old new e → IsRefused told faults streams log old new e
+refused-stage told faults streams log items old new (error.ReadFault page) are refused =
+    failed-so faults (IsFaultOf told (from_of streams items) items (error.ReadFault page)) (IsFaultBy told streams log (error.ReadFault page)) streams old new
+    (λ redo was now fault. fault-told told streams log items (error.ReadFault page) redo was now are fault) refused
+refused-stage told faults streams log items old new (error.WriteFault page) are refused =
+    failed-so faults (IsFaultOf told (from_of streams items) items (error.WriteFault page)) (IsFaultBy told streams log (error.WriteFault page)) streams old new
+    (λ redo was now fault. fault-told told streams log items (error.WriteFault page) redo was now are fault) refused
+refused-stage told faults streams log items old new error.NoMemory are refused = tt
+refused-stage told faults streams log items old new other are refused = absurd refused
+
+pub refused-later : {D : Type 0} (faults : D → ℕ) (Q R : CcError → Redo → D → D → Type 0) (streams : List Redo) (P : Redo → D → D → Type 0) (old now new : List D)
+    (e : CcError) → EachDisk streams P old now → ((redo : Redo) (was here : D) → P redo was here → faults here ≡ faults was) →
+    ((x : CcError) (redo : Redo) (was here next : D) → P redo was here → Q x redo here next → R x redo was next) → length new ≡ length now →
+    IsStageRefusal faults Q streams now new e → IsStageRefusal faults R streams old new e
+refused-later faults Q R streams P old now new (error.ReadFault page) each none joined long refused =
+    failed-then faults (Q (error.ReadFault page)) (R (error.ReadFault page)) streams P old now new each none (joined (error.ReadFault page)) refused long
+refused-later faults Q R streams P old now new (error.WriteFault page) each none joined long refused =
+    failed-then faults (Q (error.WriteFault page)) (R (error.WriteFault page)) streams P old now new each none (joined (error.WriteFault page)) refused long
+refused-later faults Q R streams P old now new error.NoMemory each none joined long refused = tt
+refused-later faults Q R streams P old now new other each none joined long refused = absurd refused
 
 -- what each disk is left as, and its count of faults
 module _ {D : Type 0} (told : D → Option Disk) (faults : D → ℕ) (streams : List Redo) where
@@ -171,23 +213,26 @@ module _ {D : Type 0} (told : D → Option Disk) (faults : D → ℕ) (streams :
         (λ redo was mid now done made. made.counted ∙ done.counted) first second
 
     pub records-refused : (e : CcError) → EachDisk streams (PagesDone told faults (from_of streams items) items) old here → EachDisk streams (RecordLeft told faults items) here new →
-        IsStageRefusal faults streams here new e → IsStageRefusal faults streams old new e
+        IsStageRefusal faults (IsRecordFault told) streams here new e → IsStageRefusal faults (IsFaultOf told (from_of streams items) items) streams old new e
     records-refused e first second refused =
-        refused-later faults streams (PagesDone told faults (from_of streams items) items) old here new e first (λ redo was mid done. done.counted) second.count refused
+        refused-later faults (IsRecordFault told) (IsFaultOf told (from_of streams items) items) streams (PagesDone told faults (from_of streams items) items) old here new e first
+        (λ redo was mid done. done.counted) (λ x redo was mid now done fault. record-fault told faults streams items x redo was mid now done fault) second.count refused
 
 -- a stage that was refused is a restart that was refused, and not by the log
-pub refused-so : {D A : Type 0} (faults : D → ℕ) (streams : List Redo) (log : Option Log) (old new : List D) (answer : Result A CcError) →
-    IfErr answer (IsStageRefusal faults streams old new) → IfErr answer (IsRefused faults streams log old new)
-refused-so faults streams log old new (Ok done) refused = tt
-refused-so faults streams log old new (Err e) refused = refused-stage faults streams log old new e refused
+pub refused-so : {D A : Type 0} (told : D → Option Disk) (faults : D → ℕ) (streams : List Redo) (log : Option Log) (items : List ReadEntry) (old new : List D)
+    (answer : Result A CcError) → AreOf log items → IfErr answer (IsStageRefusal faults (IsFaultOf told (from_of streams items) items) streams old new) →
+    IfErr answer (IsRefused told faults streams log old new)
+refused-so told faults streams log items old new (Ok done) are refused = tt
+refused-so told faults streams log items old new (Err e) are refused = refused-stage told faults streams log items old new e are refused
 
-no-log : {D : Type 0} (A : Type 0) (faults : D → ℕ) (streams : List Redo) (old new : List D) (e : CcError) → IsStageRefusal faults streams old new e → (let r : Result A CcError = Err e in log_faults r) ≡ 0
-no-log A faults streams old new (error.ReadFault page) refused = refl
-no-log A faults streams old new (error.WriteFault page) refused = refl
-no-log A faults streams old new error.NoMemory refused = refl
-no-log A faults streams old new other refused = absurd refused
+no-log : {D : Type 0} (A : Type 0) (faults : D → ℕ) (Q : CcError → Redo → D → D → Type 0) (streams : List Redo) (old new : List D) (e : CcError) →
+    IsStageRefusal faults Q streams old new e → (let r : Result A CcError = Err e in log_faults r) ≡ 0
+no-log A faults Q streams old new (error.ReadFault page) refused = refl
+no-log A faults Q streams old new (error.WriteFault page) refused = refl
+no-log A faults Q streams old new error.NoMemory refused = refl
+no-log A faults Q streams old new other refused = absurd refused
 
-pub no-log_fault : {D A : Type 0} (faults : D → ℕ) (streams : List Redo) (old new : List D) (answer : Result A CcError) →
-    IfErr answer (IsStageRefusal faults streams old new) → log_faults answer ≡ 0
-no-log_fault faults streams old new (Ok done) refused = refl
-no-log_fault {A = A} faults streams old new (Err e) refused = no-log A faults streams old new e refused
+pub no-log_fault : {D A : Type 0} (faults : D → ℕ) (Q : CcError → Redo → D → D → Type 0) (streams : List Redo) (old new : List D) (answer : Result A CcError) →
+    IfErr answer (IsStageRefusal faults Q streams old new) → log_faults answer ≡ 0
+no-log_fault faults Q streams old new (Ok done) refused = refl
+no-log_fault {A = A} faults Q streams old new (Err e) refused = no-log A faults Q streams old new e refused

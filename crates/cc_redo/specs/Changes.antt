@@ -1,5 +1,6 @@
 -- What changes make of a page.
-use Rattle.std.specs.Prelude.{ℕ, ◌+◌, ◌-◌, ◌*◌, ◌&&◌, nat_le, nat_lt, List, [], ◌∷◌, fold, slice_index, if◌then◌else◌}
+use Rattle.std.specs.Prelude.{ℕ, ◌+◌, ◌-◌, ◌*◌, Bool, ◌&&◌, nat_le, nat_lt, List, [], ◌∷◌, fold, slice_index, if◌then◌else◌}
+use Rattle.std.specs.List.{list_any}
 use Rattle.cc_redo.specs.Heard.{Change, end_of}
 
 -- the byte at a place of a page, below its 4096 bytes, as a change leaves it: its own where it covers the place
@@ -20,3 +21,11 @@ bytes_after changes page place (byte ∷ bytes) = byte_after changes page place 
 -- a page as the changes leave it
 abbrev pub page_after : List Change → ℕ → List ℕ → List ℕ
 page_after changes page bytes = bytes_after changes page 0 bytes
+
+-- whether a change has a byte of a page, and whether one of several has
+abbrev pub covers : Change → ℕ → Bool
+covers change page =
+    nat_lt change.at (end_of change) && (nat_lt change.at (4096 * page + 4096) && nat_lt (4096 * page) (end_of change))
+
+abbrev pub is_changed : List Change → ℕ → Bool
+is_changed changes page = list_any (λ change. covers change page) changes

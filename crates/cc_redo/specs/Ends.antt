@@ -1,5 +1,5 @@
 -- How a restart ends: what it leaves of the disks, and why it is refused.
-use Rattle.std.specs.Prelude.{◌≡◌, ◌≢◌, ℕ, ◌+◌, ◌<◌, ◌≤◌, List, length, map, slice_get, Result, Ok, Err}
+use Rattle.std.specs.Prelude.{◌≡◌, ◌≢◌, ℕ, ◌+◌, ◌<◌, ◌≤◌, true, List, length, map, slice_get, ◌⊎◌, Result, Ok, Err}
 use Rattle.std.specs.declared.option.Option.{Option}
 use Rattle.std.specs.declared.option.Option.TheVariants.{Some}
 use Rattle.cc_entry.specs.declared.error.CcError.{CcError}
@@ -10,8 +10,10 @@ use Rattle.cc_traits.specs.Log.{Log}
 use Rattle.cc_redo.specs.declared.redo.Redo.{Redo}
 use Rattle.cc_redo.specs.declared.scan.ReadEntry.{ReadEntry}
 use Rattle.cc_redo.specs.declared.streams.Restarted.{Restarted}
-use Rattle.cc_redo.specs.Heard.{readings, from_of, last_of, all_updates, valid_of}
-use Rattle.cc_redo.specs.Disks.{IsMade, IsBetween, made_by}
+use Rattle.cc_redo.specs.Heard.{Change, readings, redone_of, from_of, last_of, all_updates, valid_of}
+use Rattle.cc_redo.specs.Changes.{is_changed}
+use Rattle.cc_redo.specs.Disks.{DataIsMade, IsMade, IsBetween, RecordStands, changed_page, made_by, record_number}
+use Rattle.cc_redo.specs.Scanned.{Holds}
 
 -- no disk is given to two streams
 abbrev pub DisksDiffer : List Redo → Type 0
@@ -57,18 +59,49 @@ abbrev pub log_faults : {A : Type 0} → Result A CcError → ℕ
 log_faults (Err (error.LogFault handle)) = 1
 log_faults other = 0
 
--- the disk of a stream failed once
-abbrev pub OneFailed : {D : Type 0} → (D → ℕ) → List Redo → List D → List D → Type 0
-OneFailed {D} faults streams old new =
+-- the disk of a stream failed once, and this holds of it
+abbrev pub OneFailed : {D : Type 0} → (D → ℕ) → (Redo → D → D → Type 0) → List Redo → List D → List D → Type 0
+OneFailed {D} faults P streams old new =
     (i : ℕ) × (redo : Redo) × (was : D) × (now : D) × (slice_get streams i ≡ Some redo) × (slice_get old redo.disk ≡ Some was)
-    × (slice_get new redo.disk ≡ Some now) × (faults now ≡ faults was + 1)
+    × (slice_get new redo.disk ≡ Some now) × (faults now ≡ faults was + 1) × P redo was now
+
+-- The page of a read that failed is one that the changes of the stream change. The disk is as it was: all of them are read before the
+-- first is written.
+abbrev pub IsReadFault : List Change → ℕ → Option Disk → Option Disk → Type 0
+IsReadFault changes page was now = (is_changed changes page ≡ true) × (now ≡ was)
+
+-- the pages are all made, the record stands, and nothing is settled yet
+pub record AwaitsSync (changes : List Change) (old new : Disk) : Type 0 where
+  pub holds : Holds (changed_page changes old) new
+  pub stands : RecordStands old new
+
+-- The page of a write that failed is one that the changes change, and the record of the stream stands. A fault of page 0 may be that of
+-- the first sync, where all pages are made; one of the page of the record is that of its write or of the sync behind it, where all other
+-- pages are made and settled.
+abbrev pub IsWriteFault : List Change → ℕ → Option Disk → Option Disk → Type 0
+IsWriteFault changes page was now =
+    ((is_changed changes page ≡ true) × Both was now RecordStands)
+    ⊎ ((page ≡ 0) × Both was now (AwaitsSync changes))
+    ⊎ ((page ≡ record_number) × Both was now (λ old new. DataIsMade (changed_page changes old) new))
+
+-- what a fault of the disk of a stream says, by the entries of the log
+abbrev pub IsFaultOf : {D : Type 0} → (D → Option Disk) → ℕ → List ReadEntry → CcError → Redo → D → D → Type 0
+IsFaultOf told from entries (error.ReadFault page) redo was now = IsReadFault (redone_of redo from entries) page (told was) (told now)
+IsFaultOf told from entries (error.WriteFault page) redo was now = IsWriteFault (redone_of redo from entries) page (told was) (told now)
+IsFaultOf told from entries other redo was now = ⊥
+
+abbrev pub IsFaultBy : {D : Type 0} → (D → Option Disk) → List Redo → Option Log → CcError → Redo → D → D → Type 0
+IsFaultBy told streams log e redo was now =
+    IfTold log (λ it. IsFaultOf told (from_of streams (readings it.entries)) (readings it.entries) e redo was now)
 
 -- Why a restart is refused. A log that is too long, or that failed, is met before the first call of a disk.
-abbrev pub IsRefused : {D : Type 0} → (D → ℕ) → List Redo → Option Log → List D → List D → CcError → Type 0
-IsRefused faults streams log old new (error.TooLong limit) =
-    (limit ≡ 4194304) × IfTold log (λ told. 4194304 < length told.entries) × (new ≡ old)
-IsRefused faults streams log old new (error.LogFault handle) = (handle ≡ 255) × (new ≡ old)
-IsRefused faults streams log old new (error.ReadFault page) = OneFailed faults streams old new
-IsRefused faults streams log old new (error.WriteFault page) = OneFailed faults streams old new
-IsRefused faults streams log old new error.NoMemory = Unit {0}
-IsRefused faults streams log old new other = ⊥
+abbrev pub IsRefused : {D : Type 0} → (D → Option Disk) → (D → ℕ) → List Redo → Option Log → List D → List D → CcError → Type 0
+IsRefused told faults streams log old new (error.TooLong limit) =
+    (limit ≡ 4194304) × IfTold log (λ it. 4194304 < length it.entries) × (new ≡ old)
+IsRefused told faults streams log old new (error.LogFault handle) = (handle ≡ 255) × (new ≡ old)
+IsRefused told faults streams log old new (error.ReadFault page) =
+    OneFailed faults (IsFaultBy told streams log (error.ReadFault page)) streams old new
+IsRefused told faults streams log old new (error.WriteFault page) =
+    OneFailed faults (IsFaultBy told streams log (error.WriteFault page)) streams old new
+IsRefused told faults streams log old new error.NoMemory = Unit {0}
+IsRefused told faults streams log old new other = ⊥

@@ -1,5 +1,5 @@
 -- What the functions of the crate show of a log that is read and of pages that are kept.
-use Rattle.std.specs.Prelude.{◌≡◌, ℕ, ◌<◌, ◌≤◌, ◌==◌, false, List, [], ◌∷◌, length, Contains, ◌⊎◌, unwrap_or, Result, Ok, Err, if◌then◌else◌}
+use Rattle.std.specs.Prelude.{◌≡◌, ℕ, ◌<◌, ◌≤◌, ◌==◌, true, false, List, [], ◌∷◌, length, Contains, ◌⊎◌, unwrap_or, Result, Ok, Err, if◌then◌else◌}
 use Rattle.std.specs.declared.option.Option.{Option}
 use Rattle.std.specs.declared.option.Option.TheVariants.{None}
 use Rattle.std.specs.Ordering.{nat_cmp}
@@ -8,10 +8,12 @@ use Rattle.cc_entry.specs.declared.error.CcError.{CcError}
 use Rattle.cc_entry.specs.declared.error.CcError.TheVariants as error
 use Rattle.cc_traits.specs.declared.stop.Stop.{Stop}
 use Rattle.cc_traits.specs.declared.stop.Stop.TheVariants as stop
-use Rattle.cc_traits.specs.Told.{IfTold}
+use Rattle.cc_traits.specs.Told.{Both, IfTold}
 use Rattle.cc_traits.specs.Disk.{Disk, page_of, may_of}
 use Rattle.cc_traits.specs.Log.{Log}
+use Rattle.cc_redo.specs.Changes.{is_changed}
 use Rattle.cc_redo.specs.Disks.{IsLeftOrMade, RecordStands, record_number}
+use Rattle.cc_redo.specs.Heard.{Change}
 
 -- what is answered where the log stopped
 abbrev pub log_refusal_of : Stop → CcError
@@ -40,27 +42,29 @@ abbrev pub faults_by : {A : Type 0} → Result A CcError → ℕ
 faults_by (Ok a) = 0
 faults_by (Err e) = disk_faults e
 
--- why a disk was not read or not written
-abbrev pub IsReadRefusal : CcError → Type 0
-IsReadRefusal (error.ReadFault page) = Unit {0}
-IsReadRefusal error.NoMemory = Unit {0}
-IsReadRefusal other = ⊥
+-- why a disk was not read: the page that a fault names is one of which this holds
+abbrev pub IsReadRefusal : (ℕ → Type 0) → CcError → Type 0
+IsReadRefusal P (error.ReadFault page) = P page
+IsReadRefusal P error.NoMemory = Unit {0}
+IsReadRefusal P other = ⊥
 
 abbrev pub IsRecordRefusal : CcError → Type 0
 IsRecordRefusal (error.ReadFault page) = page ≡ record_number
 IsRecordRefusal error.NoMemory = Unit {0}
 IsRecordRefusal other = ⊥
 
-abbrev pub IsWriteRefusal : CcError → Type 0
-IsWriteRefusal (error.WriteFault page) = Unit {0}
-IsWriteRefusal error.NoMemory = Unit {0}
-IsWriteRefusal other = ⊥
+-- why it was not written or not synced
+abbrev pub IsWriteRefusal : (ℕ → Type 0) → CcError → Type 0
+IsWriteRefusal P (error.WriteFault page) = P page
+IsWriteRefusal P error.NoMemory = Unit {0}
+IsWriteRefusal P other = ⊥
 
-abbrev pub IsDiskRefusal : CcError → Type 0
-IsDiskRefusal (error.ReadFault page) = Unit {0}
-IsDiskRefusal (error.WriteFault page) = Unit {0}
-IsDiskRefusal error.NoMemory = Unit {0}
-IsDiskRefusal other = ⊥
+-- Why the pages of a stream were not redone: a fault names one that the changes change; all are read before the first is written.
+abbrev pub IsPagesRefusal : List Change → Option Disk → Option Disk → CcError → Type 0
+IsPagesRefusal changes old new (error.ReadFault page) = (is_changed changes page ≡ true) × (new ≡ old)
+IsPagesRefusal changes old new (error.WriteFault page) = is_changed changes page ≡ true
+IsPagesRefusal changes old new error.NoMemory = Unit {0}
+IsPagesRefusal changes old new other = ⊥
 
 -- a page as it will stand once the pages that are kept are written
 abbrev pub page_with : BTreeMap ℕ (List ℕ) → Disk → ℕ → List ℕ
@@ -83,13 +87,25 @@ Holds made disk = (page : ℕ) → page_of disk page ≡ made page
 abbrev pub IsAllSettled : Disk → Type 0
 IsAllSettled disk = (page : ℕ) → may_of disk page ≡ page_of disk page ∷ []
 
+-- all pages but the record hold what they held, and a crash leaves that alone
+abbrev pub DataIsSettled : Disk → Disk → Type 0
+DataIsSettled old new =
+    (page : ℕ) → (record_number == page) ≡ false → (page_of new page ≡ page_of old page) × (may_of new page ≡ page_of old page ∷ [])
+
 -- The record of a stream is written behind a sync, and a sync behind it. Before the first sync the disk is as it was.
 pub record IsSettling (told : List ℕ) (old new : Disk) : Type 0 where
-  pub others : (page : ℕ) → (record_number == page) ≡ false →
-      (page_of new page ≡ page_of old page) × (may_of new page ≡ page_of old page ∷ [])
+  pub others : DataIsSettled old new
   pub record_is : Contains (may_of new record_number) (page_of new record_number)
   pub record_may : (bytes : List ℕ) → Contains (may_of new record_number) bytes → (bytes ≡ page_of old record_number) ⊎ (bytes ≡ told)
 
 abbrev pub IsSettled : List ℕ → Disk → Disk → Type 0
 IsSettled told old new =
     (page : ℕ) → (page_of new page ≡ (if record_number == page then told else page_of old page)) × (may_of new page ≡ page_of new page ∷ [])
+
+-- Which page a fault names as the record of a stream is written: page 0 that of the first sync, which left the disk as it was; and the
+-- page of the record that of its write or of the sync behind it, where all other pages are settled.
+abbrev pub IsSettleFault : ℕ → Option Disk → Option Disk → Type 0
+IsSettleFault page old new = ((page ≡ 0) × (new ≡ old)) ⊎ ((page ≡ record_number) × Both old new DataIsSettled)
+
+abbrev pub IsSettleRefusal : Option Disk → Option Disk → CcError → Type 0
+IsSettleRefusal old new e = IsWriteRefusal (λ page. IsSettleFault page old new) e

@@ -12,17 +12,17 @@ use Rattle.cc_redo.specs.declared.redo.Redo.{Redo}
 use Rattle.cc_redo.specs.Heard.{redone_of, valid_of}
 use Rattle.cc_redo.specs.Disks.{changed_page}
 use Rattle.cc_redo.specs.Ends.{OneFailed}
-use Rattle.cc_redo.specs.Scanned.{Holds, IsSettled, IsSettling, IsWriting}
+use Rattle.cc_redo.specs.Scanned.{Holds, IsSettleFault, IsSettled, IsSettling, IsWriting}
 
 -- the pages of a stream were redone, maybe not all
-pub record PagesLeft {D : Type 0} (told : D → Option Disk) (faults : D → ℕ) (from : ℕ) (entries : List ReadEntry) (redo : Redo) (was now : D)
-    : Type 0 where
+pub record PagesLeft {D : Type 0} (told : D → Option Disk) (faults : D → ℕ) (from : ℕ) (entries : List ReadEntry) (redo : Redo)
+    (was now : D) : Type 0 where
   pub writing : Both (told was) (told now) (λ old new. IsWriting (changed_page (redone_of redo from entries) old) old new)
   pub counted : faults was ≤ faults now
 
 -- all were
-pub record PagesDone {D : Type 0} (told : D → Option Disk) (faults : D → ℕ) (from : ℕ) (entries : List ReadEntry) (redo : Redo) (was now : D)
-    : Type 0 where
+pub record PagesDone {D : Type 0} (told : D → Option Disk) (faults : D → ℕ) (from : ℕ) (entries : List ReadEntry) (redo : Redo)
+    (was now : D) : Type 0 where
   pub writing : Both (told was) (told now) (λ old new. IsWriting (changed_page (redone_of redo from entries) old) old new)
   pub holds : Both (told was) (told now) (λ old new. Holds (changed_page (redone_of redo from entries) old) new)
   pub counted : faults now ≡ faults was
@@ -40,12 +40,17 @@ pub record RecordDone {D : Type 0} (told : D → Option Disk) (faults : D → �
   pub settled : Both (told was) (told now) (IsSettled (record_page redo.size (valid_of entries redo)))
   pub counted : faults now ≡ faults was
 
--- why a stage was not done
-abbrev pub IsStageRefusal : {D : Type 0} → (D → ℕ) → List Redo → List D → List D → CcError → Type 0
-IsStageRefusal faults streams old new (error.ReadFault page) = OneFailed faults streams old new
-IsStageRefusal faults streams old new (error.WriteFault page) = OneFailed faults streams old new
-IsStageRefusal faults streams old new error.NoMemory = Unit {0}
-IsStageRefusal faults streams old new other = ⊥
+-- why a stage was not done, where this holds of the disk that failed
+abbrev pub IsStageRefusal : {D : Type 0} → (D → ℕ) → (CcError → Redo → D → D → Type 0) → List Redo → List D → List D → CcError → Type 0
+IsStageRefusal faults P streams old new (error.ReadFault page) = OneFailed faults (P (error.ReadFault page)) streams old new
+IsStageRefusal faults P streams old new (error.WriteFault page) = OneFailed faults (P (error.WriteFault page)) streams old new
+IsStageRefusal faults P streams old new error.NoMemory = Unit {0}
+IsStageRefusal faults P streams old new other = ⊥
+
+-- what a fault says as the records are written
+abbrev pub IsRecordFault : {D : Type 0} → (D → Option Disk) → CcError → Redo → D → D → Type 0
+IsRecordFault told (error.WriteFault page) redo was now = IsSettleFault page (told was) (told now)
+IsRecordFault told other redo was now = ⊥
 
 -- The disks of the first n streams stand to what they were as is said, and all others are as they were.
 pub record IsReached {D : Type 0} (streams : List Redo) (n : ℕ) (P : Redo → D → D → Type 0) (old now : List D) : Type 0 where

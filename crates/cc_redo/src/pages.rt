@@ -1,12 +1,14 @@
 //! The pages of a stream as updates leave them, kept until each is written once.
 
-ghost use Rattle.std.specs.Prelude.{◌≡◌, ◌≢◌, ℕ, ◌+◌, ◌*◌, ◌^◌, ◌<◌, ◌≤◌, [], ◌∷◌, length, IfOk, IfErr, OnOk};
+ghost use Rattle.std.specs.Prelude.{◌≡◌, ◌≢◌, ℕ, ◌+◌, ◌*◌, ◌^◌, ◌<◌, ◌≤◌, true, false, None, is_some, [], ◌∷◌, length, IfOk, IfErr, OnOk};
+ghost use Rattle.std.specs.BTreeMap.{get};
+ghost use Rattle.std.specs.Ordering.{nat_cmp};
 ghost use Rattle.cc_traits.specs.Told.{Both, IfTold};
 ghost use Rattle.cc_traits.specs.Disk.{Disk};
-ghost use Rattle.cc_redo.specs.Changes.{page_after};
+ghost use Rattle.cc_redo.specs.Changes.{covers, is_changed, page_after};
 ghost use Rattle.cc_redo.specs.Disks.{changed_page};
 ghost use Rattle.cc_redo.specs.Heard.{redone_of};
-ghost use Rattle.cc_redo.specs.Scanned.{Holds, IsDiskRefusal, IsReadRefusal, IsWriteRefusal, IsWriting, KeepsData, faults_by, page_with, write_refusal_of};
+ghost use Rattle.cc_redo.specs.Scanned.{Holds, IsPagesRefusal, IsReadRefusal, IsWriteRefusal, IsWriting, KeepsData, faults_by, page_with, write_refusal_of};
 
 use crate::redo::Redo;
 use crate::scan::{ReadEntry, change_in};
@@ -31,7 +33,7 @@ pub(crate) fn redo_pages<D: PageDisk>(
         IsWriting (changed_page (redone_of redo.now from entries.now) old) old new) }
     ensures written { OnOk result (Both (D.told disk.old) (D.told disk.new) (λ old new.
         Holds (changed_page (redone_of redo.now from entries.now) old) new)) }
-    ensures refused { IfErr result IsDiskRefusal }
+    ensures refused { IfErr result (IsPagesRefusal (redone_of redo.now from entries.now) (D.told disk.old) (D.told disk.new)) }
     ensures counted { D.faults disk.new ≡ D.faults disk.old + faults_by result }
 {
     let kept = changed_pages(alloc, disk, redo, from, entries)?;
@@ -49,8 +51,10 @@ fn changed_pages<D: PageDisk>(
     ensures changed { IfOk result (λ kept. IfTold (D.told disk.old) (λ told. (page : ℕ) →
         page_with kept told page ≡ changed_page (redone_of redo.now from entries.now) told page)) }
     ensures keeps { IfOk result KeepsData }
+    ensures apart { IfOk result (λ kept. (page : ℕ) → is_changed (redone_of redo.now from entries.now) page ≡ false →
+        get nat_cmp kept page ≡ None) }
     ensures stays { D.told disk.new ≡ D.told disk.old }
-    ensures refused { IfErr result IsReadRefusal }
+    ensures refused { IfErr result (IsReadRefusal (λ page. is_changed (redone_of redo.now from entries.now) page ≡ true)) }
     ensures counted { D.faults disk.new ≡ D.faults disk.old + faults_by result }
 {
     let mut kept = BTreeMap::new(alloc);
@@ -77,8 +81,10 @@ fn change_pages<D: PageDisk>(
         page_with kept.new told page
         ≡ page_after (record { at = at; bytes = bytes.now } ∷ []) page (page_with kept.old told page))) }
     ensures keeps { KeepsData kept.new }
+    ensures apart { OnOk result ((page : ℕ) → covers (record { at = at; bytes = bytes.now }) page ≡ false →
+        get nat_cmp kept.new page ≡ get nat_cmp kept.old page) }
     ensures stays { D.told disk.new ≡ D.told disk.old }
-    ensures refused { IfErr result IsReadRefusal }
+    ensures refused { IfErr result (IsReadRefusal (λ page. covers (record { at = at; bytes = bytes.now }) page ≡ true)) }
     ensures counted { D.faults disk.new ≡ D.faults disk.old + faults_by result }
 {
     if bytes.is_empty() {
@@ -107,8 +113,9 @@ fn change_page<D: PageDisk>(
         ≡ page_after (record { at = at; bytes = bytes.now } ∷ []) page (page_with kept.old told page))) }
     ensures others { (told : Disk) (other : ℕ) → other ≢ page → page_with kept.new told other ≡ page_with kept.old told other }
     ensures keeps { KeepsData kept.new }
+    ensures apart { (other : ℕ) → other ≢ page → get nat_cmp kept.new other ≡ get nat_cmp kept.old other }
     ensures stays { D.told disk.new ≡ D.told disk.old }
-    ensures refused { IfErr result IsReadRefusal }
+    ensures refused { IfErr result (IsReadRefusal (λ failed. failed ≡ page)) }
     ensures counted { D.faults disk.new ≡ D.faults disk.old + faults_by result }
 {
     let mut content = content_of(disk, kept, page)?;
@@ -126,7 +133,7 @@ fn content_of<D: PageDisk>(
     ensures content { IfOk result (λ content. IfTold (D.told disk.old) (λ told.
         content ≡ page_with kept.now told page)) }
     ensures stays { D.told disk.new ≡ D.told disk.old }
-    ensures refused { IfErr result IsReadRefusal }
+    ensures refused { IfErr result (IsReadRefusal (λ failed. failed ≡ page)) }
     ensures counted { D.faults disk.new ≡ D.faults disk.old + faults_by result }
 {
     if let Some(content) = kept.get(&page) {
@@ -159,7 +166,7 @@ fn write_pages<D: PageDisk>(disk: &mut D, kept: BTreeMap<u64, [u8; 4096]>) -> Re
     requires keeps { KeepsData kept }
     ensures writing { Both (D.told disk.old) (D.told disk.new) (λ old new. IsWriting (page_with kept old) old new) }
     ensures written { OnOk result (Both (D.told disk.old) (D.told disk.new) (λ old new. Holds (page_with kept old) new)) }
-    ensures refused { IfErr result IsWriteRefusal }
+    ensures refused { IfErr result (IsWriteRefusal (λ page. is_some (get nat_cmp kept page) ≡ true)) }
     ensures counted { D.faults disk.new ≡ D.faults disk.old + faults_by result }
 {
     let mut left = kept;

@@ -8,6 +8,7 @@ use Rattle.std.proofs.lemmas.Bool.{eq-eqb, and_from, or_left}
 use Rattle.cc_entry.specs.Kinds.{is_pin}
 use Rattle.cc_entry.specs.Place.{Range}
 use Rattle.cc_entry.specs.Pages.{has_page, whole_range}
+use Rattle.cc_entry.specs.declared.call.Call.{Call}
 use Rattle.cc_entry.specs.declared.call.Call.TheVariants as call
 use Rattle.cc_entry.specs.declared.entry.Entry.{Entry}
 use Rattle.cc_entry.specs.declared.entry.Entry.TheVariants as entry
@@ -216,6 +217,39 @@ log-stays s log [] past updated so = so
 log-stays s log (e ∷ later) past updated so =
     ap log_of (history-effect e (later ++ past) s (effect_of e s) refl)
     ∙ log-step s log e (later ++ past) (effect_of e s) refl updated (log-stays s log later past (updated-tail s log e (later ++ past) updated) so)
+
+-- it is this one, where it has one: a stream that changes by updates alone is given no other
+abbrev IsOneLog : ℕ → Option ℕ → Type 0
+IsOneLog log o = (handle : ℕ) → o ≡ Some handle → handle ≡ log
+
+some-both : (a b c : ℕ) → Some a ≡ Some b → Some a ≡ Some c → c ≡ b
+some-both a b c one other = cc
+
+after-one : (log : ℕ) (it : Call) (o : Option ℕ) → log_after it (Some log) ≡ Some log → IsOneLog log o → IsOneLog log (log_after it o)
+after-one log (call.SetLog file handle) o keeps one = λ other is. some-both handle log other keeps is
+after-one log other o keeps one = one
+
+one-step : (s log : ℕ) (e : Entry) (past : List Entry) (o : Option Effect) → effect_of e s ≡ o → IsUpdated s log (e ∷ past) → IsOneLog log (log_of (history past s)) → IsOneLog log (log_of (cons_option o (history past s)))
+one-step s log e past None is updated one = one
+one-step s log e past (Some (Did pass it reply)) is updated one =
+    let k = did-entry e s pass it reply is in
+    let by : IsUpdatedBy s log past (entry.Call pass k.nth (Some s) it (outcome.Done reply)) = subst (λ (x : Entry). IsUpdatedBy s log past x) k.is (updated-head s log e past updated).by in
+    subst (IsOneLog log) (sym (log_of-done pass it reply (history past s))) (after-one log it (log_of (history past s)) (by refl).keeps_log one)
+one-step s log e past (Some (CameIn pass page from_disk)) is updated one = subst (IsOneLog log) (sym (log_of-came_in pass page from_disk (history past s))) one
+one-step s log e past (Some (WentOut pass page)) is updated one = subst (IsOneLog log) (sym (log_of-went_out pass page (history past s))) one
+one-step s log e past (Some (Began pass page)) is updated one = subst (IsOneLog log) (sym (log_of-began pass page (history past s))) one
+one-step s log e past (Some (Ended pass page how)) is updated one = subst (IsOneLog log) (sym (log_of-ended pass page how (history past s))) one
+one-step s log e past (Some (Synced pass how)) is updated one = subst (IsOneLog log) (sym (log_of-synced pass how (history past s))) one
+
+none-logged : (s handle : ℕ) → log_of (history [] s) ≡ Some handle → ⊥
+unfolding history log_of
+none-logged s handle is = cc is
+
+pub log-one : (s log : ℕ) (past : List Entry) → IsUpdated s log past → IsOneLog log (log_of (history past s))
+log-one s log [] updated = λ handle is. absurd (none-logged s handle is)
+log-one s log (e ∷ past) updated =
+    subst (IsOneLog log) (sym (ap log_of (history-effect e past s (effect_of e s) refl)))
+    (one-step s log e past (effect_of e s) refl updated (log-one s log past (updated-tail s log e past updated)))
 
 -- an append of an update's record is one that may be
 pub may-append : (s log pass lsn at : ℕ) (bytes spelled : List ℕ) (front : List Entry) → IsUpdated s log (entry.Append pass log lsn spelled ∷ front) → said_by spelled ≡ Some (Update s at bytes) →

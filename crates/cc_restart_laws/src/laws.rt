@@ -64,8 +64,9 @@ pub fn restarted_runs_are_redone()
 {}
 
 /// A restart that is done over pages of which it makes the file leaves that file on the disk, with as much valid data as it has
-/// or more. One that stopped leaves pages of which the next one makes it, whatever a crash leaves of them, if it was so of all
-/// that the page could be before; also where the next one is given the valid data length to which the updates raised it.
+/// or more: with the greatest of what the restart was given and the ends of the kept updates. One that stopped leaves pages of which
+/// the next one makes it, whatever a crash leaves of them, if it was so of all that the page could be before; also where the next one
+/// is given the valid data length to which the updates raised it.
 pub fn restarts_make_the_file()
     ensures made { (streams : List Redo) (kept : List LogEntry) (redo : Redo) (pages : ℕ → List ℕ) (first : ℕ) (old new : Disk) →
         ((p : ℕ) → 4096 * p < redo.size → MakesFile streams kept redo pages first p (page_of old p)) →
@@ -74,6 +75,8 @@ pub fn restarts_make_the_file()
         ≡ updated_byte pages first (updates_in redo kept) i }
     ensures valid { (kept : List LogEntry) (redo : Redo) (first : ℕ) → first ≤ redo.valid →
         valid_after (updates_in redo kept) first ≤ valid_of (readings kept) redo }
+    ensures greatest { (kept : List LogEntry) (redo : Redo) →
+        valid_of (readings kept) redo ≡ valid_after (updates_in redo kept) redo.valid }
     ensures again { (streams : List Redo) (kept : List LogEntry) (redo : Redo) (pages : ℕ → List ℕ) (first : ℕ) (old new : Disk) →
         IsBetween (made_from streams (readings kept) redo old) old new → (p : ℕ) → 4096 * p < redo.size →
         ((bytes : List ℕ) → Was old p bytes → MakesFile streams kept redo pages first p bytes) →

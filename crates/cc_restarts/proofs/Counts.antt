@@ -16,7 +16,7 @@ use Rattle.cc_script.specs.declared.script.RestartLine.{RestartLine}
 use Rattle.cc_script.specs.declared.script.StreamLine.{StreamLine}
 use Rattle.cc_redo.specs.declared.redo.Redo.{Redo}
 use Rattle.cc_redo.specs.declared.streams.Restarted.{Restarted}
-use Rattle.cc_redo.specs.Ends.{EachDisk, IsCounted, IsRefused, OneFailed, log_faults}
+use Rattle.cc_redo.specs.Ends.{EachDisk, IsCounted, IsFaultBy, IsRefused, OneFailed, log_faults}
 use Rattle.cc_redo.proofs.Disking.{get-set_other, get-set_same}
 use Rattle.cc_restarts.specs.Restarting.{IsUnread, LogRestarted, LogsRestarted, ReadingLeft, RecordsRead, WasRestarted, no_rise, numbers_of, one_rise, with_handle}
 use Rattle.cc_restarts.specs.Whole.{HaveNotFallen, HaveNotRisen, has_failed}
@@ -135,20 +135,20 @@ each-fallen {D} faults given answered old new each = record {
 }
 
 -- no refusal of a restart is a fault whose count did not rise
-one-failed : {D : Type 0} (faults : D → ℕ) (given : List Redo) (old new : List D) → OneFailed faults given old new → HaveNotRisen faults old new → ⊥
-one-failed faults given old new failed stayed =
+one-failed : {D : Type 0} (faults : D → ℕ) (P : Redo → D → D → Type 0) (given : List Redo) (old new : List D) → OneFailed faults P given old new → HaveNotRisen faults old new → ⊥
+one-failed faults P given old new failed stayed =
     let low = stayed failed.1.disk failed.2 failed.3 failed.5 failed.6 in
     let rose = failed.7 in
     omega arith
 
-refused-faultless : {D : Type 0} (faults : D → ℕ) (given : List Redo) (log : Option Log) (handle log_was log_now : ℕ) (old new : List D) (e : CcError) →
-    IsRefused faults given log old new e → log_now ≡ log_was + log_faults {A = Restarted} (Err e) → HaveNotRisen faults old new → log_now ≤ log_was → is_fault (with_handle handle e) ≡ false
-refused-faultless faults given log handle log_was log_now old new (error.TooLong limit) refused counted stayed log_stayed = refl
-refused-faultless faults given log handle log_was log_now old new (error.LogFault h) refused counted stayed log_stayed = absurd (omega arith)
-refused-faultless faults given log handle log_was log_now old new (error.ReadFault page) refused counted stayed log_stayed = absurd (one-failed faults given old new refused stayed)
-refused-faultless faults given log handle log_was log_now old new (error.WriteFault page) refused counted stayed log_stayed = absurd (one-failed faults given old new refused stayed)
-refused-faultless faults given log handle log_was log_now old new error.NoMemory refused counted stayed log_stayed = refl
-refused-faultless faults given log handle log_was log_now old new other refused counted stayed log_stayed = absurd refused
+refused-faultless : {D : Type 0} (told : D → Option Disk) (faults : D → ℕ) (given : List Redo) (log : Option Log) (handle log_was log_now : ℕ) (old new : List D) (e : CcError) →
+    IsRefused told faults given log old new e → log_now ≡ log_was + log_faults {A = Restarted} (Err e) → HaveNotRisen faults old new → log_now ≤ log_was → is_fault (with_handle handle e) ≡ false
+refused-faultless told faults given log handle log_was log_now old new (error.TooLong limit) refused counted stayed log_stayed = refl
+refused-faultless told faults given log handle log_was log_now old new (error.LogFault h) refused counted stayed log_stayed = absurd (omega arith)
+refused-faultless told faults given log handle log_was log_now old new (error.ReadFault page) refused counted stayed log_stayed = absurd (one-failed faults (IsFaultBy told given log (error.ReadFault page)) given old new refused stayed)
+refused-faultless told faults given log handle log_was log_now old new (error.WriteFault page) refused counted stayed log_stayed = absurd (one-failed faults (IsFaultBy told given log (error.WriteFault page)) given old new refused stayed)
+refused-faultless told faults given log handle log_was log_now old new error.NoMemory refused counted stayed log_stayed = refl
+refused-faultless told faults given log handle log_was log_now old new other refused counted stayed log_stayed = absurd refused
 
 module _ {D L : Type 0} (told : D → Option Disk) (faults : D → ℕ) (log_told : L → Option Log) (log_count : L → ℕ) where
   was-fallen : (handle : ℕ) (streams : List StreamLine) (ended : Result Numbers CcError) (old new : List D) (was now : L) →
@@ -169,11 +169,11 @@ module _ {D L : Type 0} (told : D → Option Disk) (faults : D → ℕ) (log_tol
   one-log_fallen handle streams ended old new was now (inr restarted) = let counts = restarted.log_counted in omega arith
 
   answered-faultless : (handle : ℕ) (given : List Redo) (log : Option Log) (log_was log_now : ℕ) (between new : List D) (answered : Result Restarted CcError) →
-      ((e : CcError) → answered ≡ Err e → IsRefused faults given log between new e) → log_now ≡ log_was + log_faults answered → HaveNotRisen faults between new → log_now ≤ log_was →
+      ((e : CcError) → answered ≡ Err e → IsRefused told faults given log between new e) → log_now ≡ log_was + log_faults answered → HaveNotRisen faults between new → log_now ≤ log_was →
       has_failed (numbers_of handle answered) ≡ false
   answered-faultless handle given log log_was log_now between new (Ok done) refused counted stayed log_stayed = refl
   answered-faultless handle given log log_was log_now between new (Err e) refused counted stayed log_stayed =
-      refused-faultless faults given log handle log_was log_now between new e (refused e refl) counted stayed log_stayed
+      refused-faultless told faults given log handle log_was log_now between new e (refused e refl) counted stayed log_stayed
 
   pub one-faultless : (handle : ℕ) (streams : List StreamLine) (ended : Result Numbers CcError) (old new : List D) (was now : L) →
       LogRestarted told faults log_told log_count handle streams ended old new was now → HaveNotRisen faults old new → log_count now ≤ log_count was → has_failed ended ≡ false

@@ -21,25 +21,25 @@ reading-own told faults handle streams old new (error.ReadFault page) left = tt
 reading-own told faults handle streams old new error.NoMemory left = tt
 reading-own told faults handle streams old new other left = absurd left
 
-refused-own : {D : Type 0} (faults : D → ℕ) (given : List Redo) (log : Option Log) (handle : ℕ) (old new : List D) (e : CcError) → IsRefused faults given log old new e → IsOwnRefusal (Err (with_handle handle e))
-refused-own faults given log handle old new (error.TooLong limit) refused = tt
-refused-own faults given log handle old new (error.LogFault h) refused = tt
-refused-own faults given log handle old new (error.ReadFault page) refused = tt
-refused-own faults given log handle old new (error.WriteFault page) refused = tt
-refused-own faults given log handle old new error.NoMemory refused = tt
-refused-own faults given log handle old new other refused = absurd refused
+refused-own : {D : Type 0} (told : D → Option Disk) (faults : D → ℕ) (given : List Redo) (log : Option Log) (handle : ℕ) (old new : List D) (e : CcError) → IsRefused told faults given log old new e → IsOwnRefusal (Err (with_handle handle e))
+refused-own told faults given log handle old new (error.TooLong limit) refused = tt
+refused-own told faults given log handle old new (error.LogFault h) refused = tt
+refused-own told faults given log handle old new (error.ReadFault page) refused = tt
+refused-own told faults given log handle old new (error.WriteFault page) refused = tt
+refused-own told faults given log handle old new error.NoMemory refused = tt
+refused-own told faults given log handle old new other refused = absurd refused
 
-answered-own : {D : Type 0} (faults : D → ℕ) (given : List Redo) (log : Option Log) (handle : ℕ) (old new : List D) (answered : Result Restarted CcError) →
-    ((e : CcError) → answered ≡ Err e → IsRefused faults given log old new e) → IsOwnRefusal (numbers_of handle answered)
-answered-own faults given log handle old new (Ok done) refused = tt
-answered-own faults given log handle old new (Err e) refused = refused-own faults given log handle old new e (refused e refl)
+answered-own : {D : Type 0} (told : D → Option Disk) (faults : D → ℕ) (given : List Redo) (log : Option Log) (handle : ℕ) (old new : List D) (answered : Result Restarted CcError) →
+    ((e : CcError) → answered ≡ Err e → IsRefused told faults given log old new e) → IsOwnRefusal (numbers_of handle answered)
+answered-own told faults given log handle old new (Ok done) refused = tt
+answered-own told faults given log handle old new (Err e) refused = refused-own told faults given log handle old new e (refused e refl)
 
 module _ {D L : Type 0} (told : D → Option Disk) (faults : D → ℕ) (log_told : L → Option Log) (log_count : L → ℕ) where
   one-own : (handle : ℕ) (streams : List StreamLine) (ended : Result Numbers CcError) (old new : List D) (was now : L) →
       LogRestarted told faults log_told log_count handle streams ended old new was now → IsOwnRefusal ended
   one-own handle streams ended old new was now (inl unread) = subst IsOwnRefusal (sym unread.ended_is) (reading-own told faults handle streams old new unread.why unread.left)
   one-own handle streams ended old new was now (inr restarted) =
-      subst IsOwnRefusal (sym restarted.ended_is) (answered-own faults restarted.given (log_told was) handle restarted.between new restarted.answered restarted.refused)
+      subst IsOwnRefusal (sym restarted.ended_is) (answered-own told faults restarted.given (log_told was) handle restarted.between new restarted.answered restarted.refused)
 
   pub all-own : (streams : List StreamLine) (restarts : List RestartLine) (ended : List LogRestart) (old new : List D) (logs logs_after : List L) →
       LogsRestarted told faults log_told log_count streams restarts ended old new logs logs_after → AllByRecursion (λ restart. IsOwnRefusal restart.ended) ended

@@ -98,7 +98,7 @@ pub record WasRestarted {D L : Type 0} (told : D → Option Disk) (faults : D �
   pub read : RecordsRead told faults handle streams no_rise old between
   pub leaves : EachDisk given (λ redo before after. Leaves given (log_told was) answered redo (told before) (told after)) between new
   pub answer : (done : Restarted) → answered ≡ Ok done → IfTold (log_told was) (λ is. IsAnswer given is done)
-  pub refused : (e : CcError) → answered ≡ Err e → IsRefused faults given (log_told was) between new e
+  pub refused : (e : CcError) → answered ≡ Err e → IsRefused told faults given (log_told was) between new e
   pub counted : EachDisk given (λ redo before after. IsCounted answered (faults before) (faults after)) between new
   pub log_tells : log_told now ≡ log_told was
   pub log_counted : log_count now ≡ log_count was + log_faults answered

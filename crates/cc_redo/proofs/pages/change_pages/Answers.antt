@@ -22,6 +22,7 @@ loop-page-init g c =
       stays = refl;
       counted = refl;
       keeps = c.requires.keeps;
+      apart = λ page e. refl;
       changing = told-each (IsChanging change (c.args.at / 4096) kept kept) (g.D.Told.told c.args.disk.now) (λ disk. changing-begun change (c.args.at / 4096) kept disk (omega arith));
     }
 

@@ -1,3 +1,4 @@
+use Rattle.std.specs.Prelude.{ℕ, None}
 use Rattle.std.proofs.Common.{◌≡◌}
 use Rattle.std.specs.Ordering.{nat_cmp}
 use Rattle.std.specs.BTreeMap.{get, btree_map_len}
@@ -10,6 +11,7 @@ abbrev pub invariant-loop-first : goal.invariant-loop-first
 invariant-loop-first g l = record {
   counted : g.D.Told.faults l.disk ≡ g.D.Told.faults l.fn.disk;
   keeps : KeepsData l.left;
+  among : (page : ℕ) → get nat_cmp l.fn.kept page ≡ None → get nat_cmp l.left page ≡ None;
   going : Both (g.D.Told.told l.fn.disk) (g.D.Told.told l.disk) (IsGoingOn (get nat_cmp l.fn.kept) (get nat_cmp l.left));
 }
 

@@ -1,10 +1,10 @@
 use Rattle.std.proofs.Common.{◌≡◌, ◌≤◌, arith}
 use Rattle.std.specs.Prelude.{IfErr, OnErr}
 use Rattle.std.proofs.Math.ListN.{get_or, set}
-use Rattle.cc_redo.specs.Ends.{EachDisk}
+use Rattle.cc_redo.specs.Ends.{EachDisk, IsFaultOf}
 use Rattle.cc_redo.specs.Stages.{IsStageRefusal, PagesDone, PagesLeft}
 use Rattle.cc_redo.proofs.Disking.{reached-all}
-use Rattle.cc_redo.proofs.Settling.{pages-itself, pages-weaker}
+use Rattle.cc_redo.proofs.Settling.{pages-fault, pages-itself, pages-weaker}
 use Rattle.cc_redo.proofs.Steps.{goes-on, handed-on, refuses, stops}
 use Rattle.cc_redo.proofs.streams.redo_all.Goals as goal
 
@@ -37,11 +37,12 @@ returns-in_err-redo_pages-clause-refused g c =
     let here = get_or c.loop-redo.disks redo.disk one in
     let next = c.redo_pages.new.disk in
     let e = c.in_err-redo_pages.field-0.0 in
-    handed-on (λ answer. IfErr answer (IsStageRefusal faults c.args.streams.now c.args.disks.now (set c.loop-redo.disks redo.disk next)))
+    handed-on (λ answer. IfErr answer (IsStageRefusal faults (IsFaultOf told from items) c.args.streams.now c.args.disks.now (set c.loop-redo.disks redo.disk next)))
     c.from_residual.result e c.from_residual.ensures.1
     (refuses c.args.streams.now c.loop-redo.redo-index (PagesDone told faults from items) c.args.disks.now c.loop-redo.disks redo one next
     (record { differ = c.requires.differ; disks = c.requires.disks; below = c.loop-redo-test.true; redo_is = c.redo-item.is; reached = c.loop-redo.invariant })
-    faults e c.in_err-redo_pages.ensures.refused c.in_err-redo_pages.ensures.counted)
+    faults (IsFaultOf told from items) e (pages-fault told from items redo here next e c.redo_pages.ensures.writing c.in_err-redo_pages.ensures.refused)
+    c.in_err-redo_pages.ensures.counted)
 
 pub loop-redo-preserved : goal.loop-redo-preserved
 loop-redo-preserved g c =

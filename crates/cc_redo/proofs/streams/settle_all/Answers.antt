@@ -2,9 +2,9 @@ use Rattle.std.proofs.Common.{◌≡◌, ◌≤◌, arith}
 use Rattle.std.specs.Prelude.{IfErr, OnErr}
 use Rattle.std.proofs.Math.ListN.{get_or, set}
 use Rattle.cc_redo.specs.Ends.{EachDisk}
-use Rattle.cc_redo.specs.Stages.{IsStageRefusal, RecordDone, RecordLeft}
+use Rattle.cc_redo.specs.Stages.{IsRecordFault, IsStageRefusal, RecordDone, RecordLeft}
 use Rattle.cc_redo.proofs.Disking.{reached-all}
-use Rattle.cc_redo.proofs.Settling.{record-done, record-itself, record-left, record-weaker, write-refusal}
+use Rattle.cc_redo.proofs.Settling.{record-done, record-itself, record-left, record-weaker, settle-fault}
 use Rattle.cc_redo.proofs.Steps.{goes-on, handed-on, refuses, stops}
 use Rattle.cc_redo.proofs.streams.settle_all.Goals as goal
 
@@ -35,11 +35,11 @@ returns-in_err-settle_record-clause-refused g c =
     let here = get_or c.loop-redo.disks redo.disk one in
     let next = c.settle_record.new.disk in
     let e = c.in_err-settle_record.field-0.0 in
-    handed-on (λ answer. IfErr answer (IsStageRefusal faults c.args.streams.now c.args.disks.now (set c.loop-redo.disks redo.disk next)))
+    handed-on (λ answer. IfErr answer (IsStageRefusal faults (IsRecordFault told) c.args.streams.now c.args.disks.now (set c.loop-redo.disks redo.disk next)))
     c.from_residual.result e c.from_residual.ensures.1
     (refuses c.args.streams.now c.loop-redo.redo-index (RecordDone told faults items) c.args.disks.now c.loop-redo.disks redo one next
     (record { differ = c.requires.differ; disks = c.requires.disks; below = c.loop-redo-test.true; redo_is = c.redo-item.is; reached = c.loop-redo.invariant })
-    faults e (write-refusal e c.in_err-settle_record.ensures.refused) c.in_err-settle_record.ensures.counted)
+    faults (IsRecordFault told) e (settle-fault told redo here next e c.in_err-settle_record.ensures.refused) c.in_err-settle_record.ensures.counted)
 
 pub loop-redo-preserved : goal.loop-redo-preserved
 loop-redo-preserved g c =
