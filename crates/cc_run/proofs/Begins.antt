@@ -17,7 +17,7 @@ use Rattle.cc_restarts.specs.declared.ended.LogRestart.{LogRestart}
 use Rattle.cc_run.specs.Begun.{HasBegun}
 use Rattle.cc_run.specs.Desks.{IsSameRun}
 use Rattle.cc_run.specs.Lines.{StreamsOpened}
-use Rattle.cc_run.specs.Restarting.{AreEndsOf, RestartsEnded}
+use Rattle.cc_program.specs.Restarting.{AreEndsOf, RestartsEnded}
 use Rattle.cc_run.proofs.Ending.{ended-lines, ended-long}
 use Rattle.cc_run.proofs.RowSteps.{reverse_twice}
 
@@ -59,6 +59,7 @@ module _ {D L Q : Type 0} (told : D → Option Disk) (faults : D → ℕ) (log_t
   begun-so script restarted ended before between empty none are ended_are ended_alone opened opened_alone = record {
     are = are;
     ended_are = subst (λ (l : List Entry). RestartsEnded (at d0).setup restarted ended l d1.last.entries) empty ended_are;
+    ended_alone = λ me other. subst (λ (l : List Entry). IsIdle me l d1.last.entries) empty (ended_alone me other);
     opened =
         subst (λ (u : Setup). StreamsOpened u script.restarts ended 0 script.streams [] between d1.last.entries d3.last.entries) (ap (λ (d : DeskState D L Q). (at d).setup) acts ∙ first.setup)
         (subst (λ (l : List Entry). StreamsOpened (at d2).setup script.restarts ended 0 script.streams [] between l d3.last.entries) same_entries

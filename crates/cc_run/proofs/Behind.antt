@@ -17,9 +17,9 @@ use Rattle.cc_restarts.specs.Whole.{HaveNotFallen, HaveNotRisen, has_failed}
 use Rattle.cc_restarts.specs.declared.ended.LogRestart.{LogRestart}
 use Rattle.cc_restarts.proofs.Counts.{all-fallen, all-faultless, all-logs_fallen, held}
 use Rattle.cc_restarts.proofs.Kept.{all-logs_kept, all-others}
-use Rattle.cc_run.specs.Complete.{HaveStayed}
-use Rattle.cc_run.specs.Disks.{HaveRisen}
-use Rattle.cc_run.specs.Setups.{run_disks, run_logs}
+use Rattle.cc_program.specs.Complete.{HaveStayed}
+use Rattle.cc_program.specs.Disks.{HaveRisen}
+use Rattle.cc_program.specs.Setups.{run_disks, run_logs}
 
 take-get : {A : Type 0} (n : ℕ) (xs : List A) (s : ℕ) (x : A) → slice_get (take n xs) s ≡ Some x → (s < n) × (slice_get xs s ≡ Some x)
 take-get zero xs s x is = absurd (cc is)

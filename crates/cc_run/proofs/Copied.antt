@@ -26,7 +26,8 @@ use Rattle.cc_pieces.specs.Runs.{asked_of}
 use Rattle.cc_pieces.proofs.AsyncPlaces.{has-queued, untouched}
 use Rattle.cc_queue.specs.Places.{PlaceState}
 use Rattle.cc_restarts.specs.declared.ended.LogRestart.{LogRestart}
-use Rattle.cc_run.specs.Lines.{asked_by, given_of, run_answered}
+use Rattle.cc_run.specs.Lines.{asked_by}
+use Rattle.cc_program.specs.Runs.{given_of, run_answered}
 use Rattle.cc_run.specs.Once.{AllTellPart, AreToldOnce, TellsPart}
 use Rattle.cc_run.specs.Phases.{PhasesServed}
 use Rattle.cc_run.specs.Places.{AreAsyncQueued, PlacesRan}

@@ -19,7 +19,7 @@ use Rattle.cc_turns.specs.Disk.{DiskStands, HasGone}
 use Rattle.cc_turns.specs.RecordPage.{RecordHasGone}
 use Rattle.cc_turns.proofs.RecordPage.{record_gone-none}
 use Rattle.cc_turns.specs.Desk.{disk_at_first}
-use Rattle.cc_run.specs.Disks.{Pairwise, DisksAre, DisksLeft, DisksStand, HaveRisen, AreCounted}
+use Rattle.cc_program.specs.Disks.{Pairwise, DisksAre, DisksLeft, DisksStand, HaveRisen, AreCounted}
 use Rattle.cc_run.proofs.Returned.{some-same, pairwise-same, as-many, firsts, others, of-all}
 
 -- Disks of a run that stand for a past, before those that the run did not take.

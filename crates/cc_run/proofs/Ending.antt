@@ -31,7 +31,7 @@ use Rattle.cc_restarts.specs.Restarting.{IsOwnRefusal}
 use Rattle.cc_restarts.specs.Whole.{has_failed}
 use Rattle.cc_restarts.specs.declared.ended.LogRestart.{LogRestart}
 use Rattle.cc_restarts.specs.declared.ended.Numbers.{Numbers}
-use Rattle.cc_run.specs.Restarting.{AreEndsOf, EndLeft, RestartsEnded, RestartsTold, TellsEnd, last_number}
+use Rattle.cc_program.specs.Restarting.{AreEndsOf, EndLeft, RestartsEnded, RestartsTold, TellsEnd, last_number}
 use Rattle.cc_run.proofs.Acting.{room-left}
 
 -- one restart more

@@ -33,14 +33,14 @@ use Rattle.cc_pieces.proofs.RunFaultless.{explained-none}
 use Rattle.cc_pieces.proofs.RunStreams.{explained-below}
 use Rattle.cc_pieces.proofs.SteppedStreams.{stepped-below, stepped-none}
 use Rattle.cc_pieces.proofs.Streams.{AllBelow, IsBelow}
-use Rattle.cc_run.specs.Complete.{HaveStayed, RanWithoutFault}
-use Rattle.cc_run.specs.Disks.{Pairwise}
-use Rattle.cc_run.specs.Ends.{has_devices}
-use Rattle.cc_run.specs.Lines.{given_of, run_answered}
+use Rattle.cc_program.specs.Complete.{HaveStayed, RanWithoutFault}
+use Rattle.cc_program.specs.Disks.{Pairwise}
+use Rattle.cc_program.specs.Ends.{has_devices}
+use Rattle.cc_program.specs.Runs.{IsExplainedBy, given_of, run_answered}
 use Rattle.cc_run.specs.Places.{taken_at}
-use Rattle.cc_run.specs.Restarting.{RestartsTold}
-use Rattle.cc_run.specs.Runs.{AreQueuedBy, HasRun, HasRunBehind, IsExplainedBy, ticks_asked}
-use Rattle.cc_run.specs.Setups.{run_disks, run_logs, setup_of}
+use Rattle.cc_program.specs.Restarting.{RestartsTold}
+use Rattle.cc_run.specs.Runs.{AreQueuedBy, HasRun, HasRunBehind, ticks_asked}
+use Rattle.cc_program.specs.Setups.{run_disks, run_logs, setup_of}
 use Rattle.cc_run.specs.declared.modes.RestartedRun.{RestartedRun}
 use Rattle.cc_run.specs.declared.modes.RunResult.{RunResult}
 use Rattle.cc_restarts.specs.Restarting.{LogsRestarted}

@@ -10,8 +10,8 @@ use Rattle.cc_model.specs.Logs.{flushed_to}
 use Rattle.cc_log.specs.Turn.{Holds, appended}
 use Rattle.cc_turns.specs.Log.{FileStands, log_failures}
 use Rattle.cc_turns.specs.Desk.{log_at_first}
-use Rattle.cc_run.specs.Disks.{Pairwise, HaveRisen}
-use Rattle.cc_run.specs.Logs.{LogWent, LogsAre, LogsCounted, LogsLeft, LogsStand}
+use Rattle.cc_program.specs.Disks.{Pairwise, HaveRisen}
+use Rattle.cc_program.specs.Logs.{LogWent, LogsAre, LogsCounted, LogsLeft, LogsStand}
 use Rattle.cc_run.proofs.Returned.{pairwise-same, as-many, firsts, others, of-all}
 
 -- what a log's file that stands for a past tells, and its count of faults

@@ -18,7 +18,8 @@ use Rattle.cc_pieces.specs.Runs.{asked_of}
 use Rattle.cc_pieces.specs.Phases.{Plan, PhaseRan, PhasesRan, is_before_phase, is_of_phase, lines_before}
 use Rattle.cc_pieces.specs.Explained.{IsExplained}
 use Rattle.cc_pieces.proofs.AskedLines.{asked-none}
-use Rattle.cc_run.specs.Lines.{StreamsOpened, after_lines, asked_by, given_of, run_answered}
+use Rattle.cc_run.specs.Lines.{StreamsOpened, after_lines, asked_by}
+use Rattle.cc_program.specs.Runs.{given_of, run_answered}
 use Rattle.cc_run.specs.Once.{AllTellPart, AreToldOnce}
 use Rattle.cc_run.specs.Phases.{PhaseLeft, PhasesLeft, PhasesServed}
 use Rattle.cc_run.specs.Aheads.{StepsLeft}

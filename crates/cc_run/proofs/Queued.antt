@@ -47,11 +47,12 @@ use Rattle.cc_queue.specs.Places.{PlaceState, new_place}
 use Rattle.cc_restarts.specs.declared.ended.LogRestart.{LogRestart}
 use Rattle.cc_restarts.specs.declared.ended.Numbers.{Numbers}
 use Rattle.cc_run.specs.Aheads.{step_lines}
-use Rattle.cc_run.specs.Lines.{IsCaller, StreamsLeft, after_lines, asked_by, given_of, run_answered}
+use Rattle.cc_run.specs.Lines.{IsCaller, StreamsLeft, after_lines, asked_by}
+use Rattle.cc_program.specs.Runs.{given_of, run_answered}
 use Rattle.cc_run.specs.Once.{AllTellPart, AreToldOnce, TellsPart}
 use Rattle.cc_run.specs.Phases.{PhasesLeft, PhasesServed}
 use Rattle.cc_run.specs.Places.{AreQueued, PlacesRan, or_rest, place_at, taken_at}
-use Rattle.cc_run.specs.Restarting.{RestartsEnded, RestartsTold, TellsEnd, last_number}
+use Rattle.cc_program.specs.Restarting.{RestartsEnded, RestartsTold, TellsEnd, last_number}
 use Rattle.cc_run.specs.Begun.{HasBegun}
 use Rattle.cc_run.proofs.Begins.{kept-behind}
 use Rattle.cc_run.proofs.LinesRan.{of_none}
@@ -486,4 +487,5 @@ run-told u v script restarted ended between replies kept all ticked stepped took
       replies_are = all_is;
       grew = phases.grew ∙ (ap (λ l. phases.during ++ l) streams.grew ∙ sym (append_assoc phases.during streams.during ends));
       ended_are = begins.ended_are;
+      alone = begins.ended_alone;
     }

@@ -17,8 +17,8 @@ use Rattle.cc_traits.specs.Told.{Both}
 use Rattle.cc_turns.specs.Disk.{HasGone}
 use Rattle.cc_turns.specs.RecordPage.{RecordHasGone, record_number}
 use Rattle.cc_lines.proofs.WordLines.{so_far}
-use Rattle.cc_run.specs.Disks.{DisksLeft}
-use Rattle.cc_run.specs.Setups.{run_disks}
+use Rattle.cc_program.specs.Disks.{DisksLeft}
+use Rattle.cc_program.specs.Setups.{run_disks}
 
 module _ {D : Type 0} (told : D → Option Disk) (faults : D → ℕ) where
   pub records-told : (u : Setup) (past : List Entry) (old new : List D) → IsGood u past → DisksLeft told faults past old new → (s : ℕ) (before after : D) (opening now : Disk) → slice_get (run_disks old) s ≡ Some before → slice_get (run_disks new) s ≡ Some after → told before ≡ Some opening → told after ≡ Some now → ((p : ℕ) → may_of opening p ≡ page_of opening p ∷ []) → (content : List ℕ) (first read : Option StreamRecord) (p i : ℕ) (bytes : List ℕ) → IsReadAs (page_of opening record_number) first → told_valid first ≤ first_valid (history past s) → Contains (may_of now record_number) content → IsReadAs content read → i < told_valid read → 4096 * p ≤ i → i < 4096 * p + 4096 → Contains (may_of now p) bytes → WasByte (page_of opening) past s i (slice_index bytes (i - 4096 * p))

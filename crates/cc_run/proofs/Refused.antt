@@ -15,7 +15,7 @@ use Rattle.cc_pieces.specs.Openings.{OpeningBehind}
 use Rattle.cc_lines.specs.Line.{IsFullTold}
 use Rattle.cc_restarts.specs.Restarting.{IsOwnRefusal}
 use Rattle.cc_restarts.specs.declared.ended.Numbers.{Numbers}
-use Rattle.cc_run.specs.Restarting.{TellsEnd}
+use Rattle.cc_program.specs.Restarting.{TellsEnd}
 
 pub own-not-full : (w : Standing) (e : CcError) → IsOwnRefusal (Err e) → IsFullTold w (answer.Refused e)
 own-not-full w (error.TooLong limit) own = tt

@@ -21,8 +21,8 @@ use Rattle.cc_restarts.specs.declared.ended.LogRestart.{LogRestart}
 use Rattle.cc_restarts.proofs.Counts.{all-fallen, all-logs_fallen}
 use Rattle.cc_restarts.proofs.Kept.{all-handles, all-lines}
 use Rattle.cc_restarts.proofs.Refusals.{all-own}
-use Rattle.cc_run.specs.Ends.{has_devices}
-use Rattle.cc_run.specs.Restarting.{AreEndsOf, RestartsTold}
+use Rattle.cc_program.specs.Ends.{has_devices}
+use Rattle.cc_program.specs.Restarting.{AreEndsOf, RestartsTold}
 
 module _ {D L : Type 0} (told : D → Option Disk) (faults : D → ℕ) (log_told : L → Option Log) (log_faults : L → ℕ) (script : Script) (ended : List LogRestart) (disks begun : List D) (logs logs_begun : List L) (made : LogsRestarted told faults log_told log_faults script.streams script.restarts ended disks begun logs logs_begun) where
   pub ends-of : AreEndsOf script.restarts ended
@@ -56,6 +56,7 @@ none-told u restarts ended (Ok ran) replies past none are = record {
   replies_are = refl;
   grew = sym (append-nil (past ran));
   ended_are = rw (none-ended restarts ended none are) refl;
+  alone = λ me other. record { during = []; grew = refl; others = tt };
 }
 none-told u restarts ended (Err back) replies past none are = tt
 

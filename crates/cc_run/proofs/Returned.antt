@@ -3,7 +3,7 @@ use Rattle.std.specs.Prelude.{◌≡◌, ℕ, zero, suc, ◌+◌, List, [], ◌�
 use Rattle.std.specs.declared.option.Option.TheVariants.{Some}
 use Rattle.std.proofs.Common.{sym, ap, ◌∙◌, subst, arith}
 use Rattle.std.proofs.lemmas.List.{length-append, length-take, take-append-drop}
-use Rattle.cc_run.specs.Disks.{Pairwise}
+use Rattle.cc_program.specs.Disks.{Pairwise}
 use Rattle.cc_run.proofs.RowSteps.{taken}
 
 pub some-same : {A : Type 0} (a b : A) → Some a ≡ Some b → a ≡ b

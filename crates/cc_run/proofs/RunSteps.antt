@@ -24,10 +24,10 @@ use Rattle.cc_turns.specs.Disk.{DiskStands}
 use Rattle.cc_turns.specs.Log.{FileStands}
 use Rattle.cc_turns.specs.Standing.{DiskAtFirst, LogAtFirst}
 use Rattle.cc_turns.specs.Desk.{Begun, DeskState, DisksEnded, LogsEnded, disk_at_first, log_at_first, standing_of}
-use Rattle.cc_run.specs.Disks.{DisksStand}
-use Rattle.cc_run.specs.Ends.{has_devices, has_log}
-use Rattle.cc_run.specs.Logs.{LogsStand}
-use Rattle.cc_run.specs.Setups.{setup_of}
+use Rattle.cc_program.specs.Disks.{DisksStand}
+use Rattle.cc_program.specs.Ends.{has_devices, has_log}
+use Rattle.cc_program.specs.Logs.{LogsStand}
+use Rattle.cc_program.specs.Setups.{setup_of}
 use Rattle.cc_lines.specs.Line.{IsServable}
 use Rattle.cc_run.specs.Lines.{StreamsOpened}
 use Rattle.cc_run.proofs.Lists.{all-both, all-map}

@@ -12,8 +12,8 @@ use Rattle.cc_command.specs.declared.words.Command.{Command}
 use Rattle.cc_command.specs.declared.words.Command.TheVariants as command
 use Rattle.cc_command.specs.NoRun.{status_of}
 use Rattle.cc_command.specs.Taken.{WasTaken}
-use Rattle.cc_run.specs.Ends.{Input, Output, GaveAll, IsAsked, IsCause, IsRead, IsWrong, TookMany, HasTooFewDevices, HasFailed, Spells, IsPut, IsRun, IsEnded, has_devices, printed_by}
-use Rattle.cc_run.specs.Complete.{Comes, IsFound}
+use Rattle.cc_program.specs.Ends.{Input, Output, GaveAll, IsAsked, IsCause, IsRead, IsWrong, TookMany, HasTooFewDevices, HasFailed, Spells, IsPut, IsRun, IsEnded, has_devices, printed_by}
+use Rattle.cc_program.specs.Complete.{Comes, IsFound}
 use Rattle.cc_command.specs.declared.no_run.NoRun.{NoRun}
 use Rattle.cc_command.specs.declared.no_run.NoRun.TheVariants as no_run
 

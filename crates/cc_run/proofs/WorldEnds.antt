@@ -8,9 +8,9 @@ use Rattle.cc_turns.specs.Desk.{Begun, disk_at_first, log_at_first, tells_of}
 use Rattle.cc_event_lines.specs.Run.{DisksEnded, LogsEnded, WorldState}
 use Rattle.cc_event_lines.specs.Run.{setup_of as made_setup}
 use Rattle.cc_event_lines.proofs.DisksUsed.{disk-stands}
-use Rattle.cc_run.specs.Disks.{DisksStand}
-use Rattle.cc_run.specs.Logs.{LogsStand}
-use Rattle.cc_run.specs.Setups.{setup_of}
+use Rattle.cc_program.specs.Disks.{DisksStand}
+use Rattle.cc_program.specs.Logs.{LogsStand}
+use Rattle.cc_program.specs.Setups.{setup_of}
 
 module _ {D L Q : Type 0} (told : D → Option Disk) (faults : D → ℕ) (log_told : L → Option Log) (log_faults : L → ℕ) (posted : Q → Bool) (w : WorldState D L Q) where
   pub disks-ended : (disks : List D) → DisksEnded (tells_of told faults log_told log_faults posted) w disks → DisksStand told faults (λ s. disk_at_first told faults (slice_get w.begun.disks s)) (length w.begun.disks) w.journal.entries disks

@@ -1,29 +1,13 @@
 -- With what a run began, and how.
-use Rattle.std.specs.Prelude.{◌≡◌, ◌≢◌, ℕ, List, []}
-use Rattle.std.specs.declared.option.Option.{Option}
-use Rattle.std.specs.declared.option.Option.TheVariants.{Some, None}
+use Rattle.std.specs.Prelude.{◌≢◌, ℕ, List, []}
 use Rattle.cc_entry.specs.declared.answer.LineReply.{LineReply}
 use Rattle.cc_entry.specs.declared.entry.Entry.{Entry}
-use Rattle.cc_traits.specs.Disk.{Disk}
-use Rattle.cc_traits.specs.Log.{Log}
 use Rattle.cc_script.specs.declared.script.Script.{Script}
 use Rattle.cc_model.specs.Setup.{Setup}
 use Rattle.cc_effects.specs.Moments.{IsIdle}
 use Rattle.cc_restarts.specs.declared.ended.LogRestart.{LogRestart}
-use Rattle.cc_run.specs.Ends.{Input}
 use Rattle.cc_run.specs.Lines.{StreamsOpened}
-use Rattle.cc_run.specs.Restarting.{AreEndsOf, LeftAlone, RanBehind, RestartsEnded}
-use Rattle.cc_run.specs.Setups.{setup_of}
-
--- The restarts of the script that was run left these disks and logs, and the run tells them; without a run nothing was restarted, or
--- memory was wanting behind the restarts.
-abbrev pub IsBegun : {D L : Type 0} → (D → Option Disk) → (D → ℕ) → (L → Option Log) → (L → ℕ) → Input → Option Script
-    → List LineReply → List Entry → ℕ → List D → List D → List L → List L → Type 0
-IsBegun told faults log_told log_faults i None replies past status disks disks_begun logs logs_begun =
-    LeftAlone told faults log_told log_faults i status disks disks_begun logs logs_begun
-IsBegun told faults log_told log_faults i (Some script) replies past status disks disks_begun logs logs_begun =
-    RanBehind told faults log_told log_faults (setup_of told faults script disks_begun logs_begun) script replies past
-    disks disks_begun logs logs_begun
+use Rattle.cc_program.specs.Restarting.{AreEndsOf, RestartsEnded}
 
 -- Before the first phase the restarts of the script, which ended so, were ended, and then its streams were opened, each line with a
 -- reply of its own, by pass 0 alone.
@@ -31,5 +15,6 @@ pub record HasBegun (u : Setup) (script : Script) (restarted : List LogRestart) 
     : Type 0 where
   pub are : AreEndsOf script.restarts restarted
   pub ended_are : RestartsEnded u restarted ended [] ends
+  pub ended_alone : (me : ℕ) → me ≢ 0 → IsIdle me [] ends
   pub opened : StreamsOpened u script.restarts ended 0 script.streams [] between ends begun
   pub alone : (me : ℕ) → me ≢ 0 → IsIdle me [] begun

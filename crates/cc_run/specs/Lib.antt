@@ -1,16 +1,9 @@
 -- What the contracts cite.
 pub mod Desks
-pub mod Setups
 pub mod Lines
-pub mod Ends
-pub mod Restarting
 pub mod Begun
 pub mod Runs
 pub mod Rows
-pub mod Disks
-pub mod Logs
-pub mod Complete
-pub mod Main
 pub mod Ticks
 pub mod Aheads
 pub mod Places

@@ -10,7 +10,6 @@ use Rattle.cc_script.specs.declared.script.ActionLine.{ActionLine}
 use Rattle.cc_script.specs.declared.script.StreamLine.{StreamLine}
 use Rattle.cc_script.specs.declared.script.RestartLine.{RestartLine}
 use Rattle.cc_pieces.specs.Restarts.{refused_for}
-use Rattle.cc_script.specs.declared.script.Script.{Script}
 use Rattle.cc_script.specs.HoldWords.{AreUsedRight, UsesRight, bound_after, bound_so_far, words_bound}
 use Rattle.cc_script.specs.declared.bound.Bound.{Bound}
 use Rattle.cc_model.specs.Setup.{Setup}
@@ -19,7 +18,7 @@ use Rattle.cc_pieces.specs.Bindings.{Binding}
 use Rattle.cc_pieces.specs.Openings.{Opens}
 use Rattle.cc_pieces.specs.Runs.{Explains, asked_of, bindings_of}
 use Rattle.cc_pieces.specs.Served.{bindings_after}
-use Rattle.cc_pieces.specs.Explained.{Given, Answered, answered_lines}
+use Rattle.cc_pieces.specs.Explained.{answered_lines}
 use Rattle.cc_turns.specs.Standing.{Standing}
 use Rattle.cc_lines.specs.Holds.{NamesState, NamesStand, HasRoom}
 
@@ -138,18 +137,3 @@ pub record StreamsOpened (u : Setup) (restarts : List RestartLine) (ended : List
   pub grew : after ≡ before ++ answers
   pub lines_are : answered_lines answers ≡ map (λ stream. stream.line) streams
   pub left : StreamsLeft u restarts ended s streams answers old new
-
--- what a script gives a run
-abbrev pub given_of : Script → Given
-given_of script = record {
-  restarts = script.restarts;
-  streams = script.streams;
-  lines = script.lines;
-  phases = script.phases;
-  ticks = script.ticks;
-  aheads = script.aheads;
-}
-
--- the answers of a run: those of its lines, of its ticks and of its read-ahead steps
-abbrev pub run_answered : List LineReply → List LineReply → List LineReply → Answered
-run_answered replies ticked stepped = record { replies = replies; ticked = ticked; stepped = stepped }

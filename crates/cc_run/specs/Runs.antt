@@ -9,28 +9,21 @@ use Rattle.cc_async.specs.declared.queue.QueuedRead.{QueuedRead}
 use Rattle.cc_queue.specs.Places.{PlaceState}
 use Rattle.cc_journal.specs.Capacity.{IsWithinCapacity}
 use Rattle.cc_model.specs.Good.{IsGood}
-use Rattle.cc_model.specs.Setup.{Setup}
-use Rattle.cc_pieces.specs.Explained.{Answered, IsExplained}
-use Rattle.cc_pieces.specs.Steps.{IsSteppedThrough, PostsLeft, deferrals_by}
+use Rattle.cc_pieces.specs.Explained.{Answered}
+use Rattle.cc_pieces.specs.Steps.{PostsLeft, deferrals_by}
 use Rattle.cc_pieces.specs.Table.{table_of}
 use Rattle.cc_script.specs.declared.script.Mode.{Mode}
 use Rattle.cc_script.specs.declared.script.Mode.TheVariants as mode
 use Rattle.cc_script.specs.declared.script.Script.{Script}
 use Rattle.cc_turns.specs.Desk.{Tells}
-use Rattle.cc_run.specs.Disks.{DisksLeft}
-use Rattle.cc_run.specs.Lines.{given_of, run_answered}
-use Rattle.cc_run.specs.Logs.{LogsLeft}
+use Rattle.cc_program.specs.Disks.{DisksLeft}
+use Rattle.cc_program.specs.Runs.{IsExplainedBy, given_of, run_answered}
+use Rattle.cc_program.specs.Logs.{LogsLeft}
 use Rattle.cc_run.specs.Places.{AreAsyncQueued, AreQueued, taken_at}
-use Rattle.cc_run.specs.Setups.{setup_of}
+use Rattle.cc_program.specs.Setups.{setup_of}
 use Rattle.cc_run.specs.declared.modes.RunResult.{RunResult}
 use Rattle.cc_run.specs.declared.modes.RestartedRun.{RestartedRun}
-use Rattle.cc_run.specs.Restarting.{RanBehind}
-
--- A past explains what a script was answered: in a run, by what each caller's lines left between two moments, and by these
--- requests that the read-ahead worker took; in steps, by one event a line.
-abbrev pub IsExplainedBy : Mode → Setup → Script → Answered → List Request → List Entry → Type 0
-IsExplainedBy mode.Run u script told taken past = IsExplained u (given_of script) told taken past
-IsExplainedBy mode.Steps u script told taken past = IsSteppedThrough u script.streams script.lines told.replies past
+use Rattle.cc_program.specs.Restarting.{RanBehind}
 
 -- What the passes have at the queue of read-ahead: in a run each has a place, as the journal and the answers say; in steps there are
 -- no places and no steps of read-ahead.

@@ -2,7 +2,7 @@
 
 ghost use Rattle.std.specs.Prelude.{◌≡◌, nat_lt};
 ghost use Rattle.std.specs.List.{list_all};
-ghost use Rattle.cc_run.specs.Ends.{has_devices, has_log};
+ghost use Rattle.cc_program.specs.Ends.{has_devices, has_log};
 
 use cc_script::{RestartLine, Script, StreamLine};
 

@@ -18,10 +18,10 @@ ghost use Rattle.cc_pieces.specs.Restarts.{refused_for};
 ghost use Rattle.cc_records.specs.Recorded.{told_valid, WasByte};
 ghost use Rattle.cc_traits.specs.Disk.{Disk, page_of, may_of};
 ghost use Rattle.cc_turns.specs.RecordPage.{record_number};
-ghost use Rattle.cc_run.specs.Disks.{DisksLeft};
-ghost use Rattle.cc_run.specs.Setups.{run_disks};
+ghost use Rattle.cc_program.specs.Disks.{DisksLeft};
+ghost use Rattle.cc_program.specs.Setups.{run_disks};
 ghost use Rattle.cc_run.specs.StoredLines.{StoredLine};
-ghost use Rattle.cc_run.specs.Ends.{Input, Output, HasFailed, HasTooFewDevices, IsAsked, IsEnded, IsPut, IsWrong, TookMany, printed_by};
+ghost use Rattle.cc_program.specs.Ends.{Input, Output, HasFailed, HasTooFewDevices, IsAsked, IsEnded, IsPut, IsWrong, TookMany, printed_by};
 ghost use Rattle.cc_command.specs.Words.{command_of, is_command};
 
 use cc_traits::PageDisk;

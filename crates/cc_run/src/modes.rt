@@ -4,11 +4,11 @@ ghost use Rattle.std.specs.Prelude.{◌≡◌, ◌⊎◌, ◌++◌, All, IfOk, I
 ghost use Rattle.cc_turns.specs.Desk.{tells_of};
 ghost use Rattle.cc_script.specs.Modes.{IsOfMode};
 ghost use Rattle.cc_script.specs.Within.{IsWithin};
-ghost use Rattle.cc_run.specs.Complete.{RanWithoutFault};
-ghost use Rattle.cc_run.specs.Ends.{has_devices};
-ghost use Rattle.cc_run.specs.Restarting.{AreEndsOf, AreUntouched, MadeAlone, RestartsTold};
+ghost use Rattle.cc_program.specs.Complete.{RanWithoutFault};
+ghost use Rattle.cc_program.specs.Ends.{has_devices};
+ghost use Rattle.cc_program.specs.Restarting.{AreEndsOf, AreUntouched, MadeAlone, RestartsTold};
 ghost use Rattle.cc_run.specs.Runs.{HasRun, HasRunBehind};
-ghost use Rattle.cc_run.specs.Setups.{setup_of};
+ghost use Rattle.cc_program.specs.Setups.{setup_of};
 
 use crate::run::run_script;
 use crate::steps::step_script;

@@ -7,7 +7,7 @@ ghost use Rattle.std.specs.List.{AllByRecursion};
 ghost use Rattle.cc_lines.specs.Line.{IsFree, IsFullTold, WentOn};
 ghost use Rattle.cc_restarts.specs.Restarting.{IsOwnRefusal};
 ghost use Rattle.cc_run.specs.Desks.{IsReady, IsSameRun};
-ghost use Rattle.cc_run.specs.Restarting.{RestartsEnded, TellsEnd, last_number};
+ghost use Rattle.cc_program.specs.Restarting.{RestartsEnded, TellsEnd, last_number};
 
 use cc_entry::{Answer, LineReply, Lsn};
 use cc_lines::end_restart;

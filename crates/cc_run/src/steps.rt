@@ -5,7 +5,7 @@ ghost use Rattle.cc_turns.specs.Desk.{tells_of};
 ghost use Rattle.cc_script.specs.Modes.{IsOfMode};
 ghost use Rattle.cc_script.specs.Within.{IsWithin};
 ghost use Rattle.cc_script.specs.declared.script.Mode.TheVariants as mode;
-ghost use Rattle.cc_run.specs.Ends.{has_devices};
+ghost use Rattle.cc_program.specs.Ends.{has_devices};
 ghost use Rattle.cc_run.specs.Runs.{HasRun};
 
 use crate::modes::{MOST_DISKS, MOST_LOGS, RunResult};

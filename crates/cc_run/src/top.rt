@@ -8,20 +8,21 @@ ghost use Rattle.cc_script.specs.Within.{IsWithin};
 ghost use Rattle.cc_script.specs.Modes.{IsOfMode};
 ghost use Rattle.cc_pieces.specs.Steps.{PostsLeft};
 ghost use Rattle.cc_pieces.specs.Table.{table_of};
-ghost use Rattle.cc_run.specs.Setups.{IsSetupOf, setup_of};
+ghost use Rattle.cc_program.specs.Setups.{IsSetupOf, setup_of};
 ghost use Rattle.cc_command.specs.Taken.{WasTaken};
-ghost use Rattle.cc_run.specs.Ends.{Input, input, output, IsCause, IsRefused, IsEnded, IsAsked, IsFaultPut, IsPrinted, has_devices, printed_by};
-ghost use Rattle.cc_run.specs.Complete.{RanWithoutFault};
-ghost use Rattle.cc_run.specs.Main.{HasMain};
+ghost use Rattle.cc_program.specs.Ends.{Input, input, output, IsCause, IsRefused, IsEnded, IsAsked, IsFaultPut, IsPrinted, has_devices, printed_by};
+ghost use Rattle.cc_program.specs.Calls.{HasClauses};
+ghost use Rattle.cc_program.specs.Complete.{RanWithoutFault};
+ghost use Rattle.cc_program.specs.Main.{HasMain};
 ghost use Rattle.cc_command.specs.declared.no_run.NoRun.TheVariants as no_run;
-ghost use Rattle.cc_run.specs.Disks.{DisksLeft};
-ghost use Rattle.cc_run.specs.Logs.{LogsLeft};
+ghost use Rattle.cc_program.specs.Disks.{DisksLeft};
+ghost use Rattle.cc_program.specs.Logs.{LogsLeft};
 ghost use Rattle.cc_command.specs.Words.{command_of, is_reading, mode_by, mode_in, reads_source};
 ghost use Rattle.cc_command.specs.declared.words.Command.TheVariants as asked;
-ghost use Rattle.cc_run.specs.Lines.{run_answered};
+ghost use Rattle.cc_program.specs.Runs.{IsExplainedBy, run_answered};
 ghost use Rattle.cc_run.specs.Places.{taken_at};
-ghost use Rattle.cc_run.specs.Begun.{IsBegun};
-ghost use Rattle.cc_run.specs.Runs.{AreAsyncQueuedBy, AreQueuedBy, IsExplainedBy, deferrals_in, ticks_asked};
+ghost use Rattle.cc_program.specs.Begun.{IsBegun};
+ghost use Rattle.cc_run.specs.Runs.{AreAsyncQueuedBy, AreQueuedBy, deferrals_in, ticks_asked};
 
 use crate::devices::has_devices;
 use crate::modes::{RestartedRun, RunResult, run_in_mode};
@@ -461,6 +462,23 @@ pub fn cache_main<
     ensures logs { LogsLeft L.told L.faults (reverse result.journal.items) result.logs_begun.value.items result.logs.items }
     ensures posts { PostsLeft Q.posted (deferrals_in result.script result.replies.items) (reverse result.journal.items)
         posts.items result.posts.items }
+    // Five of these clauses, `restarted`, `good`, `explained`, `disks` and `logs`, as one record over this call: the laws on calls that
+    // follow each other are stated over it.
+    ensures clauses { HasClauses D.told D.faults L.told L.faults (record {
+      input = input S.told S.faults S.given S.ended (map string_bytes words.now) script.old script.new
+          (length disks.items) (length logs.items) (length posts.items);
+      script = result.script;
+      told = record { replies = result.replies.items; ticked = result.ticks.items; stepped = result.aheads.items };
+      taken = taken_at result.places.items;
+      past = reverse result.journal.items;
+      status = result.status;
+      disks = disks.items;
+      disks_begun = result.disks_begun.value.items;
+      disks_left = result.disks.items;
+      logs = logs.items;
+      logs_begun = result.logs_begun.value.items;
+      logs_left = result.logs.items;
+    }) }
     // Without a run, all of them come back so.
     ensures disks_unused { result.script ≡ None → result.disks.items ≡ result.disks_begun.value.items }
     ensures logs_unused { result.script ≡ None → result.logs.items ≡ result.logs_begun.value.items }

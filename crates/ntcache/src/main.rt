@@ -7,7 +7,7 @@
 
 ghost use Rattle.std.specs.Prelude.{◌≡◌, length, map, string_bytes, IfOk, OnErr};
 ghost use Rattle.std.specs.Process.{exit_status};
-ghost use Rattle.cc_run.specs.Ends.{input, output, HasEnded};
+ghost use Rattle.cc_program.specs.Ends.{input, output, HasEnded};
 
 mod folder;
 mod outside;

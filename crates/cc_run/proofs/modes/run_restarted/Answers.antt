@@ -1,6 +1,6 @@
 -- A script of steps has no restart, so none is told.
 use Rattle.std.specs.Prelude.{reverse}
-use Rattle.cc_run.specs.Setups.{setup_of}
+use Rattle.cc_program.specs.Setups.{setup_of}
 use Rattle.cc_run.proofs.RestartsMade.{no-restarts, none-told}
 use Rattle.cc_run.proofs.modes.run_restarted.Goals as goal
 

@@ -6,7 +6,7 @@ use Rattle.cc_turns.specs.Desk.{standing_of}
 use Rattle.cc_turns.specs.Takes.{HasActed}
 use Rattle.cc_restarts.specs.Restarting.{IsOwnRefusal}
 use Rattle.cc_restarts.specs.declared.ended.LogRestart.{LogRestart}
-use Rattle.cc_run.specs.Restarting.{EndLeft, RestartsEnded}
+use Rattle.cc_program.specs.Restarting.{EndLeft, RestartsEnded}
 use Rattle.cc_run.proofs.Acting.{goes-pass, pass-then}
 use Rattle.cc_run.proofs.Ending.{end-one, ended-more}
 use Rattle.cc_run.proofs.Lists.{all-at}

@@ -3,7 +3,7 @@ use Rattle.std.specs.Prelude.{vec_capacity}
 use Rattle.cc_turns.specs.Standing.{nothing}
 use Rattle.cc_turns.specs.Desk.{standing_of}
 use Rattle.cc_run.specs.Desks.{IsSamePass}
-use Rattle.cc_run.specs.Restarting.{RestartsEnded}
+use Rattle.cc_program.specs.Restarting.{RestartsEnded}
 use Rattle.cc_run.proofs.restarts.end_restarts.Given as goal
 
 abbrev pub invariant-loop-restart : goal.invariant-loop-restart

@@ -6,11 +6,11 @@ use Rattle.cc_journal.specs.Capacity.{IsWithinCapacity}
 use Rattle.cc_model.specs.Good.{IsGood}
 use Rattle.cc_pieces.specs.Explained.{IsExplained}
 use Rattle.cc_turns.specs.Desk.{disk_at_first, log_at_first}
-use Rattle.cc_run.specs.Disks.{DisksStand}
-use Rattle.cc_run.specs.Lines.{given_of, run_answered}
-use Rattle.cc_run.specs.Logs.{LogsStand}
+use Rattle.cc_program.specs.Disks.{DisksStand}
+use Rattle.cc_program.specs.Runs.{given_of, run_answered}
+use Rattle.cc_program.specs.Logs.{LogsStand}
 use Rattle.cc_run.specs.Places.{taken_at}
-use Rattle.cc_run.specs.Restarting.{RestartsTold}
+use Rattle.cc_program.specs.Restarting.{RestartsTold}
 use Rattle.cc_run.proofs.RowSteps.{reverse_twice}
 use Rattle.cc_run.proofs.RunSteps.{setup-is, enough-disks, enough-posts}
 use Rattle.cc_run.proofs.DiskSteps.{disks-left}

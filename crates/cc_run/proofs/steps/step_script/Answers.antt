@@ -9,8 +9,8 @@ use Rattle.cc_pieces.specs.Steps.{IsSteppedThrough, PostsLeft, deferrals_by}
 use Rattle.cc_pieces.specs.Table.{table_of}
 use Rattle.cc_turns.specs.Desk.{disk_at_first, log_at_first, tells_of}
 use Rattle.cc_event_lines.specs.Run.{setup_of as made_setup}
-use Rattle.cc_run.specs.Disks.{DisksStand}
-use Rattle.cc_run.specs.Logs.{LogsStand}
+use Rattle.cc_program.specs.Disks.{DisksStand}
+use Rattle.cc_program.specs.Logs.{LogsStand}
 use Rattle.cc_run.specs.Rows.{printed_row}
 use Rattle.cc_run.proofs.DirtyRows.{rows-table}
 use Rattle.cc_run.proofs.Lists.{if_some-ok}

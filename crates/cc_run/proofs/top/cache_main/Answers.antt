@@ -18,3 +18,9 @@ returns-clause-ended g c =
       given = given;
       bounded = c.conduct-status.ensures.bounded;
     }
+
+-- the five clauses as one
+pub returns-clause-clauses : goal.returns-clause-clauses
+returns-clause-clauses g c =
+    let it = c.conduct-status.ensures in
+    record { restarted = it.restarted; good = it.good; explained = it.explained; disks = it.disks; logs = it.logs }

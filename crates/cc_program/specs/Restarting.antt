@@ -1,5 +1,5 @@
 -- What the restarts of a script leave before its run, and how the run tells them.
-use Rattle.std.specs.Prelude.{◌≡◌, ℕ, List, [], ◌∷◌, ◌++◌, map, Result, Ok, Err, ◌⊎◌}
+use Rattle.std.specs.Prelude.{◌≡◌, ◌≢◌, ℕ, List, [], ◌∷◌, ◌++◌, map, Result, Ok, Err, ◌⊎◌}
 use Rattle.std.specs.List.{AllByRecursion}
 use Rattle.std.specs.declared.option.Option.{Option}
 use Rattle.std.specs.declared.option.Option.TheVariants.{Some, None}
@@ -19,7 +19,7 @@ use Rattle.cc_pieces.specs.Rooms.{HadNoRoom}
 use Rattle.cc_restarts.specs.Restarting.{IsOwnRefusal, LogsRestarted}
 use Rattle.cc_restarts.specs.declared.ended.LogRestart.{LogRestart}
 use Rattle.cc_restarts.specs.declared.ended.Numbers.{Numbers}
-use Rattle.cc_run.specs.Ends.{Input, IsAsked}
+use Rattle.cc_program.specs.Ends.{Input, IsAsked}
 
 -- the number of the last LSN that a restart read, 0 where there was none
 abbrev pub last_number : Option ℕ → ℕ
@@ -51,7 +51,7 @@ RestartsEnded u (restart ∷ restarts) (reply ∷ replies) old new =
     (between : List Entry) × EndLeft u restart reply old between × RestartsEnded u restarts replies between new
 RestartsEnded u restarts replies old new = ⊥
 
--- The run tells the restarts by its first replies, and its journal begins with what their ends left.
+-- The run tells the restarts by its first replies, and its journal begins with what their ends left, where pass 0 alone placed anything.
 pub record RestartsTold (u : Setup) (ended : List LogRestart) (replies : List LineReply) (past : List Entry) : Type 0 where
   pub first : List LineReply
   pub others : List LineReply
@@ -60,6 +60,7 @@ pub record RestartsTold (u : Setup) (ended : List LogRestart) (replies : List Li
   pub replies_are : replies ≡ first ++ others
   pub grew : past ≡ later ++ begun
   pub ended_are : RestartsEnded u ended first [] begun
+  pub alone : (me : ℕ) → me ≢ 0 → IsIdle me [] begun
 
 -- Between the disks and the logs that were handed in and those with which the run of a script began, its restarts were made, one
 -- after the other, and the run tells how they ended.

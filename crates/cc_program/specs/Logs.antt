@@ -9,8 +9,8 @@ use Rattle.cc_model.specs.Logs.{flushed_to}
 use Rattle.cc_log.specs.Turn.{Holds, appended}
 use Rattle.cc_turns.specs.Log.{FileStands, log_failures}
 use Rattle.cc_turns.specs.Standing.{LogAtFirst}
-use Rattle.cc_run.specs.Disks.{Pairwise, HaveRisen}
-use Rattle.cc_run.specs.Setups.{run_logs}
+use Rattle.cc_program.specs.Disks.{Pairwise, HaveRisen}
+use Rattle.cc_program.specs.Setups.{run_logs}
 
 -- A log that tells its entries has, behind those that it was handed in with, what the run appended to it, in order, and
 -- is durable up to where the run flushed it.

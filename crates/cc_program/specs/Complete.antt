@@ -6,9 +6,9 @@ use Rattle.cc_pieces.specs.Faultless.{IsFaultless}
 use Rattle.cc_script.specs.declared.script.Script.{Script}
 use Rattle.cc_script.specs.Grammar.{script_of}
 use Rattle.cc_command.specs.Words.{mode_in, reads_source}
-use Rattle.cc_run.specs.Disks.{Pairwise}
-use Rattle.cc_run.specs.Ends.{Input, Output, GaveAll, IsGenerated, TookMany, has_devices}
-use Rattle.cc_run.specs.Setups.{run_disks, run_logs}
+use Rattle.cc_program.specs.Disks.{Pairwise}
+use Rattle.cc_program.specs.Ends.{Input, Output, GaveAll, IsGenerated, TookMany, has_devices}
+use Rattle.cc_program.specs.Setups.{run_disks, run_logs}
 
 -- The words ask for the source's script, and these bytes, no more than a script may have, come from it without a fault: it
 -- told that they are left, or it gave them up to its end.

@@ -10,7 +10,7 @@ use Rattle.cc_effects.specs.Failures.{failures}
 use Rattle.cc_turns.specs.Standing.{DiskAtFirst}
 use Rattle.cc_turns.specs.Disk.{DiskStands, HasGone}
 use Rattle.cc_turns.specs.RecordPage.{RecordHasGone}
-use Rattle.cc_run.specs.Setups.{run_disks}
+use Rattle.cc_program.specs.Setups.{run_disks}
 
 -- a relation of each item of a row as it was handed in and as it came back, with its number: of each disk with that of
 -- its stream, of each log with its handle

@@ -6,8 +6,8 @@ use Rattle.cc_entry.specs.declared.entry.Entry.{Entry}
 use Rattle.cc_script.specs.declared.script.Script.{Script}
 use Rattle.cc_command.specs.Words.{is_command}
 use Rattle.cc_command.specs.Taken.{WasTaken}
-use Rattle.cc_run.specs.Ends.{Input, Output, IsEnded, TookNoMore}
-use Rattle.cc_run.specs.Complete.{EndsWith, SyntaxAlways, TooLongAlways, TooLongTold, TooFewAlways, Completes}
+use Rattle.cc_program.specs.Ends.{Input, Output, IsEnded, TookNoMore}
+use Rattle.cc_program.specs.Complete.{EndsWith, SyntaxAlways, TooLongAlways, TooLongTold, TooFewAlways, Completes}
 
 -- The program came to its end, with this status, over what went into it and came out of it.
 pub record HasMain (i : Input) (o : Output) (script : Option Script) (replies : List LineReply) (journal : List Entry)
