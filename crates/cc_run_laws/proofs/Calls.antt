@@ -1,20 +1,19 @@
 -- What the clauses of the program's call say of a call: of its devices, of its restarts, and of the run behind them.
-use Rattle.std.specs.Prelude.{◌≡◌, ℕ, zero, suc, ◌≤◌, List, [], ◌∷◌, IfSome, length, slice_get, slice_set, Ok, refl}
+use Rattle.std.specs.Prelude.{◌≡◌, ℕ, zero, suc, List, [], ◌∷◌, IfSome, slice_get, slice_set, Ok, refl}
 use Rattle.std.specs.declared.option.Option.{Option}
 use Rattle.std.specs.declared.option.Option.TheVariants.{Some}
-use Rattle.std.proofs.Common.{ap, sym, subst, ◌∙◌, arith}
-use Rattle.std.proofs.lemmas.Option.{same_Some, slice_get_within}
+use Rattle.std.proofs.Common.{ap, sym, subst, ◌∙◌}
+use Rattle.std.proofs.lemmas.Option.{same_Some}
 use Rattle.cc_model.specs.Good.{IsGood}
 use Rattle.cc_pieces.specs.Explained.{IsExplained}
 use Rattle.cc_redo.specs.Heard.{last_of, readings}
 use Rattle.cc_restarts.specs.Restarting.{LogsRestarted, lsn_of}
 use Rattle.cc_restarts.specs.declared.ended.LogRestart.{LogRestart}
 use Rattle.cc_restarts.specs.declared.ended.Numbers.{Numbers}
-use Rattle.cc_run.specs.Begun.{IsBegun}
-use Rattle.cc_run.specs.Lines.{given_of}
-use Rattle.cc_run.specs.Restarting.{RanBehind, last_number}
-use Rattle.cc_run.specs.Runs.{IsExplainedBy}
-use Rattle.cc_run.specs.Setups.{IsSetupOf, setup_of}
+use Rattle.cc_program.specs.Begun.{IsBegun}
+use Rattle.cc_program.specs.Runs.{IsExplainedBy, given_of}
+use Rattle.cc_program.specs.Restarting.{RanBehind, last_number}
+use Rattle.cc_program.specs.Setups.{IsSetupOf, setup_of}
 use Rattle.cc_command.specs.Words.{mode_in}
 use Rattle.cc_script.specs.declared.script.Mode.{Mode}
 use Rattle.cc_script.specs.declared.script.Mode.TheVariants as mode
@@ -30,7 +29,8 @@ use Rattle.cc_update_laws.specs.Devices.{GoesOnFrom}
 use Rattle.cc_format.specs.declared.record.StreamRecord.{StreamRecord}
 use Rattle.cc_run_laws.proofs.GoesOn.{answered-done, goes-on, number-last}
 use Rattle.cc_run_laws.proofs.Left.{has-left, so-far}
-use Rattle.cc_run_laws.specs.Calls.{HasClauses, HasRestarted, ProgramCall, RanUpdated, WasOpened}
+use Rattle.cc_run_laws.specs.Calls.{HasRestarted, RanUpdated}
+use Rattle.cc_program.specs.Calls.{HasClauses, ProgramCall}
 
 -- a device tells one thing
 pub tells-once : {A T : Type 0} (told : A → Option T) (devices : List A) (n : ℕ) (one other : T) → TellsAt told devices n one → TellsAt told devices n other → one ≡ other
@@ -108,16 +108,13 @@ module _ {D L : Type 0} (told : D → Option Disk) (faults : D → ℕ) (log_tol
         restarted.restarted
 
     -- and the run goes on with the log from the last LSN
-    pub went-on : WasOpened restarted.script call → GoesOnFrom log (last_of (readings restarted.kept.entries)) call.past
-    went-on opened = subst (λ (m : ℕ). GoesOnFrom log m call.past) (number-last restarted.kept.entries k.0.last last) k.2
+    pub went-on : GoesOnFrom log (last_of (readings restarted.kept.entries)) call.past
+    went-on = subst (λ (m : ℕ). GoesOnFrom log m call.past) (number-last restarted.kept.entries k.0.last last) k.2
       where
-        inside : suc opened.number ≤ length restarted.script.streams
-        inside = let below = slice_get_within restarted.script.streams opened.number opened.line opened.named in omega (arith, below)
-
         k : (numbers : Numbers) × (its-end.one.ended ≡ Ok numbers) × GoesOnFrom log (last_number numbers.last) call.past
         k =
             goes-on (setup_of told faults restarted.script call.disks_begun call.logs_begun) behind.ended call.told call.past behind.ends_told restarted.n its-end.one log restarted.restart restarted.updates its-end.at its-end.of_log restarted.restart_at
-            restarted.restarted (given_of restarted.script) call.taken (explained-run call restarted.clauses restarted.script restarted.ran opened.mode_is) opened.number opened.opening inside opened.opening_at opened.opened
+            restarted.restarted
 
         last : k.0.last ≡ lsn_of (last_of (readings restarted.kept.entries))
         last =

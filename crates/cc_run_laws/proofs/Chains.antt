@@ -1,9 +1,9 @@
 -- One stop and the call behind it, and any number of them.
-use Rattle.std.specs.Prelude.{◌≡◌, ℕ, List, [], ◌∷◌, length, refl}
+use Rattle.std.specs.Prelude.{◌≡◌, ℕ, true, List, [], ◌∷◌, length, refl}
 use Rattle.std.specs.List.{filter}
 use Rattle.std.specs.declared.option.Option.{Option}
 use Rattle.std.specs.declared.option.Option.TheVariants.{Some, None}
-use Rattle.std.proofs.Common.{sym, subst, inl, inr}
+use Rattle.std.proofs.Common.{sym, subst, arith, inl, inr}
 use Rattle.cc_entry.specs.declared.entry.Entry.{Entry}
 use Rattle.cc_format.specs.declared.record.StreamRecord.{StreamRecord}
 use Rattle.cc_model.specs.Setup.{Setup}
@@ -15,23 +15,34 @@ use Rattle.cc_restart_laws.specs.Updates.{is_update_of}
 use Rattle.cc_restarts.specs.Given.{size_said, valid_said}
 use Rattle.cc_restarts.specs.Restarting.{LogsRestarted}
 use Rattle.cc_restarts.specs.declared.ended.LogRestart.{LogRestart}
-use Rattle.cc_run.specs.Begun.{IsBegun}
-use Rattle.cc_run.specs.Restarting.{LeftAlone}
-use Rattle.cc_run.specs.Setups.{setup_of}
+use Rattle.cc_program.specs.Begun.{IsBegun}
+use Rattle.cc_program.specs.Restarting.{LeftAlone}
+use Rattle.cc_program.specs.Setups.{setup_of}
 use Rattle.cc_script.specs.declared.script.Script.{Script}
 use Rattle.cc_script.specs.declared.script.StreamLine.{StreamLine}
 use Rattle.cc_stop_laws.proofs.Restarting.{made-again, made-file, redone-handed}
 use Rattle.cc_stop_laws.proofs.Runs.{first-begun, left-redone, made-begun, names-made}
-use Rattle.cc_stop_laws.specs.Redoable.{IsFileMade, IsHandedIn, NamesAgain, TellsAt}
+use Rattle.cc_stop_laws.proofs.Unopened.{unopened-redone}
+use Rattle.cc_script_laws.proofs.Settles.{tells-at, told-run}
+use Rattle.cc_restart_laws.proofs.Contents.{had-more}
+use Rattle.cc_model.specs.Good.{IsGoodSoFar}
+use Rattle.cc_model.specs.History.{history}
+use Rattle.cc_model.specs.Objects.{had_map}
+use Rattle.cc_program.specs.Runs.{given_of}
+use Rattle.cc_turns.specs.Disk.{HasGone}
+use Rattle.cc_turns.specs.RecordPage.{RecordHasGone}
+use Rattle.cc_run_laws.proofs.Left.{disk-gone, so-far}
+use Rattle.cc_stop_laws.specs.Redoable.{IsFileMade, IsHandedIn, NamesAgain, RecordsTell, TellsAt, TellsGreatest}
 use Rattle.cc_stop_laws.specs.Runs.{HasBegunWith, IsRedoneFrom, IsUpdatedRun, as_read}
 use Rattle.cc_traits.specs.Disk.{Disk, page_of}
 use Rattle.cc_traits.specs.Log.{Log, LogEntry}
 use Rattle.cc_update_laws.proofs.Within.{kept-counted}
 use Rattle.cc_update_laws.specs.Devices.{GoesOnFrom}
 use Rattle.cc_update_laws.specs.Logs.{EachEndsWithin, IsLogOf}
-use Rattle.cc_run_laws.proofs.Calls.{behind, has-end, its-end, numbers-told, ran-behind, tells-once, updated-run, went-on}
-use Rattle.cc_run_laws.specs.Calls.{HasClauses, HasRestarted, IsScriptOf, NamesStream, ProgramCall}
-use Rattle.cc_run_laws.specs.Chains.{HaveLeft, IsFirst, RunsOn, StopsBefore}
+use Rattle.cc_run_laws.proofs.Calls.{behind, explained-run, good-run, has-end, its-end, numbers-told, ran-behind, tells-once, updated-run, went-on}
+use Rattle.cc_run_laws.specs.Calls.{HasRestarted, IsScriptOf, NamesStream}
+use Rattle.cc_program.specs.Calls.{HasClauses, ProgramCall}
+use Rattle.cc_run_laws.specs.Chains.{HaveLeft, IsFirst, RunsOn, RunsUnopened, StopsBefore}
 
 -- what a run leaves, from which the file is redone
 left-by : (u : Setup) (past : List Entry) (s log first : ℕ) (stream line : StreamLine) (read : Option StreamRecord) (pages : ℕ → List ℕ) (opening left : Disk) (begun after : Log) → IsUpdatedRun u past s log line read opening left begun after →
@@ -65,7 +76,8 @@ module _ {D L : Type 0} (told : D → Option Disk) (faults : D → ℕ) (log_tol
 
   module _ (s log size first : ℕ) (stream : StreamLine) (pages : ℕ → List ℕ) (was : Disk) (had : Log) (redone : IsRedoneFrom s stream size pages first was had) (call : ProgramCall D L) where
     module _ (restarted : HasRestarted told faults log_told log_faults s log stream was had call) where
-      its-file : (made : Disk) × TellsAt told call.disks_begun s made × TellsAt log_told call.logs_begun log restarted.kept × IsFileMade s size restarted.kept.entries pages first made × IsLogOf s size restarted.kept.entries
+      its-file : (made : Disk) × TellsAt told call.disks_begun s made × TellsAt log_told call.logs_begun log restarted.kept × (file : IsFileMade s size restarted.kept.entries pages first made) × IsLogOf s size restarted.kept.entries
+          × TellsGreatest restarted.line restarted.handed restarted.kept.entries file.has.redo file.valid
       its-file =
           made-file told faults log_told log_faults restarted.script.streams restarted.script.restarts (behind told faults log_told log_faults s log stream was had call restarted).ended call.disks call.disks_begun call.logs call.logs_begun
           (behind told faults log_told log_faults s log stream was had call restarted).made s log restarted.n restarted.line (its-end told faults log_told log_faults s log stream was had call restarted).one restarted.kept restarted.lines
@@ -74,12 +86,14 @@ module _ {D L : Type 0} (told : D → Option Disk) (faults : D → ℕ) (log_tol
 
       pub file-made-by : (made : Disk) × TellsAt told call.disks_begun s made × TellsAt log_told call.logs_begun log restarted.kept × (file : IsFileMade s size restarted.kept.entries pages first made)
           × (length (updates_in file.has.redo restarted.kept.entries) ≡ length (filter (λ entry. is_update_of s (said_by entry.bytes)) restarted.kept.entries))
+          × TellsGreatest restarted.line restarted.handed restarted.kept.entries file.has.redo file.valid
       file-made-by = (
         its-file.0,
         its-file.1,
         its-file.2,
         its-file.3,
         counted s size restarted.kept.entries its-file.3.has.redo its-file.3.has.stream_is its-file.3.has.size_is its-file.4.within,
+        its-file.5,
       )
 
     pub runs-left : (left : Disk) (after : Log) → RunsOn told faults log_told log_faults s log stream was had call left after → IsRedoneFrom s stream size pages first left after
@@ -89,12 +103,12 @@ module _ {D L : Type 0} (told : D → Option Disk) (faults : D → ℕ) (log_tol
         (names-made s size first is.begun.entries pages is.opening here.0 stream is.restarted.line))
       where
         made : (made : Disk) × TellsAt told call.disks_begun s made × TellsAt log_told call.logs_begun log is.restarted.kept × IsFileMade s size is.restarted.kept.entries pages first made × IsLogOf s size is.restarted.kept.entries
-        made = its-file is.restarted
+        made = let its = its-file is.restarted in (its.0, its.1, its.2, its.3, its.4)
 
         here : IsFileMade s size is.begun.entries pages first is.opening × IsLogOf s size is.begun.entries × GoesOnFrom log (last_of (readings is.begun.entries)) call.past
         here =
             moved call.past s log size first pages made.0 is.opening is.restarted.kept is.begun (tells-once told call.disks_begun s made.0 is.opening made.1 is.run.disk_begun)
-            (tells-once log_told call.logs_begun log is.restarted.kept is.begun made.2 is.run.log_begun) made.3 made.4 (went-on told faults log_told log_faults s log stream was had call is.restarted is.opened)
+            (tells-once log_told call.logs_begun log is.restarted.kept is.begun made.2 is.run.log_begun) made.3 made.4 (went-on told faults log_told log_faults s log stream was had call is.restarted)
 
         with_begun : (size_said is.restarted.line is.read ≡ size) × HasBegunWith call.past s log is.restarted.line is.read pages first is.opening is.begun
         with_begun = made-begun call.past s log size first pages is.opening is.begun here.0 here.1 here.2 is.restarted.line is.read is.run.reads
@@ -136,6 +150,23 @@ module _ {D L : Type 0} (told : D → Option Disk) (faults : D → ℕ) (log_tol
         subst (λ (l : Log). IsRedoneFrom s stream size pages first left l) (sym is.after_is)
         (subst (λ (d : Disk). IsRedoneFrom s stream size pages first d (as_read is.kept)) (tells-once told call.disks_begun s begun.0 left begun.1 is.disk_left) begun.3)
 
+    -- a run that opens the stream at no time leaves its disk as it was
+    pub unopened-left : (left : Disk) (after : Log) → RunsUnopened told faults log_told log_faults s log stream was had call left after → IsRedoneFrom s stream size pages first left after
+    unopened-left left after is =
+        unopened-redone (setup_of told faults is.script call.disks_begun call.logs_begun) call.past s so_far is.unopened records is.opening left is.whole gone.0 gone.1 stream size first pages after (stops-left is.opening after is.stops)
+      where
+        so_far : IsGoodSoFar (setup_of told faults is.script call.disks_begun call.logs_begun) call.past
+        so_far = so-far (setup_of told faults is.script call.disks_begun call.logs_begun) call.past (good-run told faults log_told log_faults call is.stops.clauses is.script is.ran)
+
+        gone : HasGone (history call.past s) is.opening left × RecordHasGone call.past s is.opening left
+        gone = disk-gone told faults call.past call.disks_begun call.disks_left is.stops.clauses.disks s is.stream_below is.opening left is.stops.disk_left is.disk_left
+
+        records : RecordsTell s 0 call.past
+        records later front pass size valid how splits =
+            let tells = tells-at s later front pass size valid how call.past splits
+            (told-run (setup_of told faults is.script call.disks_begun call.logs_begun) call.past so_far s (given_of is.script) call.told call.taken (explained-run told faults log_told log_faults call is.stops.clauses is.script is.ran is.mode_is)) in
+            (subst (λ (l : List Entry). had_map (history l s) ≡ true) (sym tells.since.grew) (had-more (setup_of told faults is.script call.disks_begun call.logs_begun) s 0 tells.since.later tells.moment tells.had), omega arith)
+
   -- ---- any number of calls
 
   module _ (s log : ℕ) (stream : StreamLine) (read : Option StreamRecord) (opening : Disk) where
@@ -145,13 +176,16 @@ module _ {D L : Type 0} (told : D → Option Disk) (faults : D → ℕ) (log_tol
     all-left (call ∷ []) left after have = first-left s log stream read opening call left after have
     all-left (call ∷ one ∷ earlier) left after (was, had, have, inl runs) =
         runs-left s log (size_said stream read) (valid_said stream read) stream (page_of opening) was had (all-left (one ∷ earlier) was had have) call left after runs
-    all-left (call ∷ one ∷ earlier) left after (was, had, have, inr stops) =
+    all-left (call ∷ one ∷ earlier) left after (was, had, have, inr (inr runs)) =
+        unopened-left s log (size_said stream read) (valid_said stream read) stream (page_of opening) was had (all-left (one ∷ earlier) was had have) call left after runs
+    all-left (call ∷ one ∷ earlier) left after (was, had, have, inr (inl stops)) =
         stops-left s log (size_said stream read) (valid_said stream read) stream (page_of opening) was had (all-left (one ∷ earlier) was had have) call left after stops
 
     pub all-made : (calls : List (ProgramCall D L)) (was : Disk) (had : Log) → HaveLeft told faults log_told log_faults s log stream read opening calls was had → (call : ProgramCall D L) →
         (restarted : HasRestarted told faults log_told log_faults s log stream was had call) → (made : Disk) × TellsAt told call.disks_begun s made
         × (file : IsFileMade s (size_said stream read) restarted.kept.entries (page_of opening) (valid_said stream read) made)
         × (length (updates_in file.has.redo restarted.kept.entries) ≡ length (filter (λ entry. is_update_of s (said_by entry.bytes)) restarted.kept.entries))
+        × TellsGreatest restarted.line restarted.handed restarted.kept.entries file.has.redo file.valid
     all-made calls was had have call restarted =
         let its = file-made-by s log (size_said stream read) (valid_said stream read) stream (page_of opening) was had (all-left calls was had have) call restarted in
-        (its.0, its.1, its.3, its.4)
+        (its.0, its.1, its.3, its.4, its.5)

@@ -10,8 +10,8 @@ use Rattle.cc_traits.specs.Told.{IfTold}
 use Rattle.cc_script.specs.Generator.{generated}
 use Rattle.cc_script.specs.Grammar.{script_of}
 use Rattle.cc_script.specs.declared.script.Script.{Script}
-use Rattle.cc_run.specs.Complete.{Comes, IsFound}
-use Rattle.cc_run.specs.Ends.{Input, Output, GaveAll, IsAsked, IsEnded, IsPut, Spells, printed_by}
+use Rattle.cc_program.specs.Complete.{Comes, IsFound}
+use Rattle.cc_program.specs.Ends.{Input, Output, GaveAll, IsAsked, IsEnded, IsPut, Spells, printed_by}
 use Rattle.cc_command.specs.NoRun.{status_of}
 use Rattle.cc_command.specs.Words.{command_of, is_reading, mode_in, reads_source}
 use Rattle.cc_command.specs.declared.no_run.NoRun.{NoRun}

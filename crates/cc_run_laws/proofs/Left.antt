@@ -15,8 +15,8 @@ use Rattle.cc_traits.specs.Log.{Log}
 use Rattle.cc_traits.specs.Told.{Both}
 use Rattle.cc_turns.specs.Disk.{HasGone}
 use Rattle.cc_turns.specs.RecordPage.{RecordHasGone}
-use Rattle.cc_run.specs.Disks.{DisksLeft}
-use Rattle.cc_run.specs.Logs.{LogsLeft}
+use Rattle.cc_program.specs.Disks.{DisksLeft}
+use Rattle.cc_program.specs.Logs.{LogsLeft}
 use Rattle.cc_stop_laws.specs.Redoable.{HasLeft, TellsAt}
 
 -- a good journal is good so far

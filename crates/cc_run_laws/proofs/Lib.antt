@@ -1,9 +1,9 @@
 -- Lemmas.
 mod Left
 mod Quiet
-mod Opening
 mod GoesOn
 mod Calls
 mod Chains
 mod ScriptRan
+mod ScriptLinks
 mod Found

@@ -23,7 +23,7 @@ use Rattle.cc_pieces.proofs.Walks.{Walked, walked-idle, walked-only, walked-then
 use Rattle.cc_pieces.specs.Restarts.{LastFlushed, RestartEnded}
 use Rattle.cc_restarts.specs.declared.ended.LogRestart.{LogRestart}
 use Rattle.cc_restarts.specs.declared.ended.Numbers.{Numbers}
-use Rattle.cc_run.specs.Restarting.{RestartsEnded, TellsEnd, last_number}
+use Rattle.cc_program.specs.Restarting.{RestartsEnded, TellsEnd, last_number}
 
 -- whether an entry is a flush of a log, or the failure of one
 abbrev pub is_flush : Entry → Bool

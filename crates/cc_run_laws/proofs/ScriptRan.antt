@@ -8,8 +8,11 @@ use Rattle.cc_model.specs.Good.{IsGoodSoFar}
 use Rattle.cc_model.specs.Setup.{Setup}
 use Rattle.cc_pieces.specs.Explained.{IsExplained}
 use Rattle.cc_restart_laws.specs.Updates.{IsUpdated}
-use Rattle.cc_run.specs.Lines.{given_of}
-use Rattle.cc_run.specs.Setups.{setup_of}
+use Rattle.cc_program.specs.Runs.{given_of}
+use Rattle.cc_program.specs.Setups.{setup_of}
+use Rattle.cc_command.specs.Words.{mode_in}
+use Rattle.cc_script.specs.declared.script.Mode.TheVariants as mode
+use Rattle.cc_script.specs.declared.script.Script.{Script}
 use Rattle.cc_script.specs.declared.script.StreamLine.{StreamLine}
 use Rattle.cc_stop_laws.specs.Redoable.{IsNumbered}
 use Rattle.cc_traits.specs.Disk.{Disk, page_of}
@@ -18,8 +21,9 @@ use Rattle.cc_turns.specs.Desk.{disk_at_first}
 use Rattle.cc_turns.specs.Disk.{opening_of}
 use Rattle.cc_run_laws.proofs.Calls.{explained-run, good-run}
 use Rattle.cc_run_laws.proofs.Left.{so-far}
-use Rattle.cc_run_laws.specs.Calls.{HasClauses, ProgramCall, RanUpdated}
-use Rattle.cc_run_laws.specs.Scripts.{HadDevices, LeavesToUpdates}
+use Rattle.cc_run_laws.specs.Calls.{RanUpdated}
+use Rattle.cc_program.specs.Calls.{HasClauses, ProgramCall}
+use Rattle.cc_run_laws.specs.Scripts.{HadDevices}
 
 get-take : {A : Type 0} (n : ℕ) (xs : List A) (s : ℕ) (x : A) → s < n → slice_get xs s ≡ Some x → slice_get (take n xs) s ≡ Some x
 get-take zero xs s x below at = absurd (omega (arith, below))
@@ -28,15 +32,15 @@ get-take (suc n) (y ∷ xs) zero x below at = at
 get-take (suc n) (y ∷ xs) (suc s) x below at = get-take n xs s x (omega (arith, below)) at
 
 module _ {D L : Type 0} (told : D → Option Disk) (faults : D → ℕ) (log_told : L → Option Log) (log_faults : L → ℕ) (call : ProgramCall D L) (clauses : HasClauses told faults log_told log_faults call) (s log : ℕ) (line : StreamLine) (read : Option StreamRecord)
-    (opening left : Disk) (begun after : Log) (leaves : LeavesToUpdates call s log line) (had : HadDevices told log_told call s log line read opening left begun after) where
+    (opening left : Disk) (begun after : Log) (script : Script) (ran : call.script ≡ Some script) (mode_is : mode_in call.input.words ≡ mode.Run) (had : HadDevices told log_told call s log line read opening left begun after) where
   abbrev pub setup : Setup
-  setup = setup_of told faults leaves.script call.disks_begun call.logs_begun
+  setup = setup_of told faults script call.disks_begun call.logs_begun
 
-  pub explained : IsExplained setup (given_of leaves.script) call.told call.taken call.past
-  explained = explained-run told faults log_told log_faults call clauses leaves.script leaves.ran leaves.mode_is
+  pub explained : IsExplained setup (given_of script) call.told call.taken call.past
+  explained = explained-run told faults log_told log_faults call clauses script ran mode_is
 
   pub good : IsGoodSoFar setup call.past
-  good = so-far setup call.past (good-run told faults log_told log_faults call clauses leaves.script leaves.ran)
+  good = so-far setup call.past (good-run told faults log_told log_faults call clauses script ran)
 
   -- the disk told the opening pages of the stream
   pub opens : setup.opening s ≡ Some (page_of opening)

@@ -1,8 +1,12 @@
 -- Calls of the program over one log that follow each other, each behind a stop of the one before it.
-use Rattle.std.specs.Prelude.{◌≡◌, ℕ, List, [], ◌∷◌, ◌⊎◌}
+use Rattle.std.specs.Prelude.{◌≡◌, ℕ, ◌<◌, false, List, [], ◌∷◌, ◌⊎◌}
 use Rattle.std.specs.declared.option.Option.{Option}
 use Rattle.std.specs.declared.option.Option.TheVariants.{Some}
 use Rattle.cc_format.specs.declared.record.StreamRecord.{StreamRecord}
+use Rattle.cc_command.specs.Words.{mode_in}
+use Rattle.cc_model.specs.History.{history}
+use Rattle.cc_model.specs.Objects.{had_map}
+use Rattle.cc_script.specs.declared.script.Mode.TheVariants as mode
 use Rattle.cc_script.specs.declared.script.Script.{Script}
 use Rattle.cc_script.specs.declared.script.StreamLine.{StreamLine}
 use Rattle.cc_stop_laws.specs.Redoable.{IsHandedIn, TellsAt}
@@ -10,7 +14,8 @@ use Rattle.cc_stop_laws.specs.Runs.{as_read}
 use Rattle.cc_traits.specs.Disk.{Disk}
 use Rattle.cc_traits.specs.Log.{Log}
 use Rattle.cc_update_laws.specs.Devices.{IsWholeDisk}
-use Rattle.cc_run_laws.specs.Calls.{HasClauses, HasRestarted, IsScriptOf, NamesStream, ProgramCall, RanUpdated, WasOpened}
+use Rattle.cc_run_laws.specs.Calls.{HasRestarted, IsScriptOf, NamesStream, RanUpdated}
+use Rattle.cc_program.specs.Calls.{HasClauses, ProgramCall}
 
 -- A call whose run began over a log without entries, and left this.
 pub record IsFirst {D L : Type 0} (told : D → Option Disk) (faults : D → ℕ) (log_told : L → Option Log) (log_faults : L → ℕ) (s log : ℕ)
@@ -23,11 +28,10 @@ pub record IsFirst {D L : Type 0} (told : D → Option Disk) (faults : D → ℕ
   pub whole : IsWholeDisk opening
   pub none : begun.entries ≡ []
 
--- A call whose restart was answered as done, and whose run then opened its streams, or one of them, and left this.
+-- A call whose restart was answered as done, and whose run left this.
 pub record RunsOn {D L : Type 0} (told : D → Option Disk) (faults : D → ℕ) (log_told : L → Option Log) (log_faults : L → ℕ) (s log : ℕ)
     (stream : StreamLine) (was : Disk) (had : Log) (call : ProgramCall D L) (left : Disk) (after : Log) : Type 0 where
   pub restarted : HasRestarted told faults log_told log_faults s log stream was had call
-  pub opened : WasOpened restarted.script call
   pub read : Option StreamRecord
   pub opening : Disk
   pub begun : Log
@@ -45,6 +49,21 @@ pub record StopsBefore {D L : Type 0} (told : D → Option Disk) (faults : D →
   pub disk_left : TellsAt told call.disks_begun s left
   pub after_is : after ≡ as_read kept
 
+-- A call that ran its script though nothing of it opened the stream: its restart of the log was refused, or the line of the stream was. The
+-- stream had no map in that run, and a crash could leave each page of the disk with which the run began in one way alone. The disk is
+-- as the run left it, and of the log the next call is to read the entries that this one was handed.
+pub record RunsUnopened {D L : Type 0} (told : D → Option Disk) (faults : D → ℕ) (log_told : L → Option Log) (log_faults : L → ℕ)
+    (s log : ℕ) (stream : StreamLine) (was : Disk) (had : Log) (call : ProgramCall D L) (left : Disk) (after : Log) : Type 0 where
+  pub opening : Disk
+  pub stops : StopsBefore told faults log_told log_faults s log stream was had call opening after
+  pub script : Script
+  pub ran : call.script ≡ Some script
+  pub mode_is : mode_in call.input.words ≡ mode.Run
+  pub stream_below : s < 16
+  pub whole : IsWholeDisk opening
+  pub unopened : had_map (history call.past s) ≡ false
+  pub disk_left : TellsAt told call.disks_left s left
+
 -- Calls, the last one first, left this of a stream's disk and of its log: the first one's run began over this disk and a log without
 -- entries, with these numbers, and each other was handed what a crash left behind the one before it.
 abbrev pub HaveLeft : {D L : Type 0} → (D → Option Disk) → (D → ℕ) → (L → Option Log) → (L → ℕ) → ℕ → ℕ → StreamLine
@@ -56,4 +75,5 @@ HaveLeft told faults log_told log_faults s log stream read opening (call ∷ one
     (was : Disk) × (had : Log)
     × HaveLeft told faults log_told log_faults s log stream read opening (one ∷ earlier) was had
     × (RunsOn told faults log_told log_faults s log stream was had call left after
-    ⊎ StopsBefore told faults log_told log_faults s log stream was had call left after)
+    ⊎ (StopsBefore told faults log_told log_faults s log stream was had call left after
+    ⊎ RunsUnopened told faults log_told log_faults s log stream was had call left after))

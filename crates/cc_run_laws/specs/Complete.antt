@@ -7,8 +7,8 @@ use Rattle.cc_model.specs.Setup.{Setup}
 use Rattle.cc_script.specs.declared.script.Script.{Script}
 use Rattle.cc_pieces.specs.Faultless.{IsFaultless}
 use Rattle.cc_faultless_laws.specs.Tabled.{AreByTable}
-use Rattle.cc_run.specs.Complete.{EndsWith}
-use Rattle.cc_run.specs.Ends.{Input, Output, IsPut, printed_by}
+use Rattle.cc_program.specs.Complete.{EndsWith}
+use Rattle.cc_program.specs.Ends.{Input, Output, IsPut, printed_by}
 use Rattle.cc_command.specs.Words.{command_of}
 
 -- The program ended with status 0, or 6 for want of memory. At 0 the script was run, and its text was put whole. Whatever the status,

@@ -2,4 +2,5 @@
 pub mod Calls
 pub mod Chains
 pub mod Scripts
+pub mod ScriptChains
 pub mod Complete

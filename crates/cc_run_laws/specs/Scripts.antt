@@ -1,5 +1,5 @@
--- A script that leaves a stream to its logged updates, and what a checkpoint of its log asks beside.
-use Rattle.std.specs.Prelude.{◌≡◌, ◌⊎◌, ◌+◌, ◌<◌, ℕ, true, length, slice_get}
+-- A run that left a stream to its logged updates, and what a checkpoint of its log asks beside.
+use Rattle.std.specs.Prelude.{◌≡◌, ◌⊎◌, ◌+◌, ◌<◌, ℕ, true, false, length, slice_get}
 use Rattle.std.specs.List.{AllByRecursion}
 use Rattle.std.specs.declared.option.Option.{Option}
 use Rattle.std.specs.declared.option.Option.TheVariants.{Some, None}
@@ -9,29 +9,53 @@ use Rattle.cc_entry.specs.declared.answer.LineReply.{LineReply}
 use Rattle.cc_entry.specs.declared.reply.Reply.TheVariants as reply
 use Rattle.cc_format.specs.Spelling.{IsReadAs}
 use Rattle.cc_format.specs.declared.record.StreamRecord.{StreamRecord}
+use Rattle.cc_model.specs.History.{history}
+use Rattle.cc_model.specs.Objects.{had_map}
 use Rattle.cc_redo.specs.Disks.{record_number}
-use Rattle.cc_run.specs.Lines.{given_of}
+use Rattle.cc_program.specs.Runs.{given_of}
 use Rattle.cc_script.specs.Checkpoints.{CheckpointsStandApart}
 use Rattle.cc_script.specs.declared.script.Mode.TheVariants as mode
 use Rattle.cc_script.specs.declared.script.Script.{Script}
 use Rattle.cc_script.specs.declared.script.StreamLine.{StreamLine}
-use Rattle.cc_script_laws.specs.Lines.{AreStampedAtTables, IsKnownAt, IsUnwanting, checkpoints, leaves_to_updates, lines_answered}
+use Rattle.cc_script_laws.specs.Told.{initialises}
+use Rattle.cc_script_laws.specs.Lines.{AreStampedAtTables, IsKnownAt, IsUnwanting, checkpoints, left_to_updates, lines_answered}
 use Rattle.cc_stop_laws.specs.Redoable.{TellsAt}
 use Rattle.cc_traits.specs.Disk.{Disk, page_of}
 use Rattle.cc_traits.specs.Log.{Log}
-use Rattle.cc_run_laws.specs.Calls.{ProgramCall}
+use Rattle.cc_program.specs.Calls.{ProgramCall}
 
--- A call ran a script whose line of a stream names the log, and was answered as done. Each other line leaves the stream to its updates.
-pub record LeavesToUpdates {D L : Type 0} (call : ProgramCall D L) (s log : ℕ) (line : StreamLine) : Type 0 where
+-- A call ran a script whose line of a stream names the log.
+pub record NamesTheLog {D L : Type 0} (call : ProgramCall D L) (s log : ℕ) (line : StreamLine) : Type 0 where
   pub script : Script
   pub ran : call.script ≡ Some script
   pub mode_is : mode_in call.input.words ≡ mode.Run
   pub named : slice_get script.streams s ≡ Some line
   pub logged : line.log ≡ Some log
+
+-- Each line of its callers left the stream to its updates.
+pub record LeavesToUpdates {D L : Type 0} (call : ProgramCall D L) (s log : ℕ) (line : StreamLine) : Type 0 where
+  pub its : NamesTheLog call s log line
   pub opening : LineReply
-  pub opening_at : slice_get call.told.replies (length script.restarts + s) ≡ Some opening
-  pub opened : opening.answer ≡ answer.Given reply.Unit
-  pub updates : AllByRecursion (λ each. leaves_to_updates s log each.action ≡ true) script.lines
+  pub opening_at : slice_get call.told.replies (length its.script.restarts + s) ≡ Some opening
+  pub updates : AllByRecursion (λ each. left_to_updates s log each.0 each.1 ≡ true) (lines_answered (given_of its.script) call.told)
+
+-- The line of the stream was answered as done.
+abbrev pub IsOpened : {D L : Type 0} {call : ProgramCall D L} {s log : ℕ} {line : StreamLine} → LeavesToUpdates call s log line → Type 0
+IsOpened leaves = leaves.opening.answer ≡ answer.Given reply.Unit
+
+-- No line of a caller initialises an object of the stream.
+abbrev pub InitialisesNone : ℕ → Script → Type 0
+InitialisesNone s script = AllByRecursion (λ each. initialises s each.action ≡ false) script.lines
+
+-- The script has no checkpoint of the log.
+abbrev pub HasNoCheckpoint : ℕ → Script → Type 0
+HasNoCheckpoint log script = AllByRecursion (λ each. checkpoints log each.action ≡ false) script.lines
+
+-- It has no checkpoint of the log; or the stream had no map in the run, and each checkpoint is alone in its phase with lines of its caller,
+-- as the grammar says.
+abbrev pub HasNoneOrOpensNone : {D L : Type 0} → ProgramCall D L → ℕ → ℕ → Script → Type 0
+HasNoneOrOpensNone call s log script =
+    HasNoCheckpoint log script ⊎ (CheckpointsStandApart script.lines × (had_map (history call.past s) ≡ false))
 
 -- A disk and a log told these as the run of a call began and as it ended. What the record page spelled is what the stream is opened with,
 -- or it spelled none.
@@ -47,8 +71,8 @@ pub record HadDevices {D L : Type 0} (told : D → Option Disk) (log_told : L �
   pub stored : (line.stored ≡ true) ⊎ (read ≡ None)
 
 -- What the checkpoints of the log ask: each is alone in its phase with lines of its caller, as the grammar says; each recorded update of
--- the stream was set dirty as a table of the log's dirty pages was listed, or no update of it was refused for want of room or of memory;
--- and at the sync of the stream that each made the image of each of its pages was known.
+-- the stream was set dirty as a checkpoint listed the table of the log's dirty pages, or no update of it was refused for want of room or of
+-- memory; and at the sync of the stream that each made the image of each of its pages was known.
 pub record CheckpointsAreRight {D L : Type 0} (call : ProgramCall D L) (s log : ℕ) (script : Script) : Type 0 where
   pub apart : CheckpointsStandApart script.lines
   pub stamped : AreStampedAtTables s log call.past

@@ -6,10 +6,10 @@ ghost use Rattle.cc_entry.specs.declared.answer.LineReply.{LineReply};
 ghost use Rattle.cc_entry.specs.declared.entry.Entry.{Entry};
 ghost use Rattle.cc_model.specs.Good.{IsGood};
 ghost use Rattle.cc_model.specs.Setup.{Setup};
-ghost use Rattle.cc_run.specs.Complete.{HaveStayed, IsFound, RanWithoutFault};
-ghost use Rattle.cc_run.specs.Ends.{Input, Output, has_devices};
-ghost use Rattle.cc_run.specs.Main.{HasMain};
-ghost use Rattle.cc_run.specs.Setups.{run_disks, run_logs};
+ghost use Rattle.cc_program.specs.Complete.{HaveStayed, IsFound, RanWithoutFault};
+ghost use Rattle.cc_program.specs.Ends.{Input, Output, has_devices};
+ghost use Rattle.cc_program.specs.Main.{HasMain};
+ghost use Rattle.cc_program.specs.Setups.{run_disks, run_logs};
 ghost use Rattle.cc_script.specs.declared.script.Script.{Script};
 ghost use Rattle.cc_run_laws.specs.Complete.{IsComplete};
 

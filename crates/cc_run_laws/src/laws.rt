@@ -10,11 +10,12 @@ ghost use Rattle.cc_redo.specs.Reading.{said_by};
 ghost use Rattle.cc_restart_laws.specs.Stops.{updates_in};
 ghost use Rattle.cc_restart_laws.specs.Updates.{is_update_of};
 ghost use Rattle.cc_restarts.specs.Given.{size_said, valid_said};
-ghost use Rattle.cc_run_laws.specs.Calls.{HasClauses, HasRestarted, IsScriptOf, NamesStream, ProgramCall, WasOpened};
+ghost use Rattle.cc_run_laws.specs.Calls.{HasRestarted, IsScriptOf, NamesStream};
+ghost use Rattle.cc_program.specs.Calls.{HasClauses, ProgramCall};
 ghost use Rattle.cc_run_laws.specs.Chains.{HaveLeft, IsFirst, RunsOn};
 ghost use Rattle.cc_script.specs.declared.script.Script.{Script};
 ghost use Rattle.cc_script.specs.declared.script.StreamLine.{StreamLine};
-ghost use Rattle.cc_stop_laws.specs.Redoable.{IsFileMade, IsHandedIn, TellsAt};
+ghost use Rattle.cc_stop_laws.specs.Redoable.{IsFileMade, IsHandedIn, TellsAt, TellsGreatest};
 ghost use Rattle.cc_stop_laws.specs.Runs.{IsRedoneFrom, as_read};
 ghost use Rattle.cc_traits.specs.Disk.{Disk, page_of};
 ghost use Rattle.cc_traits.specs.Log.{Log};
@@ -22,17 +23,18 @@ ghost use Rattle.cc_update_laws.specs.Devices.{GoesOnFrom};
 
 use cc_traits::{LogFile, PageDisk};
 
-/// A run goes on with a log from the greatest LSN that the restart of it read, if the line of the restart was answered as done, and that of
-/// a stream as opened: before anything was appended to the log, it was flushed up to that LSN, so later LSNs are greater.
+/// A run goes on with a log from the greatest LSN that the restart of it read, if the line of the restart was answered as done: before
+/// anything was appended to the log, it was flushed up to that LSN, so later LSNs are greater.
 pub fn restarted_runs_go_on<D: PageDisk, L: LogFile>()
     ensures { (s log : ℕ) (stream : StreamLine) (was : Disk) (had : Log) (call : ProgramCall D L) →
         (restarted : HasRestarted D.told D.faults L.told L.faults s log stream was had call) →
-        WasOpened restarted.script call → GoesOnFrom log (last_of (readings restarted.kept.entries)) call.past }
+        GoesOnFrom log (last_of (readings restarted.kept.entries)) call.past }
 {}
 
 /// One stop and the call behind it. `first`: a first run leaves of its disk and of its log what can be redone to the file with which it
 /// began. `made`: what can be redone so is redone by the next call, if its restart is answered as done: the disk with which its run begins
-/// has the file with the kept updates applied in their order, each whole; and these are all that the kept entries record of the stream.
+/// has the file with the kept updates applied in their order, each whole; these are all that the kept entries record of the stream; and its
+/// record tells as valid the greatest of what the restart was given and the ends of these updates.
 /// `later`: what that run leaves in turn can be redone to the same file.
 pub fn stopped_runs_are_redone_by_the_next<D: PageDisk, L: LogFile>()
     ensures first { (s log : ℕ) (stream : StreamLine) (read : Option StreamRecord) (opening : Disk) (call : ProgramCall D L)
@@ -44,7 +46,8 @@ pub fn stopped_runs_are_redone_by_the_next<D: PageDisk, L: LogFile>()
         (made : Disk) × TellsAt D.told call.disks_begun s made × TellsAt L.told call.logs_begun log restarted.kept
         × (file : IsFileMade s size restarted.kept.entries pages first made)
         × (length (updates_in file.has.redo restarted.kept.entries)
-        ≡ length (filter (λ entry. is_update_of s (said_by entry.bytes)) restarted.kept.entries)) }
+        ≡ length (filter (λ entry. is_update_of s (said_by entry.bytes)) restarted.kept.entries))
+        × TellsGreatest restarted.line restarted.handed restarted.kept.entries file.has.redo file.valid }
     ensures later { (s log size first : ℕ) (stream : StreamLine) (pages : ℕ → List ℕ) (was : Disk) (had : Log) →
         IsRedoneFrom s stream size pages first was had → (call : ProgramCall D L) (left : Disk) (after : Log) →
         RunsOn D.told D.faults L.told L.faults s log stream was had call left after →
@@ -66,7 +69,7 @@ pub fn stopped_restarts_are_redone_by_the_next<D: PageDisk, L: LogFile>()
 
 /// Any number of calls, each behind a stop of the one before it: `left` says of what they leave that it can be redone, and `file` that the
 /// next call whose restart is answered as done begins with the file with which the first one's run began, with the updates of the kept
-/// entries applied in their order, each whole, and all that these record of the stream.
+/// entries applied in their order, each whole, all that these record of the stream, and with the valid data length that it is to tell.
 pub fn any_number_of_stops_is_redone<D: PageDisk, L: LogFile>()
     ensures left { (s log : ℕ) (stream : StreamLine) (read : Option StreamRecord) (opening : Disk) (calls : List (ProgramCall D L))
         (left : Disk) (after : Log) → HaveLeft D.told D.faults L.told L.faults s log stream read opening calls left after →
@@ -77,5 +80,6 @@ pub fn any_number_of_stops_is_redone<D: PageDisk, L: LogFile>()
         (made : Disk) × TellsAt D.told call.disks_begun s made
         × (file : IsFileMade s (size_said stream read) restarted.kept.entries (page_of opening) (valid_said stream read) made)
         × (length (updates_in file.has.redo restarted.kept.entries)
-        ≡ length (filter (λ entry. is_update_of s (said_by entry.bytes)) restarted.kept.entries)) }
+        ≡ length (filter (λ entry. is_update_of s (said_by entry.bytes)) restarted.kept.entries))
+        × TellsGreatest restarted.line restarted.handed restarted.kept.entries file.has.redo file.valid }
 {}

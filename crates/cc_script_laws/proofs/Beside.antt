@@ -241,11 +241,15 @@ module _ (s log me nth : ℕ) (past : List Entry) where
     kept-did (Stores page bytes) is acts none = absurd (not-apart (file_of it) refl acts)
     kept-did (Discards span) is acts none = absurd (not-apart (file_of it) refl acts)
 
+-- the entry of a call that failed
+pub kept-failed : (s log me nth : ℕ) (past : List Entry) (it : Call) (e : CcError) (stream : Option ℕ) → HasNoneOpen s log me past → KeepsAll s log me past (entry.Call me nth stream it (outcome.Failed e) ∷ past)
+kept-failed s log me nth past it e stream none =
+    kept-none s log me nth past stream it (outcome.Failed e) (failed-effect s me nth stream it e) (write-failed s me nth stream it e) (by-failed s log me nth stream it e past) none
+
 -- the entry of a call that may stand beside updates
 pub kept-call : (s log me nth : ℕ) (past : List Entry) (opened : Type 0) → (opened → had_map (history past s) ≡ true) → (it : Call) (ended : Outcome) (stream : Option ℕ) → IsBeside s log opened it → IsFiled (holds_of (stream_history past stream)) me stream it (file_of it) → HasNoneOpen s log me past →
     KeepsAll s log me past (entry.Call me nth stream it ended ∷ past)
-kept-call s log me nth past opened has it (outcome.Failed e) stream beside filed none =
-    kept-none s log me nth past stream it (outcome.Failed e) (failed-effect s me nth stream it e) (write-failed s me nth stream it e) (by-failed s log me nth stream it e past) none
+kept-call s log me nth past opened has it (outcome.Failed e) stream beside filed none = kept-failed s log me nth past it e stream none
 kept-call s log me nth past opened has it (outcome.Done reply) None beside filed none = kept-none s log me nth past None it (outcome.Done reply) refl refl tt none
 kept-call s log me nth past opened has it (outcome.Done reply) (Some t) beside filed none = go (t == s) refl
   where

@@ -13,21 +13,20 @@ use Rattle.cc_entry.specs.declared.entry.Entry.TheVariants as entry
 use Rattle.cc_entry.specs.declared.error.CcError.{CcError}
 use Rattle.cc_entry.specs.declared.place.FileState.{FileState}
 use Rattle.cc_entry.specs.declared.place.Request.{Request}
+use Rattle.cc_entry.specs.declared.reply.Outcome.TheVariants as outcome
 use Rattle.cc_script.specs.declared.script.Action.{Action}
 use Rattle.cc_script.specs.declared.script.Action.TheVariants as action
 use Rattle.cc_model.specs.Good.{IsGoodSoFar}
 use Rattle.cc_model.specs.History.{history}
 use Rattle.cc_model.specs.Objects.{had_map}
 use Rattle.cc_model.specs.Passes.{HasSeen}
-use Rattle.cc_model.specs.Settings.{log_of}
 use Rattle.cc_model.specs.Setup.{Setup}
 use Rattle.cc_effects.specs.Moments.{IsIdle}
 use Rattle.cc_records.specs.Left.{SettleLeft}
 use Rattle.cc_redo.specs.Reading.{said_by}
 use Rattle.cc_redo.specs.declared.record.LogRecord.{LogRecord}
 use Rattle.cc_redo.specs.declared.record.LogRecord.TheVariants.{Update, Checkpoint}
-use Rattle.cc_restart_laws.proofs.Records.{log-stays}
-use Rattle.cc_restart_laws.specs.Updates.{IsUpdated, IsUpdatedBy, MayLog}
+use Rattle.cc_restart_laws.specs.Updates.{IsUpdatedBy, MayLog}
 use Rattle.cc_update_laws.proofs.Keeping.{KeepsAll, all-idle, all-then}
 use Rattle.cc_update_laws.proofs.Said.{said-update}
 use Rattle.cc_update_laws.proofs.Updates.{all-update}
@@ -39,10 +38,11 @@ use Rattle.cc_pieces.specs.Checkpoints.{CheckpointLeft}
 use Rattle.cc_pieces.specs.Phases.{lazy_writer, read_ahead_worker}
 use Rattle.cc_pieces.specs.Served.{Served}
 use Rattle.cc_pieces.specs.Shim.{UpdateLeft}
-use Rattle.cc_script_laws.specs.Lines.{checkpoints, is_apart, leaves_to_updates, says_neither}
-use Rattle.cc_script_laws.proofs.Beside.{IsBeside, kept-append, kept-call, kept-plain, kept-record}
+use Rattle.cc_script_laws.specs.Lines.{checkpoints, is_apart, is_one_call, leaves_to_updates, left_to_updates, says_neither, was_refused}
+use Rattle.cc_script_laws.specs.Told.{initialises}
+use Rattle.cc_script_laws.proofs.Beside.{IsBeside, kept-append, kept-call, kept-failed, kept-plain, kept-record}
 use Rattle.cc_script_laws.proofs.Growing.{good-seen, had-seen, seen-entry, seen-idle}
-use Rattle.cc_script_laws.proofs.LineWalks.{Admits, Follows, IsCheckpointOf, IsNcWriteOf, IsReadOf, IsWriteOf, follow-ahead, follow-checkpoint-left, follow-served, follow-settle-left, follow-tick, follow-update-left}
+use Rattle.cc_script_laws.proofs.LineWalks.{Admits, Follows, IsCheckpointOf, IsNcWriteOf, IsReadOf, IsWriteOf, follow-ahead, follow-checkpoint-left, follow-refused, follow-served, follow-settle-left, follow-tick, follow-update-left}
 
 clash : {b : Bool} → b ≡ true → b ≡ false → ⊥
 clash a b = cc
@@ -126,71 +126,75 @@ module _ (u : Setup) (s log : ℕ) (opened : Type 0) where
   by-checkpoint (call.Flush file span) is = (tt, tt)
   by-checkpoint other is = absurd is
 
-  module _ (was : opened) (me : ℕ) (W : List Entry → List Entry → Type 0) (f : Follows me (IsBeside s log opened) W)
+  module _ (me : ℕ) (W : List Entry → List Entry → Type 0) (f : Follows me (IsBeside s log opened) W)
       (appends : (handle lsn : ℕ) (bytes : List ℕ) (past : List Entry) → (not (handle == log) || says_neither s (said_by bytes)) ≡ true → W past (entry.Append me handle lsn bytes ∷ past))
       (settles : (file : File) (answered : Result FileState CcError) (old new : List Entry) → SettleLeft u me file answered old new → W old new) where
     pub admits-by : (asked : Action) → leaves_to_updates s log asked ≡ true →
         ((file : File) (at : ℕ) (bytes : List ℕ) → asked ≡ action.Update file at bytes → (answered : Result ℕ CcError) (old new : List Entry) → UpdateLeft u me file at bytes answered old new → W old new) →
         ((streams handle : ℕ) → asked ≡ action.Checkpoint streams handle → (answered : Result ℕ CcError) (old new : List Entry) → CheckpointLeft u me streams handle answered old new → W old new) →
-        Admits u me (IsBeside s log opened) W f asked
-    admits-by (action.Initialise file sizes quota temporary) leaves updates logs = (inr (inr was), tt)
-    admits-by (action.Uninitialise file truncate) leaves updates logs = (by (either (is_apart s file) (not (file.object == 0)) leaves), tt)
+        opened ⊎ (initialises s asked ≡ false) → Admits u me (IsBeside s log opened) W f asked
+    admits-by (action.Initialise file sizes quota temporary) leaves updates logs may = (by may, tt)
+      where
+        by : opened ⊎ ((file.stream == s) ≡ false) → ((file.stream == s) ≡ false) ⊎ ((file.object ≡ 0) ⊎ opened)
+        by (inl was) = inr (inr was)
+        by (inr apart) = inl apart
+    admits-by (action.Uninitialise file truncate) leaves updates logs may = (by (either (is_apart s file) (not (file.object == 0)) leaves), tt)
       where
         by : (is_apart s file ≡ true) ⊎ (not (file.object == 0) ≡ true) → ((file.stream == s) ≡ false) ⊎ ((file.object == 0) ≡ false)
         by (inl apart) = inl (not-false (file.stream == s) apart)
         by (inr other) = inr (not-false (file.object == 0) other)
-    admits-by (action.CopyWrite file at bytes) leaves updates logs = (not-false (file.stream == s) leaves, tt)
-    admits-by (action.Zero file span) leaves updates logs = (not-false (file.stream == s) leaves, tt)
-    admits-by (action.PinMapped word exclusive) leaves updates logs = λ id. (tt, tt)
-    admits-by (action.PreparePin file at len word true exclusive) leaves updates logs = (not-false (file.stream == s) leaves, tt)
-    admits-by (action.PreparePin file at len word false exclusive) leaves updates logs = (tt, tt)
-    admits-by (action.HeldRead word at len) leaves updates logs = ((λ id. (tt, tt)), λ id. (tt, tt))
-    admits-by (action.PinnedWrite word at bytes) leaves updates logs = absurd (cc leaves)
-    admits-by (action.SetDirty word lsn) leaves updates logs = λ id. (tt, tt)
-    admits-by (action.Unpin word) leaves updates logs = λ id. (tt, tt)
-    admits-by (action.Repin word made) leaves updates logs = λ id. (tt, tt)
-    admits-by (action.UnpinRepinned word through) leaves updates logs = ((λ id. (tt, tt)), λ file span. (tt, tt))
-    admits-by (action.MdlBytes word at len) leaves updates logs = λ id. (tt, tt)
-    admits-by (action.MdlStore word at bytes) leaves updates logs = absurd (cc leaves)
-    admits-by (action.MdlDone word) leaves updates logs = λ id. (tt, tt)
-    admits-by (action.MdlAbort word) leaves updates logs = λ id. (tt, tt)
-    admits-by (action.SetSizes file allocation size) leaves updates logs = (not-false (file.stream == s) leaves, tt)
-    admits-by (action.Discard file span) leaves updates logs = (not-false (file.stream == s) leaves, tt)
-    admits-by (action.NcRead file at len) leaves updates logs = λ page. (tt, tt)
-    admits-by (action.NcWrite file at bytes) leaves updates logs = by-nc-write file (not-false (file.stream == s) leaves)
-    admits-by (action.Read file path at len) leaves updates logs = by-read file
-    admits-by (action.Write file at bytes) leaves updates logs = by-write file (not-false (file.stream == s) leaves)
-    admits-by (action.Update file at bytes) leaves updates logs = ((tt, tt), λ answered first last left. updates file at bytes refl answered first last left)
-    admits-by (action.Settle file) leaves updates logs = settles file
-    admits-by (action.Checkpoint streams handle) leaves updates logs = logs streams handle refl
-    admits-by (action.SetLog file handle) leaves updates logs = (tt, by (either (is_apart s file) (handle == log) leaves))
+    admits-by (action.CopyWrite file at bytes) leaves updates logs may = (not-false (file.stream == s) leaves, tt)
+    admits-by (action.Zero file span) leaves updates logs may = (not-false (file.stream == s) leaves, tt)
+    admits-by (action.PinMapped word exclusive) leaves updates logs may = λ id. (tt, tt)
+    admits-by (action.PreparePin file at len word true exclusive) leaves updates logs may = (not-false (file.stream == s) leaves, tt)
+    admits-by (action.PreparePin file at len word false exclusive) leaves updates logs may = (tt, tt)
+    admits-by (action.HeldRead word at len) leaves updates logs may = ((λ id. (tt, tt)), λ id. (tt, tt))
+    admits-by (action.PinnedWrite word at bytes) leaves updates logs may = absurd (cc leaves)
+    admits-by (action.SetDirty word lsn) leaves updates logs may = λ id. (tt, tt)
+    admits-by (action.Unpin word) leaves updates logs may = λ id. (tt, tt)
+    admits-by (action.Repin word made) leaves updates logs may = λ id. (tt, tt)
+    admits-by (action.UnpinRepinned word through) leaves updates logs may = ((λ id. (tt, tt)), λ file span. (tt, tt))
+    admits-by (action.MdlBytes word at len) leaves updates logs may = λ id. (tt, tt)
+    admits-by (action.MdlStore word at bytes) leaves updates logs may = absurd (cc leaves)
+    admits-by (action.MdlDone word) leaves updates logs may = λ id. (tt, tt)
+    admits-by (action.MdlAbort word) leaves updates logs may = λ id. (tt, tt)
+    admits-by (action.SetSizes file allocation size) leaves updates logs may = (not-false (file.stream == s) leaves, tt)
+    admits-by (action.Discard file span) leaves updates logs may = (not-false (file.stream == s) leaves, tt)
+    admits-by (action.NcRead file at len) leaves updates logs may = λ page. (tt, tt)
+    admits-by (action.NcWrite file at bytes) leaves updates logs may = by-nc-write file (not-false (file.stream == s) leaves)
+    admits-by (action.Read file path at len) leaves updates logs may = by-read file
+    admits-by (action.Write file at bytes) leaves updates logs may = by-write file (not-false (file.stream == s) leaves)
+    admits-by (action.Update file at bytes) leaves updates logs may = ((tt, tt), λ answered first last left. updates file at bytes refl answered first last left)
+    admits-by (action.Settle file) leaves updates logs may = settles file
+    admits-by (action.Checkpoint streams handle) leaves updates logs may = logs streams handle refl
+    admits-by (action.SetLog file handle) leaves updates logs may = (tt, by (either (is_apart s file) (handle == log) leaves))
       where
         by : (is_apart s file ≡ true) ⊎ ((handle == log) ≡ true) → ((file.stream == s) ≡ false) ⊎ (handle ≡ log)
         by (inl apart) = inl (not-false (file.stream == s) apart)
         by (inr same) = inr (eqb-true handle log same)
-    admits-by (action.Append handle bytes) leaves updates logs = λ lsn past. appends handle lsn bytes past leaves
-    admits-by action.AheadStep leaves updates logs = λ request. (tt, tt)
-    admits-by action.Complete leaves updates logs = λ file at len. (tt, tt)
-    admits-by (action.Lock file span exclusive) leaves updates logs = tt
-    admits-by (action.Unlock file id) leaves updates logs = tt
-    admits-by (action.Levels file) leaves updates logs = tt
-    admits-by (action.LogFlush handle lsn) leaves updates logs = tt
-    admits-by (action.Defer file bytes retrying) leaves updates logs = tt
-    admits-by action.Post leaves updates logs = tt
-    admits-by action.Tick leaves updates logs = tt
-    admits-by (action.NcReadPage file page) leaves updates logs = tt
-    admits-by (action.NcStorePage file page bytes) leaves updates logs = tt
-    admits-by (action.NcWritePage file page) leaves updates logs = tt
-    admits-by (action.Fill page) leaves updates logs = tt
-    admits-by (action.Drop page) leaves updates logs = tt
-    admits-by (action.WriteBegin page) leaves updates logs = tt
-    admits-by (action.WriteEnd page) leaves updates logs = tt
-    admits-by (action.Sync stream) leaves updates logs = tt
-    admits-by action.Scan leaves updates logs = tt
-    admits-by other leaves updates logs = (tt, tt)
+    admits-by (action.Append handle bytes) leaves updates logs may = λ lsn past. appends handle lsn bytes past leaves
+    admits-by action.AheadStep leaves updates logs may = λ request. (tt, tt)
+    admits-by action.Complete leaves updates logs may = λ file at len. (tt, tt)
+    admits-by (action.Lock file span exclusive) leaves updates logs may = tt
+    admits-by (action.Unlock file id) leaves updates logs may = tt
+    admits-by (action.Levels file) leaves updates logs may = tt
+    admits-by (action.LogFlush handle lsn) leaves updates logs may = tt
+    admits-by (action.Defer file bytes retrying) leaves updates logs may = tt
+    admits-by action.Post leaves updates logs may = tt
+    admits-by action.Tick leaves updates logs may = tt
+    admits-by (action.NcReadPage file page) leaves updates logs may = tt
+    admits-by (action.NcStorePage file page bytes) leaves updates logs may = tt
+    admits-by (action.NcWritePage file page) leaves updates logs may = tt
+    admits-by (action.Fill page) leaves updates logs may = tt
+    admits-by (action.Drop page) leaves updates logs may = tt
+    admits-by (action.WriteBegin page) leaves updates logs may = tt
+    admits-by (action.WriteEnd page) leaves updates logs may = tt
+    admits-by (action.Sync stream) leaves updates logs may = tt
+    admits-by action.Scan leaves updates logs may = tt
+    admits-by other leaves updates logs may = (tt, tt)
 
--- From a moment on, up to the whole journal, each entry of the pass keeps the form. Behind that moment the stream has its log, or none
--- updates it.
+-- From a moment on, up to the whole journal, each entry of the pass keeps the form. The stream has had a map as that moment comes, or no
+-- line initialises it.
 module _ (u : Setup) (whole : List Entry) (good : IsGoodSoFar u whole) (s log : ℕ) (begun : List Entry) (opened : Type 0) (has_opened : opened → had_map (history begun s) ≡ true) where
   abbrev pub Beside : ℕ → List Entry → List Entry → Type 0
   Beside me old new = HasSeen old new × (HasSeen begun old → HasSeen new whole → HasNoneOpen s log me old → KeepsAll s log me old new)
@@ -231,34 +235,39 @@ module _ (u : Setup) (whole : List Entry) (good : IsGoodSoFar u whole) (s log : 
       answered old new left
 
   -- the lines; a checkpoint of the log is said of by itself
-  module _ (has_log : log_of (history begun s) ≡ Some log) (was : opened) where
-    beside-update : (me : ℕ) (file : File) (at : ℕ) (bytes : List ℕ) → (nat_lt file.stream 255 && (nat_lt at (2 ^ 64) && nat_lt (length bytes) (2 ^ 32))) ≡ true → (answered : Result ℕ CcError) (old new : List Entry) → UpdateLeft u me file at bytes answered old new → Beside me old new
-    beside-update me file at bytes fits answered old new left = (
-      seen-update u me file at bytes answered old new left,
-      λ since seen none.
-          let first = and_parts (nat_lt file.stream 255) _ fits in
-          let second = and_parts (nat_lt at (2 ^ 64)) _ first.1 in
-          all-update u s log me file at bytes (said-update file at bytes (lt-told file.stream 255 first.0) (lt-told at (2 ^ 64) second.0) (lt-told (length bytes) (2 ^ 32) second.1)) old
-          (λ its updated. subst (λ (l : List Entry). log_of (history l s) ≡ Some log) (sym since.grew) (log-stays s log since.later begun (subst (IsUpdated s log) since.grew updated) has_log))
-          answered new (good-seen u new whole seen good) none left,
-    )
+  beside-update : (me : ℕ) (file : File) (at : ℕ) (bytes : List ℕ) → (nat_lt file.stream 255 && (nat_lt at (2 ^ 64) && nat_lt (length bytes) (2 ^ 32))) ≡ true → (answered : Result ℕ CcError) (old new : List Entry) → UpdateLeft u me file at bytes answered old new → Beside me old new
+  beside-update me file at bytes fits answered old new left = (
+    seen-update u me file at bytes answered old new left,
+    λ since seen none.
+        let first = and_parts (nat_lt file.stream 255) _ fits in
+        let second = and_parts (nat_lt at (2 ^ 64)) _ first.1 in
+        all-update u s log me file at bytes (said-update file at bytes (lt-told file.stream 255 first.0) (lt-told at (2 ^ 64) second.0) (lt-told (length bytes) (2 ^ 32) second.1)) old
+        answered new (good-seen u new whole seen good) none left,
+  )
 
-    -- a checkpoint of another log
-    pub beside-other : (me streams handle : ℕ) → (handle == log) ≡ false → (answered : Result ℕ CcError) (old new : List Entry) → CheckpointLeft u me streams handle answered old new → Beside me old new
-    beside-other me streams handle apart answered old new left =
-        follow-checkpoint-left u me (IsBeside s log opened) (Beside me) (beside-follows me) streams handle (by-checkpoint u s log opened)
-        (λ rows lsn past. beside-append me handle lsn _ past (rw apart refl)) answered old new left
+  -- a checkpoint of another log
+  pub beside-other : (me streams handle : ℕ) → (handle == log) ≡ false → (answered : Result ℕ CcError) (old new : List Entry) → CheckpointLeft u me streams handle answered old new → Beside me old new
+  beside-other me streams handle apart answered old new left =
+      follow-checkpoint-left u me (IsBeside s log opened) (Beside me) (beside-follows me) streams handle (by-checkpoint u s log opened)
+      (λ rows lsn past. beside-append me handle lsn _ past (rw apart refl)) answered old new left
 
-    pub beside-served : (me : ℕ) (bindings : List Binding) (asked : Action) (told : Answer) (old new : List Entry) → (leaves_to_updates s log asked ≡ true) × (checkpoints log asked ≡ false) → Served u me bindings asked told old new → Beside me old new
-    beside-served me bindings asked told old new fits left =
-        follow-served u me (IsBeside s log opened) (Beside me) (beside-follows me) bindings asked told old new
-        (admits-by u s log opened was me (Beside me) (beside-follows me) (beside-append me) (beside-settle me) asked fits.0
-        (λ file at bytes is. beside-update me file at bytes (subst (λ (a : Action). leaves_to_updates s log a ≡ true) is fits.0))
-        (λ streams handle is. beside-other me streams handle (subst (λ (a : Action). checkpoints log a ≡ false) is fits.1))) left
+  pub beside-served : (me : ℕ) (bindings : List Binding) (asked : Action) (told : Answer) (old new : List Entry) → (left_to_updates s log asked told ≡ true) × (checkpoints log asked ≡ false) × (opened ⊎ (initialises s asked ≡ false)) →
+      Served u me bindings asked told old new → Beside me old new
+  beside-served me bindings asked told old new fits left = by (either (leaves_to_updates s log asked) (is_one_call asked && was_refused told) fits.0)
+    where
+      by : (leaves_to_updates s log asked ≡ true) ⊎ ((is_one_call asked && was_refused told) ≡ true) → Beside me old new
+      by (inl leaves) =
+          follow-served u me (IsBeside s log opened) (Beside me) (beside-follows me) bindings asked told old new
+          (admits-by u s log opened me (Beside me) (beside-follows me) (beside-append me) (beside-settle me) asked leaves
+          (λ file at bytes is. beside-update me file at bytes (subst (λ (a : Action). leaves_to_updates s log a ≡ true) is leaves))
+          (λ streams handle is. beside-other me streams handle (subst (λ (a : Action). checkpoints log a ≡ false) is fits.1)) fits.2) left
+      by (inr refused) =
+          follow-refused u me (IsBeside s log opened) (Beside me) (beside-follows me) bindings asked told old new refused
+          (λ it e nth stream past filed. beside-entry me (entry.Call me nth stream it (outcome.Failed e)) past (λ since none. kept-failed s log me nth past it e stream none)) left
 
-    pub beside-tick : (told : Answer) (old new : List Entry) → TickAnswered lazy_writer told old new → Beside lazy_writer old new
-    beside-tick told old new left = follow-tick u lazy_writer (IsBeside s log opened) (Beside lazy_writer) (beside-follows lazy_writer) told old new left
+  pub beside-tick : (told : Answer) (old new : List Entry) → TickAnswered lazy_writer told old new → Beside lazy_writer old new
+  beside-tick told old new left = follow-tick u lazy_writer (IsBeside s log opened) (Beside lazy_writer) (beside-follows lazy_writer) told old new left
 
-    pub beside-step : (taken : Option Request) (told : Answer) (old new : List Entry) → AheadAnswered u read_ahead_worker taken told old new → Beside read_ahead_worker old new
-    beside-step taken told old new left =
-        follow-ahead u read_ahead_worker (IsBeside s log opened) (Beside read_ahead_worker) (beside-follows read_ahead_worker) taken told old new (λ request. (tt, tt)) left
+  pub beside-step : (taken : Option Request) (told : Answer) (old new : List Entry) → AheadAnswered u read_ahead_worker taken told old new → Beside read_ahead_worker old new
+  beside-step taken told old new left =
+      follow-ahead u read_ahead_worker (IsBeside s log opened) (Beside read_ahead_worker) (beside-follows read_ahead_worker) taken told old new (λ request. (tt, tt)) left

@@ -2,16 +2,17 @@
 mod LineWalks
 mod RunWalks
 mod Growing
-mod Settles
+pub mod Settles
 mod Opened
 mod Numbered
 mod Beside
 mod BesideLines
 mod Scripts
+mod Unopened
 mod RecordsNone
 mod Stamps
-mod Syncs
 mod Stamping
+mod Unopening
 mod Phases
 mod Rows
 mod SmallStamps

@@ -1,6 +1,6 @@
 -- What a line of a caller leaves, from its first moment to its last: what is said of two moments of a pass, where it is said of each
 -- entry that the line may place, is said of the moments of the line.
-use Rattle.std.specs.Prelude.{◌≡◌, ℕ, zero, suc, ◌+◌, ◌*◌, ◌/◌, Bool, true, false, ◌||◌, ◌==◌, nat_lt, min, List, [], ◌∷◌, ◌++◌, length, map, take, drop, Result, Ok, Err, refl, ◌⊎◌, if◌then◌else◌}
+use Rattle.std.specs.Prelude.{◌≡◌, ℕ, zero, suc, ◌+◌, ◌*◌, ◌/◌, Bool, true, false, ◌&&◌, ◌||◌, ◌==◌, nat_lt, min, List, [], ◌∷◌, ◌++◌, length, map, take, drop, Result, Ok, Err, refl, ◌⊎◌, if◌then◌else◌}
 use Rattle.std.specs.declared.option.Option.{Option}
 use Rattle.std.specs.declared.option.Option.TheVariants.{Some, None}
 use Rattle.std.specs.List.{AllByRecursion}
@@ -54,6 +54,7 @@ use Rattle.cc_pieces.specs.HoldLines.{HeldReadBy, HoldLine, UnpinAnswered, Unrep
 use Rattle.cc_pieces.specs.Locks.{FoundLeft, LockAnswered, LockedLeft, LockedReadAnswered, LockedUpdateAnswered, LockedWriteAnswered, TestLeft, UnlockAnswered, read_refused, tested_range, update_refused, write_refused}
 use Rattle.cc_pieces.specs.Served.{Served}
 use Rattle.cc_pieces.specs.Shim.{CallsLeft, HeldPartsLeft, HoldPath, PartRead, PartRefused, PartsLeft, LoggedLeft, PathReadLeft, PinnedUpdateLeft, ReadTested, RecordedLeft, ToldUpdateLeft, ToldWriteLeft, UpdateLeft, WriteTested, descriptor_path, extensions, mapped_path, misaligned_for, parts_of, pinned_path, too_long_for, update_record, whole_part, write_calls, zeroings}
+use Rattle.cc_script_laws.specs.Lines.{is_one_call, was_refused}
 
 pub same-pass : (me : ℕ) → (me == me) ≡ true
 same-pass me = eq-eqb me me refl
@@ -158,26 +159,35 @@ module _ (u : Setup) (me : ℕ) (Makes : Call → Type 0) (W : List Entry → Li
 
   -- ---- calls
 
-  follow-placed : (it : Call) (ended : Outcome) (earlier old new : List Entry) → Makes it → IsPlaced me it ended earlier old new → W old new
-  follow-placed it ended earlier old new makes p =
+  -- what is said of the entry of a call that ended so
+  abbrev pub SaysOf : Call → Outcome → Type 0
+  SaysOf it ended = (nth : ℕ) (stream : Option ℕ) (past : List Entry) → IsFiled (holds_of (stream_history past stream)) me stream it (file_of it) → W past (entry.Call me nth stream it ended ∷ past)
+
+  follow-placed : (it : Call) (ended : Outcome) (earlier old new : List Entry) → SaysOf it ended → IsPlaced me it ended earlier old new → W old new
+  follow-placed it ended earlier old new says p =
       let e : Entry = entry.Call me p.nth p.stream it ended in
       subst (W old) (sym p.grew)
       (f.joins old (e ∷ (earlier ++ old)) (p.later ++ (e ∷ (earlier ++ old)))
-      (f.joins old (earlier ++ old) (e ∷ (earlier ++ old)) (follow-works (Calls it) earlier old p.works) (f.called it ended p.nth p.stream (earlier ++ old) makes p.filed))
+      (f.joins old (earlier ++ old) (e ∷ (earlier ++ old)) (follow-works (Calls it) earlier old p.works) (says p.nth p.stream (earlier ++ old) p.filed))
       (follow-others p.later (e ∷ (earlier ++ old)) p.quiet))
 
-  pub follow-call : (it : Call) (ended : Outcome) (old new : List Entry) → Makes it → CallLeft u me it ended old new → W old new
-  follow-call it (outcome.Done r) old new makes left = follow-placed it (outcome.Done r) left.earlier old new makes left.placed
-  follow-call it (outcome.Failed (error.JournalFull entries)) old new makes left = subst (W old) (sym left.grew) (follow-works (Calls it) left.during old left.works)
-  follow-call it (outcome.Failed error.NoMemory) old new makes left = subst (W old) (sym left.grew) (follow-works (Calls it) left.during old left.works)
-  follow-call it (outcome.Failed (error.ReadFault page)) old new makes left = follow-placed it (outcome.Failed (error.ReadFault page)) left.earlier old new makes left.placed
-  follow-call it (outcome.Failed (error.WriteFault page)) old new makes left = follow-placed it (outcome.Failed (error.WriteFault page)) left.earlier old new makes left.placed
-  follow-call it (outcome.Failed (error.LogFault handle)) old new makes left = follow-placed it (outcome.Failed (error.LogFault handle)) left.earlier old new makes left.placed
-  follow-call it (outcome.Failed e) old new makes left = by e left
+  follow-failed : (it : Call) (e : CcError) (old new : List Entry) → SaysOf it (outcome.Failed e) → CallLeft u me it (outcome.Failed e) old new → W old new
+  follow-failed it (error.JournalFull entries) old new says left = subst (W old) (sym left.grew) (follow-works (Calls it) left.during old left.works)
+  follow-failed it error.NoMemory old new says left = subst (W old) (sym left.grew) (follow-works (Calls it) left.during old left.works)
+  follow-failed it (error.ReadFault page) old new says left = follow-placed it (outcome.Failed (error.ReadFault page)) left.earlier old new says left.placed
+  follow-failed it (error.WriteFault page) old new says left = follow-placed it (outcome.Failed (error.WriteFault page)) left.earlier old new says left.placed
+  follow-failed it (error.LogFault handle) old new says left = follow-placed it (outcome.Failed (error.LogFault handle)) left.earlier old new says left.placed
+  follow-failed it e old new says left = by e says left
     where
-      by : (e : CcError) → IsRefused me it e old new ⊎ IsOvertaken u me it e old new → W old new
-      by e (inl is) = follow-placed it (outcome.Failed e) is.earlier old new makes is.placed
-      by e (inr is) = follow-placed it (outcome.Failed e) is.earlier old new makes is.placed
+      by : (e : CcError) → SaysOf it (outcome.Failed e) → IsRefused me it e old new ⊎ IsOvertaken u me it e old new → W old new
+      by e says (inl is) = follow-placed it (outcome.Failed e) is.earlier old new says is.placed
+      by e says (inr is) = follow-placed it (outcome.Failed e) is.earlier old new says is.placed
+
+  pub follow-call : (it : Call) (ended : Outcome) (old new : List Entry) → Makes it → CallLeft u me it ended old new → W old new
+  follow-call it (outcome.Done r) old new makes left =
+      follow-placed it (outcome.Done r) left.earlier old new (λ nth stream past filed. f.called it (outcome.Done r) nth stream past makes filed) left.placed
+  follow-call it (outcome.Failed e) old new makes left =
+      follow-failed it e old new (λ nth stream past filed. f.called it (outcome.Failed e) nth stream past makes filed) left
 
   pub follow-answered : (it : Call) (told : Answer) (old new : List Entry) → Makes it → CallAnswered u me it told old new → W old new
   follow-answered it (answer.Given r) old new makes left = follow-call it (outcome.Done r) old new makes left
@@ -249,7 +259,8 @@ module _ (u : Setup) (me : ℕ) (Makes : Call → Type 0) (W : List Entry → Li
   follow-unpin : (id : ℕ) (through : Bool) (ended : Outcome) (old new : List Entry) → Makes (call.EndHold id) → ((file : File) (span : Option Range) → Makes (call.Flush file span)) → UnpinLeft u me id through ended old new → W old new
   follow-unpin id false ended old new ends flushes left = follow-call (call.EndHold id) ended old new ends left
   follow-unpin id true ended old new ends flushes left =
-      f.joins old left.0 new (follow-placed (call.EndHold id) (outcome.Done reply.Unit) left.2.done.earlier old left.0 ends left.2.done.placed)
+      f.joins old left.0 new
+      (follow-placed (call.EndHold id) (outcome.Done reply.Unit) left.2.done.earlier old left.0 (λ nth stream past filed. f.called (call.EndHold id) (outcome.Done reply.Unit) nth stream past ends filed) left.2.done.placed)
       (follow-call (call.Flush left.1.file _) ended left.0 new (flushes left.1.file _) left.3)
 
   follow-on-hold : (hold : Option ℕ) (Left : ℕ → Answer → List Entry → List Entry → Type 0) (told : Answer) (old new : List Entry) → ((id : ℕ) → Left id told old new → W old new) → OnHold me hold Left told old new → W old new
@@ -259,6 +270,10 @@ module _ (u : Setup) (me : ℕ) (Makes : Call → Type 0) (W : List Entry → Li
   follow-hold-line : (bindings : List Binding) (word : ℕ) (of_kind : HoldKind → Bool) (call_on : ℕ → Call) (told : Answer) (old new : List Entry) → ((id : ℕ) → Makes (call_on id)) → HoldLine u me bindings word of_kind call_on told old new → W old new
   follow-hold-line bindings word of_kind call_on told old new makes left =
       follow-on-hold (hold_named bindings word of_kind) (λ id. CallAnswered u me (call_on id)) told old new (λ id one. follow-answered (call_on id) told old new (makes id) one) left
+
+  follow-refused-hold : (bindings : List Binding) (word : ℕ) (of_kind : HoldKind → Bool) (call_on : ℕ → Call) (e : CcError) (old new : List Entry) → ((it : Call) (e : CcError) → SaysOf it (outcome.Failed e)) → HoldLine u me bindings word of_kind call_on (answer.Refused e) old new → W old new
+  follow-refused-hold bindings word of_kind call_on e old new says left =
+      follow-on-hold (hold_named bindings word of_kind) (λ id. CallAnswered u me (call_on id)) (answer.Refused e) old new (λ id one. follow-failed (call_on id) e old new (says (call_on id) e) one) left
 
   follow-held-read : (bindings : List Binding) (word at len : ℕ) (mapped : Option ℕ) (told : Answer) (old new : List Entry) → ((id : ℕ) → Makes (call.MappedRead id at len)) → ((id : ℕ) → Makes (call.PinnedRead id at len)) → HeldReadBy u me bindings word at len mapped told old new → W old new
   follow-held-read bindings word at len (Some id) told old new maps pins left = follow-answered (call.MappedRead id at len) told old new (maps id) left
@@ -889,3 +904,19 @@ module _ (u : Setup) (me : ℕ) (Makes : Call → Type 0) (W : List Entry → Li
   follow-served bindings action.Complete told old new admits left = follow-completed admits told old new left
   follow-served bindings action.Tick told old new admits left = follow-tick told old new left
   follow-served bindings other told old new admits left = absurd left
+
+  -- a line of one call, or of one append, that was refused
+  pub follow-refused : (bindings : List Binding) (asked : Action) (told : Answer) (old new : List Entry) → (is_one_call asked && was_refused told) ≡ true → ((it : Call) (e : CcError) → SaysOf it (outcome.Failed e)) → Served u me bindings asked told old new → W old new
+  follow-refused bindings (action.Uninitialise file truncate) (answer.Refused e) old new is says left = follow-failed (call.Uninitialise file truncate) e old new (says (call.Uninitialise file truncate) e) left
+  follow-refused bindings (action.CopyWrite file at bytes) (answer.Refused e) old new is says left = follow-failed (call.CopyWrite file at bytes) e old new (says (call.CopyWrite file at bytes) e) left
+  follow-refused bindings (action.Zero file span) (answer.Refused e) old new is says left = follow-failed (call.Zero file span) e old new (says (call.Zero file span) e) left
+  follow-refused bindings (action.PreparePin file at len word zeroed exclusive) (answer.Refused e) old new is says left =
+      follow-failed (call.PreparePin file at len zeroed exclusive) e old new (says (call.PreparePin file at len zeroed exclusive) e) left
+  follow-refused bindings (action.PinnedWrite word at bytes) (answer.Refused e) old new is says left = follow-refused-hold bindings word is_pin (λ id. call.PinnedWrite id at bytes) e old new says left
+  follow-refused bindings (action.MdlStore word at bytes) (answer.Refused e) old new is says left = follow-refused-hold bindings word is_write_chain (λ id. call.MdlStore id at bytes) e old new says left
+  follow-refused bindings (action.SetDirty word lsn) (answer.Refused e) old new is says left = follow-refused-hold bindings word is_pin (λ id. call.SetDirty id lsn) e old new says left
+  follow-refused bindings (action.SetSizes file allocation size) (answer.Refused e) old new is says left = follow-failed (call.SetSizes file allocation size) e old new (says (call.SetSizes file allocation size) e) left
+  follow-refused bindings (action.Discard file span) (answer.Refused e) old new is says left = follow-failed (call.Discard file span) e old new (says (call.Discard file span) e) left
+  follow-refused bindings (action.SetLog file handle) (answer.Refused e) old new is says left = follow-failed (call.SetLog file handle) e old new (says (call.SetLog file handle) e) left
+  follow-refused bindings (action.Append handle bytes) (answer.Refused e) old new is says left = follow-append-refused handle e old new left
+  follow-refused bindings asked told old new is says left = absurd (cc is)

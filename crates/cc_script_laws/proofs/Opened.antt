@@ -188,7 +188,7 @@ module _ (u : Setup) (s : ℕ) (sizes : FileSizes) where
 -- ---- what follows where all entries are such
 
 -- whether a call initialises
-abbrev is_opening : Call → Bool
+abbrev pub is_opening : Call → Bool
 is_opening (call.Initialise file sizes quota temporary) = true
 is_opening other = false
 
@@ -200,7 +200,7 @@ had-same pass (call.PreparePin file at len false exclusive) reply h not_one = re
 had-same pass other reply h not_one = refl
 
 -- an effect that is no call changes nothing of it
-had-effect : (e : Entry) (past : List Entry) (s : ℕ) (o : Option Effect) → effect_of e s ≡ o → ((pass : ℕ) (it : Call) (reply : Reply) → o ≡ Some (Did pass it reply) → is_opening it ≡ false) → had_map (history (e ∷ past) s) ≡ had_map (history past s)
+pub had-effect : (e : Entry) (past : List Entry) (s : ℕ) (o : Option Effect) → effect_of e s ≡ o → ((pass : ℕ) (it : Call) (reply : Reply) → o ≡ Some (Did pass it reply) → is_opening it ≡ false) → had_map (history (e ∷ past) s) ≡ had_map (history past s)
 unfolding had_map
 had-effect e past s None is none = ap had_map (history-effect e past s None is)
 had-effect e past s (Some (Did pass it reply)) is none = ap had_map (history-effect e past s _ is) ∙ had-same pass it reply (history past s) (none pass it reply refl)

@@ -1,21 +1,18 @@
 -- The phases of a run, of which those with a checkpoint of the log have one caller: behind each phase every recorded update is set dirty,
 -- and each entry keeps the form.
-use Rattle.std.specs.Prelude.{◌≡◌, ◌≢◌, ℕ, zero, suc, ◌+◌, ◌==◌, ◌&&◌, ◌||◌, Bool, true, false, List, [], ◌∷◌, ◌++◌, length, slice_get, take, drop, refl, ◌⊎◌, if◌then◌else◌}
+use Rattle.std.specs.Prelude.{◌≡◌, ◌≢◌, ℕ, zero, suc, ◌+◌, ◌==◌, ◌&&◌, ◌||◌, Bool, true, false, List, [], ◌∷◌, ◌++◌, length, take, drop, refl, ◌⊎◌}
 use Rattle.std.specs.List.{AllByRecursion, list_any}
 use Rattle.std.specs.declared.option.Option.TheVariants.{Some}
 use Rattle.std.proofs.Common.{ap, arith, sym, subst, ◌∙◌, inl, inr}
 use Rattle.std.proofs.lemmas.Bool.{and_parts, eqb-false, eqb-true, ne_eqb, or_parts}
 use Rattle.cc_entry.specs.declared.answer.Answer.{Answer}
-use Rattle.cc_entry.specs.declared.answer.Answer.TheVariants as answer
 use Rattle.cc_entry.specs.declared.answer.LineReply.{LineReply}
 use Rattle.cc_entry.specs.declared.entry.Entry.{Entry}
 use Rattle.cc_entry.specs.declared.place.Request.{Request}
-use Rattle.cc_entry.specs.declared.reply.Reply.TheVariants as reply
 use Rattle.cc_script.specs.Checkpoints.{CheckpointsStandApart, StandApart, is_checkpoint}
 use Rattle.cc_script.specs.declared.script.Action.{Action}
 use Rattle.cc_script.specs.declared.script.Action.TheVariants as action
 use Rattle.cc_script.specs.declared.script.ActionLine.{ActionLine}
-use Rattle.cc_script.specs.declared.script.StreamLine.{StreamLine}
 use Rattle.cc_model.specs.Good.{IsGoodSoFar}
 use Rattle.cc_model.specs.History.{history}
 use Rattle.cc_model.specs.Objects.{had_map}
@@ -34,13 +31,14 @@ use Rattle.cc_pieces.specs.Explained.{Answered, Given, IsExplained}
 use Rattle.cc_pieces.specs.Phases.{PhaseRan, PhasesRan, Plan, is_of_phase, lazy_writer, limit_in, lines_before, lines_in, read_ahead_worker}
 use Rattle.cc_pieces.specs.Runs.{Ran, asked_of, bindings_of}
 use Rattle.cc_pieces.specs.Served.{bindings_after}
-use Rattle.cc_script_laws.specs.Lines.{IsKnownAt, IsUnwanting, checkpoints, leaves_to_updates}
+use Rattle.cc_script_laws.specs.Lines.{IsKnownAt, IsUnwanting, checkpoints, left_to_updates}
+use Rattle.cc_script_laws.specs.Told.{initialises}
 use Rattle.cc_script_laws.proofs.BesideLines.{Beside, beside-idle, beside-served, beside-step, beside-then, beside-tick}
 use Rattle.cc_script_laws.proofs.Growing.{seen-none}
 use Rattle.cc_script_laws.proofs.Numbered.{ended-long, setup-long}
 use Rattle.cc_script_laws.proofs.RecordsNone.{none-follows, none-opened, none-step, none-tick, others-none}
-use Rattle.cc_script_laws.proofs.RunWalks.{follow-restarts, ran-steps, ran-ticks}
-use Rattle.cc_script_laws.proofs.Scripts.{begun-had, begun-keeps, begun-logged, nil-cons, updated-by}
+use Rattle.cc_script_laws.proofs.RunWalks.{asked-all, follow-restarts, ran-steps, ran-ticks}
+use Rattle.cc_script_laws.proofs.Scripts.{nil-cons, updated-by}
 use Rattle.cc_script_laws.proofs.Settles.{phases-grow}
 use Rattle.cc_script_laws.proofs.Stamps.{Stamps, stamped-all, stamped-each, stamps-by, stamps-idle, stamps-served, stamps-then}
 use Rattle.cc_script_laws.proofs.Stamping.{Alone, IsInvariant, StampedIf, stamped-invariant, alone-idle, alone-served, alone-then}
@@ -156,16 +154,6 @@ caller-of log phase lines apart has = go (one.caller == lazy_writer) refl (one.c
 
 -- ---- what is known of the lines of a caller
 
-asked-all : (A : ActionLine → Type 0) (B C : Action × Answer → Type 0) (test : ActionLine → Bool) (joined : (line : ActionLine) (told : Answer) → test line ≡ true → A line → B (line.action, told) → C (line.action, told)) (lines : List ActionLine) (replies : List LineReply) →
-    AllByRecursion A lines → AllByRecursion B (asked_of (λ line. true) lines replies) → AllByRecursion C (asked_of test lines replies)
-asked-all A B C test joined [] replies a b = tt
-asked-all A B C test joined (line ∷ lines) [] a b = tt
-asked-all A B C test joined (line ∷ lines) (reply ∷ replies) a b = go (test line) refl (asked-all A B C test joined lines replies a.1 b.1)
-  where
-    go : (t : Bool) → test line ≡ t → AllByRecursion C (asked_of test lines replies) → AllByRecursion C (if t then (line.action, reply.answer) ∷ asked_of test lines replies else asked_of test lines replies)
-    go true passes rest = (joined line reply.answer passes a.0 b.0, rest)
-    go false fails rest = rest
-
 each-none : {A : Type 0} (test : A → Bool) (xs : List A) → AllByRecursion (λ x. list_any test xs ≡ false → test x ≡ false) xs
 each-none {A = A} test [] = tt
 each-none {A = A} test (x ∷ xs) =
@@ -175,28 +163,29 @@ each-none {A = A} test (x ∷ xs) =
     further [] all more = tt
     further (y ∷ ys) all more = ((λ none. all.0 (more none)), further ys all.1 more)
 
--- both of each line
-pub both-of : (A B : ActionLine → Type 0) (lines : List ActionLine) → AllByRecursion A lines → AllByRecursion B lines → AllByRecursion (λ each. A each × B each) lines
+-- both of each
+pub both-of : {T : Type 0} (A B : T → Type 0) (xs : List T) → AllByRecursion A xs → AllByRecursion B xs → AllByRecursion (λ (x : T). A x × B x) xs
 both-of A B [] a b = tt
-both-of A B (line ∷ lines) a b = ((a.0, b.0), both-of A B lines a.1 b.1)
+both-of A B (x ∷ xs) a b = ((a.0, b.0), both-of A B xs a.1 b.1)
 
 -- ---- the lines of a pass in a phase without a checkpoint
 
--- lines that leave the stream to its updates, each answered so, and what they left
+-- lines that left the stream to its updates, each answered so, and what they left
 pub record RanLines (u : Setup) (s log : ℕ) (Line : Action → Answer → Type 0) (me : ℕ) (old new : List Entry) : Type 0 where
   pub limit : ℕ
   pub bindings : List Binding
   pub lines : List (Action × Answer)
-  pub each : AllByRecursion (λ (each : Action × Answer). (leaves_to_updates s log each.0 ≡ true) × Line each.0 each.1) lines
+  pub each : AllByRecursion (λ (each : Action × Answer). (left_to_updates s log each.0 each.1 ≡ true) × Line each.0 each.1) lines
   pub ran : Ran u limit me bindings lines old new
 
 -- a pass recorded no update, or ran such lines
 abbrev pub LinesOf : Setup → ℕ → ℕ → (Action → Answer → Type 0) → ℕ → List Entry → List Entry → Type 0
 LinesOf u s log Line me old new = RecordsNone s log me old new ⊎ RanLines u s log Line me old new
 
-module _ (u : Setup) (given : Given) (told : Answered) (taken : List Request) (past : List Entry) (is : IsExplained u given told taken past) (good : IsGoodSoFar u past) (s log : ℕ) (stream : StreamLine) (line : LineReply)
-    (at : slice_get given.streams s ≡ Some stream) (answered : slice_get told.replies (length given.restarts + s) ≡ Some line) (logged : stream.log ≡ Some log) (done : line.answer ≡ answer.Given reply.Unit)
-    (leaves : AllByRecursion (λ (each : ActionLine). leaves_to_updates s log each.action ≡ true) given.lines) (apart : CheckpointsStandApart given.lines)
+module _ (u : Setup) (given : Given) (told : Answered) (taken : List Request) (past : List Entry) (is : IsExplained u given told taken past) (good : IsGoodSoFar u past) (s log : ℕ) (opened : Type 0) (has_opened : opened → had_map (history is.begun s) ≡ true)
+    (has_log : (log_of (history is.begun s) ≡ Some log) ⊎ (had_map (history past s) ≡ false)) (begun_keeps : (me : ℕ) → KeepsAll s log me [] is.begun)
+    (opens : AllByRecursion (λ (each : ActionLine). opened ⊎ (initialises s each.action ≡ false)) given.lines)
+    (leaves : AllByRecursion (λ (each : Action × Answer). left_to_updates s log each.0 each.1 ≡ true) (asked_of (λ line. true) given.lines is.answers)) (apart : CheckpointsStandApart given.lines)
     (known : AllByRecursion (λ (each : ActionLine). checkpoints log each.action ≡ true → IsKnownAt s log each.caller past) given.lines) (Line : Action → Answer → Type 0) (told_so : AllByRecursion (λ (each : Action × Answer). Line each.0 each.1) (asked_of (λ each. true) given.lines is.answers)) (Inv : List Entry → Type 0)
     (fit : (front : List Entry) → HasSeen front past → RowsFit log front)
     (alone_keeps : (me : ℕ) (base end : List Entry) → HasSeen is.begun base → HasSeen end past → OthersRecordNone s log me base end → IsInvariant u past s log me base end Inv Line)
@@ -204,18 +193,13 @@ module _ (u : Setup) (given : Given) (told : Answered) (taken : List Request) (p
   abbrev plan : Plan
   plan = record { lines = given.lines; answers = is.answers; ticks = given.ticks; aheads = given.aheads }
 
-  has_map : had_map (history is.begun s) ≡ true
-  has_map = begun-had u given told taken past is good s log stream line at answered logged done
-
-  has_log : log_of (history is.begun s) ≡ Some log
-  has_log = begun-logged u given told taken past is good s log stream line at answered logged done
-
   abbrev Behind : ℕ → List Entry → List Entry → Type 0
-  Behind me old new = Beside u past good s log is.begun (Unit {0}) (λ was. has_map) me old new
+  Behind me old new = Beside u past good s log is.begun opened has_opened me old new
 
   -- a line of a caller in a phase, of which this is known
   record IsFit (phase me : ℕ) (each : Action × Answer) : Type 0 where
-    leaves_it : leaves_to_updates s log each.0 ≡ true
+    leaves_it : left_to_updates s log each.0 each.1 ≡ true
+    may : opened ⊎ (initialises s each.0 ≡ false)
     its_line : Line each.0 each.1
     known_at : checkpoints log each.0 ≡ true → IsKnownAt s log me past
     silent : list_any (is_one_of log phase) given.lines ≡ false → checkpoints log each.0 ≡ false
@@ -223,16 +207,17 @@ module _ (u : Setup) (given : Given) (told : Answered) (taken : List Request) (p
   fits : (phase me : ℕ) → AllByRecursion (IsFit phase me) (lines_in plan phase me)
   fits phase me =
       asked-all
-      (λ (each : ActionLine). ((leaves_to_updates s log each.action ≡ true) × (checkpoints log each.action ≡ true → IsKnownAt s log each.caller past)) × (list_any (is_one_of log phase) given.lines ≡ false → is_one_of log phase each ≡ false))
-      (λ each. Line each.0 each.1) (IsFit phase me) (is_of_phase phase me)
+      (λ (each : ActionLine). ((checkpoints log each.action ≡ true → IsKnownAt s log each.caller past) × (opened ⊎ (initialises s each.action ≡ false))) × (list_any (is_one_of log phase) given.lines ≡ false → is_one_of log phase each ≡ false))
+      (λ each. (left_to_updates s log each.0 each.1 ≡ true) × Line each.0 each.1) (IsFit phase me) (is_of_phase phase me)
       (λ each answer_of mine a b.
       let parts = and_parts (each.caller == me) (each.phase == phase) mine in
       record {
-        leaves_it = a.0.0;
-        its_line = b;
-        known_at = λ of_log. subst (λ (n : ℕ). IsKnownAt s log n past) (eqb-true each.caller me parts.0) (a.0.1 of_log);
+        leaves_it = b.0;
+        may = a.0.1;
+        its_line = b.1;
+        known_at = λ of_log. subst (λ (n : ℕ). IsKnownAt s log n past) (eqb-true each.caller me parts.0) (a.0.0 of_log);
         silent = λ none. quiet (each.phase == phase) (checkpoints log each.action) parts.1 (a.1 none);
-      }) given.lines is.answers (both-of _ _ given.lines (both-of _ _ given.lines leaves known) (nones given.lines)) told_so
+      }) given.lines is.answers (both-of _ _ given.lines (both-of _ _ given.lines known opens) (nones given.lines)) (both-of _ _ (asked_of (λ line. true) given.lines is.answers) leaves told_so)
     where
       quiet : (a b : Bool) → a ≡ true → (a && b) ≡ false → b ≡ false
       quiet true b is none = none
@@ -255,16 +240,16 @@ module _ (u : Setup) (given : Given) (told : Answered) (taken : List Request) (p
       where
         ticks : Behind lazy_writer old new
         ticks =
-            ran-ticks u Behind (beside-idle u past good s log is.begun (Unit {0}) (λ was. has_map)) (beside-then u past good s log is.begun (Unit {0}) (λ was. has_map)) (beside-tick u past good s log is.begun (Unit {0}) (λ was. has_map) has_log tt)
-            (beside-step u past good s log is.begun (Unit {0}) (λ was. has_map) has_log tt) 32 phase ticked old new ran.ticks
+            ran-ticks u Behind (beside-idle u past good s log is.begun opened has_opened) (beside-then u past good s log is.begun opened has_opened) (beside-tick u past good s log is.begun opened has_opened)
+            (beside-step u past good s log is.begun opened has_opened) 32 phase ticked old new ran.ticks
 
     worker-behind : KeepsAll s log read_ahead_worker old new
     worker-behind = steps.1 since to (none read_ahead_worker)
       where
         steps : Behind read_ahead_worker old new
         steps =
-            ran-steps u Behind (beside-idle u past good s log is.begun (Unit {0}) (λ was. has_map)) (beside-then u past good s log is.begun (Unit {0}) (λ was. has_map)) (beside-tick u past good s log is.begun (Unit {0}) (λ was. has_map) has_log tt)
-            (beside-step u past good s log is.begun (Unit {0}) (λ was. has_map) has_log tt) 32 phase stepped requests old new ran.steps
+            ran-steps u Behind (beside-idle u past good s log is.begun opened has_opened) (beside-then u past good s log is.begun opened has_opened) (beside-tick u past good s log is.begun opened has_opened)
+            (beside-step u past good s log is.begun opened has_opened) 32 phase stepped requests old new ran.steps
 
     writer-none : RecordsNone s log lazy_writer old new
     writer-none = ran-ticks u (λ n. RecordsNone s log n) (none-idle s log) (none-then s log) (none-tick u s log) (none-step u s log) 32 phase ticked old new ran.ticks
@@ -299,13 +284,13 @@ module _ (u : Setup) (given : Given) (told : Answered) (taken : List Request) (p
       invariant = alone_keeps one.caller old new since to others
 
       abbrev Mine : List Entry → List Entry → Type 0
-      Mine first last = Alone u past good s log is.begun has_map has_log one.caller old new since to others fit Inv Line invariant first last
+      Mine first last = Alone u past good s log is.begun opened has_opened has_log one.caller old new since to others fit Inv Line invariant first last
 
       ran-alone : (limit : ℕ) (bindings : List Binding) (lines : List (Action × Answer)) (first last : List Entry) → AllByRecursion (IsFit phase one.caller) lines → Ran u limit one.caller bindings lines first last → Mine first last
-      ran-alone limit bindings [] first last fit_all run = alone-idle u past good s log is.begun has_map has_log one.caller old new since to others fit Inv Line invariant first last run
+      ran-alone limit bindings [] first last fit_all run = alone-idle u past good s log is.begun opened has_opened has_log one.caller old new since to others fit Inv Line invariant first last run
       ran-alone limit bindings (each ∷ more) first last fit_all run =
-          alone-then u past good s log is.begun has_map has_log one.caller old new since to others fit Inv Line invariant first run.0 last
-          (alone-served u past good s log is.begun has_map has_log one.caller old new since to others fit Inv Line invariant bindings each.0 each.1 first run.0 fit_all.0.leaves_it fit_all.0.its_line fit_all.0.known_at run.1.served)
+          alone-then u past good s log is.begun opened has_opened has_log one.caller old new since to others fit Inv Line invariant first run.0 last
+          (alone-served u past good s log is.begun opened has_opened has_log one.caller old new since to others fit Inv Line invariant bindings each.0 each.1 first run.0 fit_all.0.leaves_it fit_all.0.may fit_all.0.its_line fit_all.0.known_at run.1.served)
           (ran-alone limit (bindings_after each.0 each.1 bindings) more run.0 last fit_all.1 run.2)
 
       mine : Mine old new
@@ -330,10 +315,10 @@ module _ (u : Setup) (given : Given) (told : Answered) (taken : List Request) (p
       keeps-caller me writer worker = (ran-beside (limit_in plan phase) (bindings_of [] (lines_before plan phase me)) (lines_in plan phase me) old new (fits phase me) (ran.callers me writer worker)).1 since to (none me)
         where
           ran-beside : (limit : ℕ) (bindings : List Binding) (lines : List (Action × Answer)) (first last : List Entry) → AllByRecursion (IsFit phase me) lines → Ran u limit me bindings lines first last → Behind me first last
-          ran-beside limit bindings [] first last fit_all run = beside-idle u past good s log is.begun (Unit {0}) (λ was. has_map) me first last run
+          ran-beside limit bindings [] first last fit_all run = beside-idle u past good s log is.begun opened has_opened me first last run
           ran-beside limit bindings (each ∷ more) first last fit_all run =
-              beside-then u past good s log is.begun (Unit {0}) (λ was. has_map) me first run.0 last
-              (beside-served u past good s log is.begun (Unit {0}) (λ was. has_map) has_log tt me bindings each.0 each.1 first run.0 (fit_all.0.leaves_it, fit_all.0.silent silent) run.1.served)
+              beside-then u past good s log is.begun opened has_opened me first run.0 last
+              (beside-served u past good s log is.begun opened has_opened me bindings each.0 each.1 first run.0 (fit_all.0.leaves_it, fit_all.0.silent silent, fit_all.0.may) run.1.served)
               (ran-beside limit (bindings_after each.0 each.1 bindings) more run.0 last fit_all.1 run.2)
 
       grown : HasSeen old new
@@ -342,7 +327,7 @@ module _ (u : Setup) (given : Given) (told : Answered) (taken : List Request) (p
       lines-of : (me : ℕ) → LinesOf u s log Line me old new
       lines-of = by-pass (λ n. LinesOf u s log Line n old new) (inl writer-none) (inl worker-none) (λ n writer worker. inr (ran-of n (ran.callers n writer worker)))
         where
-          all-of : (me : ℕ) (lines : List (Action × Answer)) → AllByRecursion (IsFit phase me) lines → AllByRecursion (λ (each : Action × Answer). (leaves_to_updates s log each.0 ≡ true) × Line each.0 each.1) lines
+          all-of : (me : ℕ) (lines : List (Action × Answer)) → AllByRecursion (IsFit phase me) lines → AllByRecursion (λ (each : Action × Answer). (left_to_updates s log each.0 each.1 ≡ true) × Line each.0 each.1) lines
           all-of me [] fit_all = tt
           all-of me (each ∷ lines) fit_all = ((fit_all.0.leaves_it, fit_all.0.its_line), all-of me lines fit_all.1)
 
@@ -378,15 +363,12 @@ module _ (u : Setup) (given : Given) (told : Answered) (taken : List Request) (p
   updates-checkpointed =
       updated-by s log past
       (λ me.
-      (all-then s log me [] is.begun past (begun me)
-      (λ now. behind-phases 1 given.phases told.ticked told.stepped taken is.begun past is.ran (seen-none is.begun) (seen-none past) (λ other. (begun other).1) first_held me)).0)
-    where
-      begun : (me : ℕ) → KeepsAll s log me [] is.begun
-      begun me = begun-keeps u given told taken past is good s log stream line at answered logged done me
+      (all-then s log me [] is.begun past (begun_keeps me)
+      (λ now. behind-phases 1 given.phases told.ticked told.stepped taken is.begun past is.ran (seen-none is.begun) (seen-none past) (λ other. (begun_keeps other).1) first_held me)).0)
 
 -- ---- where no update is refused for want
 
-module _ (u : Setup) (given : Given) (told : Answered) (taken : List Request) (past : List Entry) (is : IsExplained u given told taken past) (good : IsGoodSoFar u past) (s log : ℕ) (has_log : log_of (history is.begun s) ≡ Some log) where
+module _ (u : Setup) (given : Given) (told : Answered) (taken : List Request) (past : List Entry) (is : IsExplained u given told taken past) (good : IsGoodSoFar u past) (s log : ℕ) where
   -- no update has a record before the phases
   begun-stamped : AreStamped s log is.begun
   begun-stamped = stamped-over s log 0 [] [] is.begun first (others-none s log 0 [] is.begun (λ me other. none-idle s log me [] is.begun (is.alone me other))) [] refl none-yet
@@ -403,19 +385,19 @@ module _ (u : Setup) (given : Given) (told : Answered) (taken : List Request) (p
   stamped-many old new since to grown each stamped updated =
       stamped-all s log new (λ me. (stamps me (each me)).1 since to updated (stamped-each s log me old (stamped (updated-rest s log grown.later old (subst (IsUpdated s log) grown.grew updated)))))
     where
-      run : (me limit : ℕ) (bindings : List Binding) (lines : List (Action × Answer)) (first last : List Entry) → AllByRecursion (λ (each : Action × Answer). (leaves_to_updates s log each.0 ≡ true) × IsUnwanting s each.0 each.1) lines → Ran u limit me bindings lines first last → Stamps u past good s log is.begun has_log me first last
-      run me limit bindings [] first last fit_all ran = stamps-idle u past good s log is.begun has_log me first last ran
+      run : (me limit : ℕ) (bindings : List Binding) (lines : List (Action × Answer)) (first last : List Entry) → AllByRecursion (λ (each : Action × Answer). (left_to_updates s log each.0 each.1 ≡ true) × IsUnwanting s each.0 each.1) lines → Ran u limit me bindings lines first last → Stamps u past good s log is.begun me first last
+      run me limit bindings [] first last fit_all ran = stamps-idle u past good s log is.begun me first last ran
       run me limit bindings (one ∷ more) first last fit_all ran =
-          stamps-then u past good s log is.begun has_log me first ran.0 last (stamps-served u past good s log is.begun has_log me bindings one.0 one.1 first ran.0 fit_all.0.0 fit_all.0.1 ran.1.served)
+          stamps-then u past good s log is.begun me first ran.0 last (stamps-served u past good s log is.begun me bindings one.0 one.1 first ran.0 fit_all.0.0 fit_all.0.1 ran.1.served)
           (run me limit (bindings_after one.0 one.1 bindings) more ran.0 last fit_all.1 ran.2)
 
-      stamps : (me : ℕ) → LinesOf u s log (IsUnwanting s) me old new → Stamps u past good s log is.begun has_log me old new
-      stamps me (inl none) = stamps-by u past good s log is.begun has_log me old new grown none
+      stamps : (me : ℕ) → LinesOf u s log (IsUnwanting s) me old new → Stamps u past good s log is.begun me old new
+      stamps me (inl none) = stamps-by u past good s log is.begun me old new grown none
       stamps me (inr k) = run me k.limit k.bindings k.lines old new k.each k.ran
 
   pub stamped-phases : (leaves_alone : (alone_keeps : (me : ℕ) (base end : List Entry) → HasSeen is.begun base → HasSeen end past → OthersRecordNone s log me base end → IsInvariant u past s log me base end (StampedIf s log) (IsUnwanting s)) →
       ((old new : List Entry) → HasSeen is.begun old → HasSeen new past → HasSeen old new → ((me : ℕ) → LinesOf u s log (IsUnwanting s) me old new) → StampedIf s log old → StampedIf s log new) → StampedIf s log is.begun → IsUpdated s log past) → IsUpdated s log past
-  stamped-phases run = run (λ me base end since to others. stamped-invariant u past good s log is.begun has_log me base end since to others) stamped-many (λ updated. begun-stamped)
+  stamped-phases run = run (λ me base end since to others. stamped-invariant u past good s log me base end to others) stamped-many (λ updated. begun-stamped)
 
 -- the answers of the lines, behind those of the restarts and of the streams
 dropped : {A : Type 0} (xs ys : List A) (n : ℕ) → length xs ≡ n → drop n (xs ++ ys) ≡ ys
@@ -429,9 +411,3 @@ answers-are u given told taken past is =
     ap (λ (l : List LineReply). drop (length given.streams) (drop (length given.restarts) l)) is.replies_are
     ∙ (ap (λ (l : List LineReply). drop (length given.streams) l) (dropped is.ended (is.setup ++ is.answers) (length given.restarts) (ended-long u given told taken past is))
     ∙ dropped is.setup is.answers (length given.streams) (setup-long u given told taken past is))
-
--- ---- where each table finds the recorded updates set dirty
-
-pub untold : (lines : List (Action × Answer)) → AllByRecursion (λ (each : Action × Answer). Unit {0}) lines
-untold [] = tt
-untold (each ∷ lines) = (tt, untold lines)

@@ -153,6 +153,21 @@ module _ (u : Setup) (Makes : Call → Type 0) (W : List Entry → List Entry �
 
 -- ---- phases
 
+pub all-unit : {A : Type 0} (xs : List A) → AllByRecursion (λ (x : A). Unit {0}) xs
+all-unit [] = tt
+all-unit (x ∷ xs) = (tt, all-unit xs)
+
+-- what is known of each line that passes a test, by what is known of it and of its answer
+pub asked-all : (A : ActionLine → Type 0) (B C : Action × Answer → Type 0) (test : ActionLine → Bool) (joined : (line : ActionLine) (told : Answer) → test line ≡ true → A line → B (line.action, told) → C (line.action, told)) (lines : List ActionLine) (replies : List LineReply) →
+    AllByRecursion A lines → AllByRecursion B (asked_of (λ line. true) lines replies) → AllByRecursion C (asked_of test lines replies)
+asked-all A B C test joined [] replies a b = tt
+asked-all A B C test joined (line ∷ lines) [] a b = tt
+asked-all A B C test joined (line ∷ lines) (reply ∷ replies) a b = go (test line) refl (asked-all A B C test joined lines replies a.1 b.1)
+  where
+    go : (t : Bool) → test line ≡ t → AllByRecursion C (asked_of test lines replies) → AllByRecursion C (if t then (line.action, reply.answer) ∷ asked_of test lines replies else asked_of test lines replies)
+    go true passes rest = (joined line reply.answer passes a.0 b.0, rest)
+    go false fails rest = rest
+
 module _ (u : Setup) (W : ℕ → List Entry → List Entry → Type 0) (idle : (me : ℕ) (old new : List Entry) → IsIdle me old new → W me old new)
     (joins : (me : ℕ) (old between new : List Entry) → W me old between → W me between new → W me old new) where
   -- what pass 0 did before the phases, where nobody else placed anything
@@ -175,37 +190,37 @@ module _ (u : Setup) (W : ℕ → List Entry → List Entry → Type 0) (idle : 
     ran-steps limit phase (reply ∷ replies) taken old new ran =
         joins read_ahead_worker old ran.0 new (steps ran.1 reply.answer old ran.0 ran.5) (ran-steps limit phase replies ran.2 ran.0 new ran.8)
 
-    module _ (Fits : Action → Type 0) (serves : (me : ℕ) (bindings : List Binding) (asked : Action) (told : Answer) (old new : List Entry) → Fits asked → Served u me bindings asked told old new → W me old new) where
-      ran-lines : (limit me : ℕ) (bindings : List Binding) (lines : List (Action × Answer)) (old new : List Entry) → AllByRecursion (λ line. Fits line.0) lines → Ran u limit me bindings lines old new → W me old new
+    module _ (Fits : Action → Answer → Type 0) (serves : (me : ℕ) (bindings : List Binding) (asked : Action) (told : Answer) (old new : List Entry) → Fits asked told → Served u me bindings asked told old new → W me old new) where
+      ran-lines : (limit me : ℕ) (bindings : List Binding) (lines : List (Action × Answer)) (old new : List Entry) → AllByRecursion (λ (line : Action × Answer). Fits line.0 line.1) lines → Ran u limit me bindings lines old new → W me old new
       ran-lines limit me bindings [] old new fit ran = idle me old new ran
       ran-lines limit me bindings (line ∷ more) old new fit ran =
           joins me old ran.0 new (serves me bindings line.0 line.1 old ran.0 fit.0 ran.1.served)
           (ran-lines limit me (bindings_after line.0 line.1 bindings) more ran.0 new fit.1 ran.2)
 
-      asked-fit : (test : ActionLine → Bool) (lines : List ActionLine) (replies : List LineReply) → AllByRecursion (λ line. Fits line.action) lines → AllByRecursion (λ (line : Action × Answer). Fits line.0) (asked_of test lines replies)
-      asked-fit test [] replies all = tt
-      asked-fit test (line ∷ lines) [] all = tt
-      asked-fit test (line ∷ lines) (reply ∷ replies) all = by (test line) (asked-fit test lines replies all.1)
-        where
-          by : (b : Bool) → AllByRecursion (λ (each : Action × Answer). Fits each.0) (asked_of test lines replies) → AllByRecursion (λ (each : Action × Answer). Fits each.0) (if b then (line.action, reply.answer) ∷ asked_of test lines replies else asked_of test lines replies)
-          by true rest = (all.0, rest)
-          by false rest = rest
+      module _ (plan : Plan) (fit : AllByRecursion (λ (line : Action × Answer). Fits line.0 line.1) (asked_of (λ line. true) plan.lines plan.answers)) where
+        fit-in : (phase me : ℕ) → AllByRecursion (λ (line : Action × Answer). Fits line.0 line.1) (lines_in plan phase me)
+        fit-in phase me =
+            asked-all (λ line. Unit {0}) (λ line. Fits line.0 line.1) (λ line. Fits line.0 line.1) (is_of_phase phase me) (λ line told passes a b. b) plan.lines plan.answers (all-unit plan.lines) fit
 
-      module _ (plan : Plan) (fit : AllByRecursion (λ line. Fits line.action) plan.lines) where
         ran-phase : (phase : ℕ) (ticked stepped : List LineReply) (taken : List Request) (old new : List Entry) → PhaseRan u plan phase ticked stepped taken old new → (me : ℕ) → W me old new
         ran-phase phase ticked stepped taken old new ran me = lazy (me == lazy_writer) refl
           where
             ahead : (b : Bool) → (me == read_ahead_worker) ≡ b → me ≢ lazy_writer → W me old new
             ahead true is other = rw (eqb-true me read_ahead_worker is) (ran-steps 32 phase stepped taken old new ran.steps)
-            ahead false is other =
-                ran-lines _ me _ (lines_in plan phase me) old new (asked-fit (is_of_phase phase me) plan.lines plan.answers fit)
-                (ran.callers me other (eqb-false me read_ahead_worker is))
+            ahead false is other = ran-lines _ me _ (lines_in plan phase me) old new (fit-in phase me) (ran.callers me other (eqb-false me read_ahead_worker is))
 
             lazy : (b : Bool) → (me == lazy_writer) ≡ b → W me old new
             lazy true is = rw (eqb-true me lazy_writer is) (ran-ticks 32 phase ticked old new ran.ticks)
             lazy false is = ahead (me == read_ahead_worker) refl (eqb-false me lazy_writer is)
 
-        pub ran-phases : (phase left : ℕ) (ticked stepped : List LineReply) (taken : List Request) (old new : List Entry) → PhasesRan u plan phase left ticked stepped taken old new → (me : ℕ) → W me old new
-        ran-phases phase zero ticked stepped taken old new ran me = idle me old new (record { during = []; grew = ran.3; others = tt })
-        ran-phases phase (suc left) ticked stepped taken old new ran me =
-            joins me old ran.0 new (ran-phase phase _ _ _ old ran.0 ran.3 me) (ran-phases (suc phase) left _ _ _ ran.0 new ran.4 me)
+        pub ran-answered : (phase left : ℕ) (ticked stepped : List LineReply) (taken : List Request) (old new : List Entry) → PhasesRan u plan phase left ticked stepped taken old new → (me : ℕ) → W me old new
+        ran-answered phase zero ticked stepped taken old new ran me = idle me old new (record { during = []; grew = ran.3; others = tt })
+        ran-answered phase (suc left) ticked stepped taken old new ran me =
+            joins me old ran.0 new (ran-phase phase _ _ _ old ran.0 ran.3 me) (ran-answered (suc phase) left _ _ _ ran.0 new ran.4 me)
+
+    -- where it is asked of the actions alone
+    pub ran-phases : (Fits : Action → Type 0) → ((me : ℕ) (bindings : List Binding) (asked : Action) (told : Answer) (old new : List Entry) → Fits asked → Served u me bindings asked told old new → W me old new) → (plan : Plan) → AllByRecursion (λ line. Fits line.action) plan.lines →
+        (phase left : ℕ) (ticked stepped : List LineReply) (taken : List Request) (old new : List Entry) → PhasesRan u plan phase left ticked stepped taken old new → (me : ℕ) → W me old new
+    ran-phases Fits serves plan fit =
+        ran-answered (λ asked told. Fits asked) serves plan
+        (asked-all (λ line. Fits line.action) (λ line. Unit {0}) (λ line. Fits line.0) (λ line. true) (λ line told passes a b. a) plan.lines plan.answers fit (all-unit _))

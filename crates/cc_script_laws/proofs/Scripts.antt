@@ -19,7 +19,7 @@ use Rattle.cc_entry.specs.declared.reply.Reply.{Reply}
 use Rattle.cc_entry.specs.declared.reply.Reply.TheVariants as reply
 use Rattle.cc_format.specs.declared.record.StreamRecord.{StreamRecord}
 use Rattle.cc_format.specs.declared.record.StreamRecord.TheVariants.{V1, V2}
-use Rattle.cc_script.specs.declared.script.ActionLine.{ActionLine}
+use Rattle.cc_script.specs.declared.script.Action.{Action}
 use Rattle.cc_script.specs.declared.script.RestartLine.{RestartLine}
 use Rattle.cc_script.specs.declared.script.StreamLine.{StreamLine}
 use Rattle.cc_laws.proofs.HistorySteps.{history-effect}
@@ -39,12 +39,14 @@ use Rattle.cc_pieces.proofs.Grown.{grew-then}
 use Rattle.cc_pieces.specs.Explained.{Answered, Given, IsExplained}
 use Rattle.cc_pieces.specs.Openings.{LoggedOpening, Opened, OpeningBehind, RecordedOpening, StreamOpening, first_object_of}
 use Rattle.cc_pieces.specs.Restarts.{refused_for}
-use Rattle.cc_script_laws.specs.Lines.{checkpoints, leaves_to_updates}
+use Rattle.cc_pieces.specs.Runs.{asked_of}
+use Rattle.cc_script_laws.specs.Lines.{checkpoints, left_to_updates}
+use Rattle.cc_script_laws.specs.Told.{initialises}
 use Rattle.cc_script_laws.proofs.BesideLines.{Beside, beside-follows, beside-idle, beside-served, beside-settle, beside-step, beside-then, beside-tick}
 use Rattle.cc_script_laws.proofs.Growing.{had-seen, seen-none}
 use Rattle.cc_script_laws.proofs.Numbered.{PieceOf, behind-had, piece-at, seen-settle, setup-line}
 use Rattle.cc_script_laws.proofs.Settles.{phases-seen}
-use Rattle.cc_script_laws.proofs.RunWalks.{AllStand, Walked, all-begun, all-stand, follow-behind, follow-restarts, ran-phases}
+use Rattle.cc_script_laws.proofs.RunWalks.{AllStand, Walked, all-begun, all-stand, follow-behind, follow-restarts, ran-answered}
 
 -- ---- the journal has the form, where each entry keeps it
 
@@ -164,18 +166,15 @@ module _ (u : Setup) (whole : List Entry) (good : IsGoodSoFar u whole) (s log : 
 
 -- ---- runs
 
-module _ (u : Setup) (given : Given) (told : Answered) (taken : List Request) (past : List Entry) (is : IsExplained u given told taken past) (good : IsGoodSoFar u past) (s log : ℕ) (stream : StreamLine) (line : LineReply)
-    (at : slice_get given.streams s ≡ Some stream) (answered : slice_get told.replies (length given.restarts + s) ≡ Some line) (logged : stream.log ≡ Some log) (done : line.answer ≡ answer.Given reply.Unit) where
+module _ (u : Setup) (given : Given) (told : Answered) (taken : List Request) (past : List Entry) (is : IsExplained u given told taken past) (good : IsGoodSoFar u past) (s log : ℕ) (stream : StreamLine)
+    (at : slice_get given.streams s ≡ Some stream) (logged : stream.log ≡ Some log) where
   abbrev Before : ℕ → List Entry → List Entry → Type 0
   Before me old new = Beside u past good s log [] ⊥ (λ never. absurd never) me old new
 
-  -- pass 0 keeps the form, and places nothing behind
-  pub begun-keeps : (me : ℕ) → KeepsAll s log me [] is.begun
-  begun-keeps me = (each me).1 (seen-none []) seen_begun (none-at-first s log me)
+  -- what pass 0 did keeps the form, and nobody else did anything
+  before-begun : (n : ℕ) → Before n [] is.begun
+  before-begun n = each n
     where
-      seen_begun : HasSeen is.begun past
-      seen_begun = phases-seen u past good s given told taken is
-
       some-same : (a b : StreamLine) → Some a ≡ Some b → a ≡ b
       some-same a b same = cc same
 
@@ -195,9 +194,27 @@ module _ (u : Setup) (given : Given) (told : Answered) (taken : List Request) (p
       each n =
           all-begun u Before (beside-idle u past good s log [] ⊥ (λ never. absurd never)) (beside-then u past good s log [] ⊥ (λ never. absurd never)) is.begun first is.alone n
 
-  pub begun-updated : IsUpdated s log is.begun
+  pub begun-keeps : (me : ℕ) → KeepsAll s log me [] is.begun
+  begun-keeps me = (before-begun me).1 (seen-none []) (phases-seen u past good s given told taken is) (none-at-first s log me)
+
+  begun-updated : IsUpdated s log is.begun
   begun-updated = updated-by s log is.begun (λ me. (begun-keeps me).0)
 
+  -- where no line of a caller initialises the stream, and none is a checkpoint of the log
+  pub updates-kept : AllByRecursion (λ (each : Action × Answer). (left_to_updates s log each.0 each.1 ≡ true) × (checkpoints log each.0 ≡ false) × (⊥ ⊎ (initialises s each.0 ≡ false))) (asked_of (λ line. true) given.lines is.answers) → IsUpdated s log past
+  updates-kept leaves = updated-by s log past (λ me. ((whole me).1 (seen-none []) (seen-none past) (none-at-first s log me)).0)
+    where
+      whole : (n : ℕ) → Before n [] past
+      whole n =
+          beside-then u past good s log [] ⊥ (λ never. absurd never) n [] is.begun past (before-begun n)
+          (ran-answered u Before (beside-idle u past good s log [] ⊥ (λ never. absurd never)) (beside-then u past good s log [] ⊥ (λ never. absurd never))
+          (beside-tick u past good s log [] ⊥ (λ never. absurd never)) (beside-step u past good s log [] ⊥ (λ never. absurd never))
+          (λ asked told_it. (left_to_updates s log asked told_it ≡ true) × (checkpoints log asked ≡ false) × (⊥ ⊎ (initialises s asked ≡ false))) (beside-served u past good s log [] ⊥ (λ never. absurd never))
+          (record { lines = given.lines; answers = is.answers; ticks = given.ticks; aheads = given.aheads }) leaves 1 given.phases told.ticked told.stepped taken is.begun past is.ran n)
+
+-- of which the stream's line was done
+module _ (u : Setup) (given : Given) (told : Answered) (taken : List Request) (past : List Entry) (is : IsExplained u given told taken past) (good : IsGoodSoFar u past) (s log : ℕ) (stream : StreamLine) (line : LineReply)
+    (at : slice_get given.streams s ≡ Some stream) (answered : slice_get told.replies (length given.restarts + s) ≡ Some line) (logged : stream.log ≡ Some log) (done : line.answer ≡ answer.Given reply.Unit) where
   piece : PieceOf u s stream (refused_for stream.log given.restarts is.ended) (answer.Given reply.Unit) is.restarted is.begun
   piece =
       subst (λ (a : Answer). PieceOf u s stream (refused_for stream.log given.restarts is.ended) a is.restarted is.begun) done
@@ -210,18 +227,18 @@ module _ (u : Setup) (given : Given) (told : Answered) (taken : List Request) (p
   begun-logged =
       let was = set-later u s log stream logged piece.last is.begun piece.until (set-behind u s log stream logged (refused_for stream.log given.restarts is.ended) piece.first piece.last piece.opened) in
       subst (λ (l : List Entry). log_of (history l s) ≡ Some log) (sym was.since.grew)
-      (log-stays s log was.since.later was.moment (subst (IsUpdated s log) was.since.grew begun-updated) was.set)
+      (log-stays s log was.since.later was.moment (subst (IsUpdated s log) was.since.grew (begun-updated u given told taken past is good s log stream at logged)) was.set)
 
   abbrev Behind : ℕ → List Entry → List Entry → Type 0
   Behind me old new = Beside u past good s log is.begun (Unit {0}) (λ was. begun-had) me old new
 
   -- where no line is a checkpoint of the log
-  pub updates-alone : AllByRecursion (λ (each : ActionLine). (leaves_to_updates s log each.action ≡ true) × (checkpoints log each.action ≡ false)) given.lines → IsUpdated s log past
-  updates-alone leaves = updated-by s log past (λ me. (all-then s log me [] is.begun past (begun-keeps me) (λ none. (behind me).1 (seen-none is.begun) (seen-none past) none)).0)
+  pub updates-alone : AllByRecursion (λ (each : Action × Answer). (left_to_updates s log each.0 each.1 ≡ true) × (checkpoints log each.0 ≡ false) × (Unit {0} ⊎ (initialises s each.0 ≡ false))) (asked_of (λ line. true) given.lines is.answers) → IsUpdated s log past
+  updates-alone leaves = updated-by s log past (λ me. (all-then s log me [] is.begun past (begun-keeps u given told taken past is good s log stream at logged me) (λ none. (behind me).1 (seen-none is.begun) (seen-none past) none)).0)
     where
       behind : (n : ℕ) → Behind n is.begun past
       behind n =
-          ran-phases u Behind (beside-idle u past good s log is.begun (Unit {0}) (λ was. begun-had)) (beside-then u past good s log is.begun (Unit {0}) (λ was. begun-had))
-          (beside-tick u past good s log is.begun (Unit {0}) (λ was. begun-had) begun-logged tt) (beside-step u past good s log is.begun (Unit {0}) (λ was. begun-had) begun-logged tt)
-          (λ asked. (leaves_to_updates s log asked ≡ true) × (checkpoints log asked ≡ false)) (beside-served u past good s log is.begun (Unit {0}) (λ was. begun-had) begun-logged tt)
+          ran-answered u Behind (beside-idle u past good s log is.begun (Unit {0}) (λ was. begun-had)) (beside-then u past good s log is.begun (Unit {0}) (λ was. begun-had))
+          (beside-tick u past good s log is.begun (Unit {0}) (λ was. begun-had)) (beside-step u past good s log is.begun (Unit {0}) (λ was. begun-had))
+          (λ asked told_it. (left_to_updates s log asked told_it ≡ true) × (checkpoints log asked ≡ false) × (Unit {0} ⊎ (initialises s asked ≡ false))) (beside-served u past good s log is.begun (Unit {0}) (λ was. begun-had))
           (record { lines = given.lines; answers = is.answers; ticks = given.ticks; aheads = given.aheads }) leaves 1 given.phases told.ticked told.stepped taken is.begun past is.ran n

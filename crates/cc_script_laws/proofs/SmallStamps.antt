@@ -1,6 +1,6 @@
 -- The LSNs with which holds are set dirty in a run whose lines leave a stream to its updates: a line names one below 2^64, and an update
 -- has that of its record.
-use Rattle.std.specs.Prelude.{◌≡◌, ℕ, suc, ◌^◌, ◌<◌, ◌≤◌, true, List, [], ◌∷◌, ◌++◌, length, Result, Ok, Err, refl}
+use Rattle.std.specs.Prelude.{◌≡◌, ℕ, suc, ◌^◌, ◌<◌, ◌≤◌, ◌&&◌, true, List, [], ◌∷◌, ◌++◌, length, Result, Ok, Err, refl, ◌⊎◌}
 use Rattle.std.specs.List.{AllByRecursion}
 use Rattle.std.specs.declared.option.Option.{Option}
 use Rattle.std.specs.declared.option.Option.TheVariants.{Some, None}
@@ -22,7 +22,6 @@ use Rattle.cc_entry.specs.declared.reply.Outcome.TheVariants as outcome
 use Rattle.cc_entry.specs.declared.reply.Reply.TheVariants as reply
 use Rattle.cc_script.specs.declared.script.Action.{Action}
 use Rattle.cc_script.specs.declared.script.Action.TheVariants as action
-use Rattle.cc_script.specs.declared.script.ActionLine.{ActionLine}
 use Rattle.cc_script.specs.declared.script.StreamLine.{StreamLine}
 use Rattle.cc_model.specs.Good.{IsGoodSoFar}
 use Rattle.cc_model.specs.Passes.{HasSeen, pass_of}
@@ -40,14 +39,15 @@ use Rattle.cc_pieces.specs.Explained.{Answered, Given, IsExplained}
 use Rattle.cc_pieces.specs.Openings.{Opened, first_object_of}
 use Rattle.cc_pieces.specs.Phases.{lazy_writer, read_ahead_worker}
 use Rattle.cc_pieces.specs.Restarts.{refused_for}
+use Rattle.cc_pieces.specs.Runs.{asked_of}
 use Rattle.cc_pieces.specs.Served.{Served}
 use Rattle.cc_pieces.specs.Shim.{LoggedLeft, PinnedUpdateLeft, RecordedLeft, ToldUpdateLeft, UpdateLeft, update_record}
-use Rattle.cc_script_laws.specs.Lines.{leaves_to_updates}
-use Rattle.cc_script_laws.proofs.BesideLines.{seen-follows}
+use Rattle.cc_script_laws.specs.Lines.{is_one_call, leaves_to_updates, left_to_updates, was_refused}
+use Rattle.cc_script_laws.proofs.BesideLines.{either, seen-follows}
 use Rattle.cc_script_laws.proofs.Growing.{good-seen, seen-entry, seen-idle, seen-none}
-use Rattle.cc_script_laws.proofs.LineWalks.{Admits, Follows, IsCheckpointOf, IsNcWriteOf, IsReadOf, IsWriteOf, follow-ahead, follow-append, follow-call, follow-calls, follow-checkpoint-left, follow-served, follow-settle-left, follow-tick, is_plain}
+use Rattle.cc_script_laws.proofs.LineWalks.{Admits, Follows, IsCheckpointOf, IsNcWriteOf, IsReadOf, IsWriteOf, follow-ahead, follow-append, follow-call, follow-calls, follow-checkpoint-left, follow-refused, follow-served, follow-settle-left, follow-tick, is_plain}
 use Rattle.cc_script_laws.proofs.Rows.{StampsFit}
-use Rattle.cc_script_laws.proofs.RunWalks.{AllStand, Walked, all-begun, all-stand, follow-behind, follow-restarts, ran-phases, stand-rest, walked-entry, walked-idle, walked-then}
+use Rattle.cc_script_laws.proofs.RunWalks.{AllStand, Walked, all-begun, all-stand, follow-behind, follow-restarts, ran-answered, stand-rest, walked-entry, walked-idle, walked-then}
 
 -- ---- entries
 
@@ -68,6 +68,11 @@ plain-small past other plain = tt
 unpassed-small : (past : List Entry) (e : Entry) → pass_of e ≡ None → StampsSmall past e
 unpassed-small past (entry.Call pass nth stream it ended) none = absurd (cc none)
 unpassed-small past other none = tt
+
+failed-small : (me nth : ℕ) (stream : Option ℕ) (it : Call) (e : CcError) (past : List Entry) → StampsSmall past (entry.Call me nth stream it (outcome.Failed e))
+failed-small me nth stream (call.SetDirty hold (Some lsn)) e past = tt
+failed-small me nth stream (call.SetDirty hold None) e past = tt
+failed-small me nth stream other e past = tt
 
 called-small : (me nth : ℕ) (stream : Option ℕ) (it : Call) (ended : Outcome) (past : List Entry) → MakesSmall it → StampsSmall past (entry.Call me nth stream it ended)
 called-small me nth stream (call.SetDirty hold (Some lsn)) (outcome.Done reply) past small = small
@@ -212,8 +217,14 @@ module _ (u : Setup) (whole : List Entry) (good : IsGoodSoFar u whole) where
     small-admits me action.Complete leaves = λ file at len. tt
     small-admits me other leaves = tt
 
-    small-served : (me : ℕ) (bindings : List Binding) (asked : Action) (told : Answer) (old new : List Entry) → leaves_to_updates s log asked ≡ true → Served u me bindings asked told old new → Small me old new
-    small-served me bindings asked told old new leaves left = follow-served u me MakesSmall (Small me) (small-follows me) bindings asked told old new (small-admits me asked leaves) left
+    small-served : (me : ℕ) (bindings : List Binding) (asked : Action) (told : Answer) (old new : List Entry) → left_to_updates s log asked told ≡ true → Served u me bindings asked told old new → Small me old new
+    small-served me bindings asked told old new fits left = by (either (leaves_to_updates s log asked) (is_one_call asked && was_refused told) fits)
+      where
+        by : (leaves_to_updates s log asked ≡ true) ⊎ ((is_one_call asked && was_refused told) ≡ true) → Small me old new
+        by (inl leaves) = follow-served u me MakesSmall (Small me) (small-follows me) bindings asked told old new (small-admits me asked leaves) left
+        by (inr refused) =
+            follow-refused u me MakesSmall (Small me) (small-follows me) bindings asked told old new refused
+            (λ it e nth stream past filed. small-entry me (entry.Call me nth stream it (outcome.Failed e)) past (failed-small me nth stream it e past)) left
 
   small-tick : (told : Answer) (old new : List Entry) → TickAnswered lazy_writer told old new → Small lazy_writer old new
   small-tick told old new left = follow-tick u lazy_writer MakesSmall (Small lazy_writer) (small-follows lazy_writer) told old new left
@@ -233,7 +244,7 @@ module _ (u : Setup) (whole : List Entry) (good : IsGoodSoFar u whole) where
   -- ---- a run
 
   module _ (given : Given) (told : Answered) (taken : List Request) (is : IsExplained u given told taken whole) (s log : ℕ)
-      (leaves : AllByRecursion (λ (each : ActionLine). leaves_to_updates s log each.action ≡ true) given.lines) where
+      (leaves : AllByRecursion (λ (each : Action × Answer). left_to_updates s log each.0 each.1 ≡ true) (asked_of (λ line. true) given.lines is.answers)) where
     -- each LSN with which a hold was set dirty in the run
     pub stamps-small : StampsFit whole
     stamps-small = λ later front pass nth hold lsn stream reply at.
@@ -246,7 +257,7 @@ module _ (u : Setup) (whole : List Entry) (good : IsGoodSoFar u whole) where
 
         behind : (me : ℕ) → Small me is.begun whole
         behind me =
-            ran-phases u Small small-idle small-then small-tick small-step (λ asked. leaves_to_updates s log asked ≡ true) (small-served s log)
+            ran-answered u Small small-idle small-then small-tick small-step (λ asked told_it. left_to_updates s log asked told_it ≡ true) (small-served s log)
             (record { lines = given.lines; answers = is.answers; ticks = given.ticks; aheads = given.aheads }) leaves 1 given.phases told.ticked told.stepped taken is.begun whole is.ran me
 
         each : (me : ℕ) → Small me [] whole

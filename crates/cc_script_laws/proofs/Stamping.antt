@@ -1,34 +1,30 @@
 -- The lines of one caller, while no other pass records an update: each keeps the form, and behind each every recorded update is set
 -- dirty, if it was so before. So a checkpoint among them is a right one.
-use Rattle.std.specs.Prelude.{◌≡◌, ℕ, ◌^◌, ◌*◌, ◌<◌, ◌==◌, ◌&&◌, ◌||◌, nat_lt, Bool, true, false, not, List, [], ◌∷◌, ◌++◌, length, Result, refl}
+use Rattle.std.specs.Prelude.{◌≡◌, ℕ, ◌^◌, ◌<◌, ◌==◌, ◌&&◌, ◌||◌, nat_lt, Bool, true, false, not, List, [], ◌∷◌, ◌++◌, length, Result, refl, ◌⊎◌}
 use Rattle.std.specs.declared.option.Option.{Option}
 use Rattle.std.specs.declared.option.Option.TheVariants.{Some, None}
 use Rattle.std.specs.List.{list_any}
-use Rattle.std.proofs.Common.{ap, sym, subst, ◌∙◌, inl, append_assoc}
+use Rattle.std.proofs.Common.{ap, sym, subst, ◌∙◌, inl, inr, append_assoc}
 use Rattle.std.proofs.lemmas.Bool.{and_parts, eqb-true}
 use Rattle.std.proofs.lemmas.List.{append_cancel_right}
 use Rattle.cc_entry.specs.Place.{File}
 use Rattle.cc_entry.specs.declared.answer.Answer.{Answer}
 use Rattle.cc_entry.specs.declared.call.Call.{Call}
 use Rattle.cc_entry.specs.declared.call.Call.TheVariants as call
-use Rattle.cc_entry.specs.declared.entry.End.TheVariants as how
 use Rattle.cc_entry.specs.declared.entry.Entry.{Entry}
 use Rattle.cc_entry.specs.declared.entry.Entry.TheVariants as entry
 use Rattle.cc_entry.specs.declared.error.CcError.{CcError}
 use Rattle.cc_entry.specs.declared.place.FileState.{FileState}
 use Rattle.cc_entry.specs.declared.reply.Outcome.{Outcome}
 use Rattle.cc_entry.specs.declared.reply.Outcome.TheVariants as outcome
-use Rattle.cc_entry.specs.declared.reply.Reply.{Reply}
 use Rattle.cc_script.specs.declared.script.Action.{Action}
 use Rattle.cc_script.specs.declared.script.Action.TheVariants as action
-use Rattle.cc_model.specs.Discards.{is_known}
 use Rattle.cc_model.specs.Good.{IsGoodSoFar}
 use Rattle.cc_model.specs.History.{history}
 use Rattle.cc_model.specs.Objects.{had_map}
 use Rattle.cc_model.specs.Passes.{HasSeen}
 use Rattle.cc_model.specs.Settings.{log_of}
 use Rattle.cc_model.specs.Setup.{Setup}
-use Rattle.cc_model.specs.Touches.{size_of}
 use Rattle.cc_effects.specs.Moments.{EachOwn, IsIdle}
 use Rattle.cc_records.specs.Left.{SettleLeft}
 use Rattle.cc_redo.specs.Reading.{said_by}
@@ -41,19 +37,19 @@ use Rattle.cc_update_laws.proofs.Keeping.{KeepsAll, all-idle, all-then, is_write
 use Rattle.cc_update_laws.proofs.Recorded.{RecordsNone, none-entry, none-idle, stamped-over}
 use Rattle.cc_update_laws.proofs.Said.{said-update}
 use Rattle.cc_update_laws.proofs.Updates.{all-update, stays-stamped}
-use Rattle.cc_update_laws.specs.Keeping.{AreStamped, HasNoneOpen, IsCalm, Keeps, KeepsForm, OthersRecordNone, RowsFit}
+use Rattle.cc_update_laws.specs.Keeping.{AreStamped, HasCheckpoint, HasNoneOpen, IsCalm, Keeps, KeepsForm, OthersRecordNone, RowsFit}
 use Rattle.cc_pieces.proofs.Grown.{grew-then}
 use Rattle.cc_pieces.specs.Bindings.{Binding}
 use Rattle.cc_pieces.specs.Checkpoints.{CheckpointLeft, record_of_rows}
 use Rattle.cc_pieces.specs.Served.{Served}
 use Rattle.cc_pieces.specs.Shim.{UpdateLeft, update_record}
-use Rattle.cc_script_laws.specs.Lines.{AreStampedAtTables, IsKnownAt, IsUnwanting, checkpoints, leaves_to_updates, says_neither}
-use Rattle.cc_script_laws.proofs.Beside.{IsBeside, kept-append, kept-call, kept-plain, kept-record}
-use Rattle.cc_script_laws.proofs.BesideLines.{admits-by, append-by, by-checkpoint, lt-told, seen-follows, seen-update}
+use Rattle.cc_script_laws.specs.Told.{initialises}
+use Rattle.cc_script_laws.specs.Lines.{AreStampedAtTables, IsKnownAt, IsUnwanting, checkpoints, is_one_call, leaves_to_updates, left_to_updates, says_neither, was_refused}
+use Rattle.cc_script_laws.proofs.Beside.{IsBeside, kept-append, kept-call, kept-failed, kept-plain, kept-record}
+use Rattle.cc_script_laws.proofs.BesideLines.{admits-by, append-by, by-checkpoint, either, lt-told, seen-follows, seen-update}
 use Rattle.cc_script_laws.proofs.Growing.{good-seen, had-seen, seen-entry, seen-idle}
-use Rattle.cc_script_laws.proofs.LineWalks.{Follows, IsCheckpointOf, IsToldSo, follow-checkpoint-left, follow-served, follow-settle-left, follow-update, is_plain, same-pass}
+use Rattle.cc_script_laws.proofs.LineWalks.{Follows, IsCheckpointOf, IsToldSo, follow-checkpoint-left, follow-refused, follow-served, follow-settle-left, follow-update, is_plain, same-pass}
 use Rattle.cc_script_laws.proofs.Stamps.{told-wants}
-use Rattle.cc_script_laws.proofs.Syncs.{synced-listed}
 use Rattle.cc_script_laws.proofs.RecordsNone.{all-none, any-back, any-front, any-own, none-checkpoint, none-other, others-front, plain-none, append-none}
 
 clash : {b : Bool} → b ≡ true → b ≡ false → ⊥
@@ -114,6 +110,33 @@ keeps-given s log me old new seen given = record {
       (λ updated. let k = given updated in subst (λ (l : List Entry). EachOwn me (KeepsForm s log) l old) (append_cancel_right k.during seen.later old (sym k.grew ∙ seen.grew)) k.each);
 }
 
+-- ---- the checkpoint of a past is one of a longer past, and its table stands there
+
+abbrev pub checkpoint-seen : (log me : ℕ) (between listed new whole : List Entry) → HasSeen new whole → HasCheckpoint log me between listed new → HasCheckpoint log me between listed whole
+checkpoint-seen log me between listed new whole seen it = record {
+  later = seen.later ++ it.later;
+  lsn = it.lsn;
+  bytes = it.bytes;
+  rows = it.rows;
+  nth = it.nth;
+  reply = it.reply;
+  splits = seen.grew ∙ (ap (λ (l : List Entry). seen.later ++ l) it.splits ∙ sym (append_assoc seen.later it.later _));
+  said = it.said;
+  alone = it.alone;
+}
+
+pub table-seen : (log me : ℕ) (between listed past : List Entry) → HasCheckpoint log me between listed past → HasSeen listed past
+table-seen log me between listed past it =
+    let listing : Entry = entry.Call me it.nth None (call.DirtyPages log) (outcome.Done it.reply) in
+    let append : Entry = entry.Append me log it.lsn it.bytes in
+    record {
+      later = it.later ++ append ∷ (between ++ listing ∷ []);
+      grew =
+          it.splits
+          ∙ (ap (λ (l : List Entry). it.later ++ append ∷ l) (sym (append_assoc between (listing ∷ []) listed))
+          ∙ sym (append_assoc it.later (append ∷ (between ++ listing ∷ [])) listed));
+    }
+
 -- ---- what is kept beside the form
 
 -- What a caller's lines keep in a stretch, beside the form: it is kept where the caller records none, and by an update of the stream
@@ -122,15 +145,15 @@ pub record IsInvariant (u : Setup) (whole : List Entry) (s log me : ℕ) (base e
   pub none : (old new : List Entry) → HasSeen base old → HasSeen old new → HasSeen new end → RecordsNone s log me old new → Inv old → Inv new
   pub update : (file : File) (at : ℕ) (bytes : List ℕ) (told : Answer) (answered : Result ℕ CcError) (old new : List Entry) → said_by (update_record file at bytes) ≡ Some (Update file.stream at bytes) → file.stream ≡ s → Line (action.Update file at bytes) told → IsToldSo told answered →
       HasSeen base old → HasSeen old new → HasSeen new end → UpdateLeft u me file at bytes answered old new → Inv old → Inv new
-  pub listed : (nth : ℕ) (reply : Reply) (old front new later : List Entry) → HasSeen base old → HasSeen old front → HasSeen new end → new ≡ later ++ entry.Call me nth None (call.DirtyPages log) (outcome.Done reply) ∷ front → RecordsNone s log me old front → IsUpdated s log old → Inv old → AreStamped s log front
+  pub listed : (old front new between : List Entry) → HasSeen base old → HasSeen old front → HasSeen new end → HasCheckpoint log me between front new → RecordsNone s log me old front → IsUpdated s log old → Inv old → AreStamped s log front
 
 -- so each recorded update is set dirty, where the past has the form
 abbrev pub StampedIf : ℕ → ℕ → List Entry → Type 0
 StampedIf s log past = IsUpdated s log past → AreStamped s log past
 
-module _ (u : Setup) (whole : List Entry) (good : IsGoodSoFar u whole) (s log : ℕ) (begun : List Entry) (logged : log_of (history begun s) ≡ Some log) (me : ℕ) (base end : List Entry) (since_begun : HasSeen begun base) (seen_end : HasSeen end whole)
+module _ (u : Setup) (whole : List Entry) (good : IsGoodSoFar u whole) (s log : ℕ) (me : ℕ) (base end : List Entry) (seen_end : HasSeen end whole)
     (others : OthersRecordNone s log me base end) where
-  stays : (old new : List Entry) → HasSeen base old → HasSeen old new → HasSeen new end → RecordsNone s log me old new → AreStamped s log old → AreStamped s log new
+  pub stays : (old new : List Entry) → HasSeen base old → HasSeen old new → HasSeen new end → RecordsNone s log me old new → AreStamped s log old → AreStamped s log new
   stays old new since seen to none stamped = stamped-over s log me base old new none (others-front s log me base new end to others) since.later since.grew stamped
 
   before-it : (old new : List Entry) → HasSeen old new → IsUpdated s log new → IsUpdated s log old
@@ -145,14 +168,10 @@ module _ (u : Setup) (whole : List Entry) (good : IsGoodSoFar u whole) (s log : 
   stamped-invariant = record {
     none = λ old new since seen to none stamped updated. stays old new since seen to none (stamped (before-it old new seen updated));
     update = λ file at bytes told answered old new says same wants so since seen to left stamped updated.
-        stays-stamped u s log me file at bytes says old
-        (λ its was.
-        let all = grew-then begun base old since_begun since in
-        subst (λ (l : List Entry). log_of (history l s) ≡ Some log) (sym all.grew) (log-stays s log all.later begun (subst (IsUpdated s log) all.grew was) logged))
-        answered new (good-seen u new whole (grew-then new end whole to seen_end) good) updated (λ e is want. told-wants told answered so e is want (wants same))
+        stays-stamped u s log me file at bytes says old answered new (good-seen u new whole (grew-then new end whole to seen_end) good) updated (λ e is want. told-wants told answered so e is want (wants same))
         (others-from old new since (others-front s log me base new end to others)) (stamped (before-it old new seen updated)) left;
-    listed = λ nth reply old front new later since seen to is none updated stamped.
-        stays old front since seen (grew-then front new end (record { later = later ++ entry.Call me nth None (call.DirtyPages log) (outcome.Done reply) ∷ []; grew = is ∙ sym (append_assoc later (entry.Call me nth None (call.DirtyPages log) (outcome.Done reply) ∷ []) front) }) to) none (stamped updated);
+    listed = λ old front new between since seen to it none updated stamped.
+        stays old front since seen (grew-then front new end (table-seen log me between front new it) to) none (stamped updated);
   }
 
 -- where it is said of each such table
@@ -160,16 +179,14 @@ pub given-invariant : (u : Setup) (whole : List Entry) (s log me : ℕ) (base en
 given-invariant u whole s log me base end seen_end stamped = record {
   none = λ old new since seen to none inv. tt;
   update = λ file at bytes told answered old new says same wants so since seen to left inv. tt;
-  listed = λ nth reply old front new later since seen to is none updated inv.
-      let past_new = grew-then new end whole to seen_end in
-      stamped (past_new.later ++ later) front me nth reply
-      (past_new.grew ∙ (ap (λ (l : List Entry). past_new.later ++ l) is ∙ sym (append_assoc past_new.later later (entry.Call me nth None (call.DirtyPages log) (outcome.Done reply) ∷ front))));
+  listed = λ old front new between since seen to it none updated inv.
+      stamped me between front (checkpoint-seen log me between front new whole (grew-then new end whole to seen_end) it);
 }
 
 -- ---- the lines of the caller
 
-module _ (u : Setup) (whole : List Entry) (good : IsGoodSoFar u whole) (s log : ℕ) (begun : List Entry) (had : had_map (history begun s) ≡ true) (logged : log_of (history begun s) ≡ Some log)
-    (me : ℕ) (base end : List Entry) (since_begun : HasSeen begun base) (seen_end : HasSeen end whole) (others : OthersRecordNone s log me base end)
+module _ (u : Setup) (whole : List Entry) (good : IsGoodSoFar u whole) (s log : ℕ) (begun : List Entry) (opened : Type 0) (has_opened : opened → had_map (history begun s) ≡ true)
+    (has_log : (log_of (history begun s) ≡ Some log) ⊎ (had_map (history whole s) ≡ false)) (me : ℕ) (base end : List Entry) (since_begun : HasSeen begun base) (seen_end : HasSeen end whole) (others : OthersRecordNone s log me base end)
     (fit : (front : List Entry) → HasSeen front whole → RowsFit log front) (Inv : List Entry → Type 0) (Line : Action → Answer → Type 0) (inv : IsInvariant u whole s log me base end Inv Line) where
   abbrev pub Alone : List Entry → List Entry → Type 0
   Alone old new = HasSeen old new × (HasSeen base old → HasSeen new end → Inv old → HasNoneOpen s log me old → KeepsAll s log me old new × Inv new)
@@ -192,16 +209,16 @@ module _ (u : Setup) (whole : List Entry) (good : IsGoodSoFar u whole) (s log : 
   alone-entry : (e : Entry) (past : List Entry) → records_update s log e ≡ false → (HasSeen base past → HasNoneOpen s log me past → KeepsAll s log me past (e ∷ past)) → Alone past (e ∷ past)
   alone-entry e past none keeps = alone-by past (e ∷ past) (seen-entry e past) (none-entry s log me e past none) (λ since to now. keeps since now)
 
-  had-at : (past : List Entry) → HasSeen base past → had_map (history past s) ≡ true
-  had-at past since = had-seen u s begun past (grew-then begun base past since_begun since) had
+  had-at : (past : List Entry) → HasSeen base past → opened → had_map (history past s) ≡ true
+  had-at past since was = had-seen u s begun past (grew-then begun base past since_begun since) (has_opened was)
 
-  alone-follows : Follows me (IsBeside s log (Unit {0})) Alone
+  alone-follows : Follows me (IsBeside s log opened) Alone
   alone-follows = record {
     idle = alone-idle;
     joins = alone-then;
     plain = λ e past plain mine. alone-entry e past (plain-none s log e plain) (λ since now. kept-plain s log me e past plain mine now);
     called = λ it ended nth stream past makes filed.
-        alone-entry (entry.Call me nth stream it ended) past refl (λ since now. kept-call s log me nth past (Unit {0}) (λ was. had-at past since) it ended stream makes filed now);
+        alone-entry (entry.Call me nth stream it ended) past refl (λ since now. kept-call s log me nth past opened (had-at past since) it ended stream makes filed now);
   }
 
   alone-append : (handle lsn : ℕ) (bytes : List ℕ) (past : List Entry) → (not (handle == log) || says_neither s (said_by bytes)) ≡ true → Alone past (entry.Append me handle lsn bytes ∷ past)
@@ -211,14 +228,23 @@ module _ (u : Setup) (whole : List Entry) (good : IsGoodSoFar u whole) (s log : 
 
   alone-settle : (file : File) (answered : Result FileState CcError) (old new : List Entry) → SettleLeft u me file answered old new → Alone old new
   alone-settle file answered old new left =
-      follow-settle-left u me (IsBeside s log (Unit {0})) Alone alone-follows file (tt, tt) (tt, tt)
+      follow-settle-left u me (IsBeside s log opened) Alone alone-follows file (tt, tt) (tt, tt)
       (λ told begun_at first flushed front size valid end_of has idle is. alone-entry (entry.Record me file.stream size valid end_of) front refl (λ since now. kept-record s log me file.stream size valid end_of front now))
       answered old new left
 
-  log-at : (past : List Entry) → HasSeen base past → IsUpdated s log past → log_of (history past s) ≡ Some log
-  log-at past since updated =
-      let all = grew-then begun base past since_begun since in
-      subst (λ (l : List Entry). log_of (history l s) ≡ Some log) (sym all.grew) (log-stays s log all.later begun (subst (IsUpdated s log) all.grew updated) logged)
+  -- the stream has its log as a stretch begins, or no map behind it
+  log-at : (old new : List Entry) → HasSeen base old → HasSeen new whole → IsUpdated s log old → (log_of (history old s) ≡ Some log) ⊎ (had_map (history new s) ≡ false)
+  log-at old new since to updated = by has_log
+    where
+      without : (b : Bool) → had_map (history new s) ≡ b → had_map (history whole s) ≡ false → had_map (history new s) ≡ false
+      without false is never = is
+      without true is never = absurd (clash (had-seen u s new whole to is) never)
+
+      by : (log_of (history begun s) ≡ Some log) ⊎ (had_map (history whole s) ≡ false) → (log_of (history old s) ≡ Some log) ⊎ (had_map (history new s) ≡ false)
+      by (inl logged) =
+          let all = grew-then begun base old since_begun since in
+          inl (subst (λ (l : List Entry). log_of (history l s) ≡ Some log) (sym all.grew) (log-stays s log all.later begun (subst (IsUpdated s log) all.grew updated) logged))
+      by (inr never) = inr (without (had_map (history new s)) refl never)
 
   to-whole : (past : List Entry) → HasSeen past end → HasSeen past whole
   to-whole past seen = grew-then past end whole seen seen_end
@@ -241,7 +267,7 @@ module _ (u : Setup) (whole : List Entry) (good : IsGoodSoFar u whole) (s log : 
       seen = seen-update u me file at bytes answered old new left
 
       keeps : HasSeen base old → HasSeen new end → HasNoneOpen s log me old → KeepsAll s log me old new
-      keeps since to now = all-update u s log me file at bytes says old (λ its updated. log-at old since updated) answered new (good-seen u new whole (to-whole new to) good) now left
+      keeps since to now = all-update u s log me file at bytes says old answered new (good-seen u new whole (to-whole new to) good) now left
 
       go : (b : Bool) → (file.stream == s) ≡ b → Alone old new
       go false apart = alone-by old new seen (none-other u s log me file at bytes says apart answered old new left) keeps
@@ -269,7 +295,7 @@ module _ (u : Setup) (whole : List Entry) (good : IsGoodSoFar u whole) (s log : 
 
       keeps : HasSeen base old → HasSeen new end → Inv old → HasNoneOpen s log me old → IsUpdated s log old → KeepsAll s log me old new
       keeps since to held now updated =
-          all-checkpoint u s log me old new (inl (log-at old since updated)) calm (λ later during is. fit (during ++ old) (grew-then (during ++ old) new whole (record { later = later; grew = is }) (to-whole new to)))
+          all-checkpoint u s log me old new (log-at old new since (to-whole new to) updated) calm (λ later during is. fit (during ++ old) (grew-then (during ++ old) new whole (record { later = later; grew = is }) (to-whole new to)))
           streams log answered below (good-seen u new whole (to-whole new to) good) now left
         where
           quiet : (later during : List Entry) → new ≡ later ++ (during ++ old) → list_any (records_update s log) during ≡ false
@@ -277,31 +303,24 @@ module _ (u : Setup) (whole : List Entry) (good : IsGoodSoFar u whole) (s log : 
 
           calm : IsCalm s log me old new
           calm = record {
-            stamped = λ later since_old nth reply is.
-                let listing : Entry = entry.Call me nth None (call.DirtyPages log) (outcome.Done reply) in
-                let is_front : new ≡ (later ++ listing ∷ []) ++ (since_old ++ old) = is ∙ sym (append_assoc later (listing ∷ []) (since_old ++ old)) in
-                inv.listed nth reply old (since_old ++ old) new later since (record { later = since_old; grew = refl }) to is
-                (record { during = since_old; grew = refl; none = any-own me (records_update s log) since_old (quiet (later ++ listing ∷ []) since_old is_front) }) updated held;
-            none_between = λ later between since_old nth lsn reply bytes is.
-                let listing : Entry = entry.Call me nth None (call.DirtyPages log) (outcome.Done reply) in
-                let append : Entry = entry.Append me log lsn bytes in
-                let whole_of : new ≡ (later ++ append ∷ []) ++ ((between ++ listing ∷ since_old) ++ old) =
-                is ∙ (sym (append_assoc later (append ∷ []) (between ++ listing ∷ (since_old ++ old))) ∙ ap (λ (l : List Entry). (later ++ append ∷ []) ++ l) (sym (append_assoc between (listing ∷ since_old) old))) in
-                any-front (records_update s log) between (listing ∷ since_old) (quiet (later ++ append ∷ []) (between ++ listing ∷ since_old) whole_of);
-            known = λ later since_old is.
-                let past_new = to-whole new to in
-                let k = synced-listed u me s log streams answered old new later since_old left is in
-                let sync : Entry = entry.Sync me s how.Good in
-                let listed : List Entry = k.since ++ entry.Call me k.nth None (call.DirtyPages log) (outcome.Done k.reply) ∷ k.before in
-                subst (λ (front : List Entry). (p : ℕ) → 4096 * p < size_of (history front s) → is_known (history front s) p ≡ true) (sym k.is)
-                (known (past_new.later ++ later) k.since k.before k.nth k.reply
-                (past_new.grew ∙ (ap (λ (l : List Entry). past_new.later ++ l) (is ∙ ap (λ (l : List Entry). later ++ sync ∷ l) k.is) ∙ sym (append_assoc past_new.later later (sync ∷ listed)))) k.none);
+            stamped = λ between since_old it.
+                let before = table-seen log me between (since_old ++ old) new it in
+                inv.listed old (since_old ++ old) new between since (record { later = since_old; grew = refl }) to it
+                (record { during = since_old; grew = refl; none = any-own me (records_update s log) since_old (quiet before.later since_old before.grew) }) updated held;
+            none_between = λ between since_old it.
+                let listing : Entry = entry.Call me it.nth None (call.DirtyPages log) (outcome.Done it.reply) in
+                let append : Entry = entry.Append me log it.lsn it.bytes in
+                let whole_of : new ≡ (it.later ++ append ∷ []) ++ ((between ++ listing ∷ since_old) ++ old) =
+                it.splits ∙ (sym (append_assoc it.later (append ∷ []) (between ++ listing ∷ (since_old ++ old))) ∙ ap (λ (l : List Entry). (it.later ++ append ∷ []) ++ l) (sym (append_assoc between (listing ∷ since_old) old))) in
+                any-front (records_update s log) between (listing ∷ since_old) (quiet (it.later ++ append ∷ []) (between ++ listing ∷ since_old) whole_of);
+            known = λ between since_old later during it is.
+                known between (since_old ++ old) later during (checkpoint-seen log me between (since_old ++ old) new whole (to-whole new to) it) is;
           }
 
   -- a checkpoint of another log
   alone-other : (streams handle : ℕ) → (handle == log) ≡ false → (answered : Result ℕ CcError) (old new : List Entry) → CheckpointLeft u me streams handle answered old new → Alone old new
   alone-other streams handle apart answered old new left =
-      follow-checkpoint-left u me (IsBeside s log (Unit {0})) Alone alone-follows streams handle (by-checkpoint u s log (Unit {0})) (λ rows lsn past. alone-append handle lsn (record_of_rows rows) past (rw apart refl)) answered old new left
+      follow-checkpoint-left u me (IsBeside s log opened) Alone alone-follows streams handle (by-checkpoint u s log opened) (λ rows lsn past. alone-append handle lsn (record_of_rows rows) past (rw apart refl)) answered old new left
 
   alone-logs : (streams handle : ℕ) → ((handle == log) ≡ true → IsKnownAt s log me whole) → leaves_to_updates s log (action.Checkpoint streams handle) ≡ true → (answered : Result ℕ CcError) (old new : List Entry) → CheckpointLeft u me streams handle answered old new → Alone old new
   alone-logs streams handle known leaves answered old new left = go (handle == log) refl leaves
@@ -312,12 +331,21 @@ module _ (u : Setup) (whole : List Entry) (good : IsGoodSoFar u whole) (s log : 
       go false apart low = alone-other streams handle apart answered old new left
 
   -- a line that is not refused for want where it updates the stream
-  pub alone-served : (bindings : List Binding) (asked : Action) (told : Answer) (old new : List Entry) → leaves_to_updates s log asked ≡ true → Line asked told → (checkpoints log asked ≡ true → IsKnownAt s log me whole) → Served u me bindings asked told old new → Alone old new
-  alone-served bindings (action.Update file at bytes) told old new leaves its_line known left =
-      follow-update u me (IsBeside s log (Unit {0})) Alone alone-follows file at bytes told old new (tt, tt)
+  alone-left : (bindings : List Binding) (asked : Action) (told : Answer) (old new : List Entry) → leaves_to_updates s log asked ≡ true → opened ⊎ (initialises s asked ≡ false) → Line asked told → (checkpoints log asked ≡ true → IsKnownAt s log me whole) → Served u me bindings asked told old new → Alone old new
+  alone-left bindings (action.Update file at bytes) told old new leaves may its_line known left =
+      follow-update u me (IsBeside s log opened) Alone alone-follows file at bytes told old new (tt, tt)
       (λ answered first last so one. alone-update file at bytes told leaves its_line answered first last so one) left
-  alone-served bindings (action.Checkpoint streams handle) told old new leaves its_line known left =
-      follow-served u me (IsBeside s log (Unit {0})) Alone alone-follows bindings (action.Checkpoint streams handle) told old new (alone-logs streams handle known leaves) left
-  alone-served bindings asked told old new leaves its_line known left =
-      follow-served u me (IsBeside s log (Unit {0})) Alone alone-follows bindings asked told old new
-      (admits-by u s log (Unit {0}) tt me Alone alone-follows alone-append alone-settle asked leaves (λ file at bytes is. absurd (cc is)) (λ streams handle is. absurd (cc is))) left
+  alone-left bindings (action.Checkpoint streams handle) told old new leaves may its_line known left =
+      follow-served u me (IsBeside s log opened) Alone alone-follows bindings (action.Checkpoint streams handle) told old new (alone-logs streams handle known leaves) left
+  alone-left bindings asked told old new leaves may its_line known left =
+      follow-served u me (IsBeside s log opened) Alone alone-follows bindings asked told old new
+      (admits-by u s log opened me Alone alone-follows alone-append alone-settle asked leaves (λ file at bytes is. absurd (cc is)) (λ streams handle is. absurd (cc is)) may) left
+
+  pub alone-served : (bindings : List Binding) (asked : Action) (told : Answer) (old new : List Entry) → left_to_updates s log asked told ≡ true → opened ⊎ (initialises s asked ≡ false) → Line asked told → (checkpoints log asked ≡ true → IsKnownAt s log me whole) → Served u me bindings asked told old new → Alone old new
+  alone-served bindings asked told old new fits may its_line known left = by (either (leaves_to_updates s log asked) (is_one_call asked && was_refused told) fits)
+    where
+      by : (leaves_to_updates s log asked ≡ true) ⊎ ((is_one_call asked && was_refused told) ≡ true) → Alone old new
+      by (inl leaves) = alone-left bindings asked told old new leaves may its_line known left
+      by (inr refused) =
+          follow-refused u me (IsBeside s log opened) Alone alone-follows bindings asked told old new refused
+          (λ it e nth stream past filed. alone-entry (entry.Call me nth stream it (outcome.Failed e)) past refl (λ since now. kept-failed s log me nth past it e stream now)) left

@@ -11,19 +11,17 @@ use Rattle.cc_entry.specs.declared.entry.Entry.{Entry}
 use Rattle.cc_entry.specs.declared.entry.Entry.TheVariants as entry
 use Rattle.cc_entry.specs.declared.error.CcError.{CcError}
 use Rattle.cc_entry.specs.declared.place.FileState.{FileState}
+use Rattle.cc_entry.specs.declared.reply.Outcome.TheVariants as outcome
 use Rattle.cc_script.specs.declared.script.Action.{Action}
 use Rattle.cc_script.specs.declared.script.Action.TheVariants as action
 use Rattle.cc_model.specs.Good.{IsGoodSoFar}
-use Rattle.cc_model.specs.History.{history}
 use Rattle.cc_model.specs.Passes.{HasSeen}
-use Rattle.cc_model.specs.Settings.{log_of}
 use Rattle.cc_model.specs.Setup.{Setup}
 use Rattle.cc_effects.specs.Moments.{IsIdle, own}
 use Rattle.cc_records.specs.Left.{SettleLeft}
 use Rattle.cc_redo.specs.Reading.{said_by}
 use Rattle.cc_redo.specs.declared.record.LogRecord.TheVariants.{Update}
 use Rattle.cc_restart_laws.proofs.Entries.{updated-rest}
-use Rattle.cc_restart_laws.proofs.Records.{log-stays}
 use Rattle.cc_restart_laws.specs.Updates.{HasRecorded, IsUpdated, WasStamped, records_update}
 use Rattle.cc_update_laws.proofs.Recorded.{IsBefore, IsInside, RecordsNone, cut-at, is-record, none-entry, none-idle, own-inside, stamped-later}
 use Rattle.cc_update_laws.proofs.Said.{said-update}
@@ -34,11 +32,11 @@ use Rattle.cc_pieces.specs.Bindings.{Binding}
 use Rattle.cc_pieces.specs.Checkpoints.{CheckpointLeft}
 use Rattle.cc_pieces.specs.Served.{Served}
 use Rattle.cc_pieces.specs.Shim.{IsForWant, UpdateLeft, update_record}
-use Rattle.cc_script_laws.specs.Lines.{IsUnwanting, leaves_to_updates, says_neither}
+use Rattle.cc_script_laws.specs.Lines.{IsUnwanting, is_one_call, leaves_to_updates, left_to_updates, says_neither, was_refused}
 use Rattle.cc_script_laws.proofs.Beside.{IsBeside}
-use Rattle.cc_script_laws.proofs.BesideLines.{admits-by, lt-told, seen-follows, seen-update}
+use Rattle.cc_script_laws.proofs.BesideLines.{admits-by, either, lt-told, seen-follows, seen-update}
 use Rattle.cc_script_laws.proofs.Growing.{good-seen, seen-entry, seen-idle}
-use Rattle.cc_script_laws.proofs.LineWalks.{Follows, IsToldSo, follow-checkpoint-left, follow-served, follow-settle-left, follow-update}
+use Rattle.cc_script_laws.proofs.LineWalks.{Follows, IsToldSo, follow-checkpoint-left, follow-refused, follow-served, follow-settle-left, follow-update}
 use Rattle.cc_script_laws.proofs.RecordsNone.{none-append, none-checkpoint, none-other, plain-none}
 
 -- each update that the pass recorded was written and set dirty
@@ -88,8 +86,8 @@ same-record s log me handle lsn pass n place file at bytes xs spell says is said
     let parts : Some (Update file.stream at bytes) ≡ Some (Update s place xs) = sym says ∙ (ap said_by same ∙ said) in
     record { of_log = cc is; of_stream = cc parts; its_lsn = cc is }
 
-module _ (u : Setup) (s log me : ℕ) (file : File) (at : ℕ) (bytes : List ℕ) (says : said_by (update_record file at bytes) ≡ Some (Update file.stream at bytes)) (old : List Entry) (has_log : file.stream ≡ s → IsUpdated s log old → log_of (history old s) ≡ Some log) where
-  by-update : (new : List Entry) → HasUpdate u s log me file at bytes says old has_log old new → IsUpdated s log new → StampedBy s log me old → StampedBy s log me new
+module _ (u : Setup) (s log me : ℕ) (file : File) (at : ℕ) (bytes : List ℕ) (says : said_by (update_record file at bytes) ≡ Some (Update file.stream at bytes)) (old : List Entry) where
+  by-update : (new : List Entry) → HasUpdate u s log me file at bytes says old old new → IsUpdated s log new → StampedBy s log me old → StampedBy s log me new
   by-update new k updated stamped lsn has is = go (cut-at a k.then.during has.later has.front (e ∷ k.front) (sym k.then.grew ∙ has.splits))
     where
       a : Entry
@@ -119,9 +117,9 @@ module _ (u : Setup) (s log me : ℕ) (file : File) (at : ℕ) (bytes : List ℕ
       go (inr b) = before b.rest b.is
 
   stamps-update : (answered : Result ℕ CcError) (new : List Entry) → IsGoodSoFar u new → ((e : CcError) → answered ≡ Err e → IsForWant e → ⊥) → UpdateLeft u me file at bytes answered old new → IsUpdated s log new → StampedBy s log me old → StampedBy s log me new
-  stamps-update answered new good wants left updated stamped = go (leaves-update u s log me file at bytes says old has_log answered new good wants left)
+  stamps-update answered new good wants left updated stamped = go (leaves-update u s log me file at bytes says old answered new good wants left)
     where
-      go : RecordsNone s log me old new ⊎ HasUpdate u s log me file at bytes says old has_log old new → StampedBy s log me new
+      go : RecordsNone s log me old new ⊎ HasUpdate u s log me file at bytes says old old new → StampedBy s log me new
       go (inl none) = by-none s log me old new none stamped
       go (inr k) = by-update new k updated stamped
 
@@ -136,7 +134,7 @@ told-wants other answered so e is want none = absurd so
 
 -- ---- lines
 
-module _ (u : Setup) (whole : List Entry) (good : IsGoodSoFar u whole) (s log : ℕ) (begun : List Entry) (logged : log_of (history begun s) ≡ Some log) (me : ℕ) where
+module _ (u : Setup) (whole : List Entry) (good : IsGoodSoFar u whole) (s log : ℕ) (begun : List Entry) (me : ℕ) where
   abbrev pub Stamps : List Entry → List Entry → Type 0
   Stamps old new = HasSeen old new × (HasSeen begun old → HasSeen new whole → IsUpdated s log new → StampedBy s log me old → StampedBy s log me new)
 
@@ -199,14 +197,22 @@ module _ (u : Setup) (whole : List Entry) (good : IsGoodSoFar u whole) (s log : 
       go true same = (
         seen,
         λ since to updated stamped.
-            stamps-update u s log me file at bytes says old (λ its was. subst (λ (l : List Entry). log_of (history l s) ≡ Some log) (sym since.grew) (log-stays s log since.later begun (subst (IsUpdated s log) since.grew was) logged))
-            answered new (good-seen u new whole to good) (wants (eqb-true file.stream s same)) left updated stamped,
+            stamps-update u s log me file at bytes says old answered new (good-seen u new whole to good) (wants (eqb-true file.stream s same)) left updated stamped,
       )
 
-  pub stamps-served : (bindings : List Binding) (asked : Action) (told : Answer) (old new : List Entry) → leaves_to_updates s log asked ≡ true → IsUnwanting s asked told → Served u me bindings asked told old new → Stamps old new
-  stamps-served bindings (action.Update file at bytes) told old new leaves wants left =
+  stamps-left : (bindings : List Binding) (asked : Action) (told : Answer) (old new : List Entry) → leaves_to_updates s log asked ≡ true → IsUnwanting s asked told → Served u me bindings asked told old new → Stamps old new
+  stamps-left bindings (action.Update file at bytes) told old new leaves wants left =
       follow-update u me (IsBeside s log (Unit {0})) Stamps stamps-follows file at bytes told old new (tt, tt)
       (λ answered first last so one. stamps-line file at bytes leaves answered (λ same e is want. told-wants told answered so e is want (wants same)) first last one) left
-  stamps-served bindings asked told old new leaves wants left =
+  stamps-left bindings asked told old new leaves wants left =
       follow-served u me (IsBeside s log (Unit {0})) Stamps stamps-follows bindings asked told old new
-      (admits-by u s log (Unit {0}) tt me Stamps stamps-follows stamps-append stamps-settle asked leaves (λ file at bytes is. absurd (cc is)) (λ streams handle is. stamps-logs streams handle)) left
+      (admits-by u s log (Unit {0}) me Stamps stamps-follows stamps-append stamps-settle asked leaves (λ file at bytes is. absurd (cc is)) (λ streams handle is. stamps-logs streams handle) (inl tt)) left
+
+  pub stamps-served : (bindings : List Binding) (asked : Action) (told : Answer) (old new : List Entry) → left_to_updates s log asked told ≡ true → IsUnwanting s asked told → Served u me bindings asked told old new → Stamps old new
+  stamps-served bindings asked told old new fits wants left = by (either (leaves_to_updates s log asked) (is_one_call asked && was_refused told) fits)
+    where
+      by : (leaves_to_updates s log asked ≡ true) ⊎ ((is_one_call asked && was_refused told) ≡ true) → Stamps old new
+      by (inl leaves) = stamps-left bindings asked told old new leaves wants left
+      by (inr refused) =
+          follow-refused u me (IsBeside s log (Unit {0})) Stamps stamps-follows bindings asked told old new refused
+          (λ it e nth stream past filed. stamps-entry (entry.Call me nth stream it (outcome.Failed e)) past refl) left

@@ -1,7 +1,6 @@
 -- Which lines of a script leave a stream to its updates: no other of its lines changes its bytes or its size, closes its first object,
 -- gives it another log, or gives its log a record that a restart would read as an update of the stream or as a checkpoint.
-use Rattle.std.specs.Prelude.{◌≡◌, ℕ, ◌^◌, ◌*◌, ◌<◌, ◌==◌, ◌&&◌, ◌||◌, nat_lt, not, Bool, true, false, List, ◌∷◌, ◌++◌, drop, length}
-use Rattle.std.specs.List.{list_any}
+use Rattle.std.specs.Prelude.{◌≡◌, ℕ, ◌^◌, ◌==◌, ◌&&◌, ◌||◌, nat_lt, not, Bool, true, false, List, ◌∷◌, ◌++◌, drop, length}
 use Rattle.std.specs.declared.option.Option.{Option}
 use Rattle.std.specs.declared.option.Option.TheVariants.{Some, None}
 use Rattle.cc_entry.specs.Place.{File}
@@ -13,10 +12,6 @@ use Rattle.cc_entry.specs.declared.entry.Entry.TheVariants as entry
 use Rattle.cc_entry.specs.declared.call.Call.TheVariants as call
 use Rattle.cc_entry.specs.declared.error.CcError.{CcError}
 use Rattle.cc_entry.specs.declared.reply.Outcome.TheVariants as outcome
-use Rattle.cc_entry.specs.declared.reply.Reply.{Reply}
-use Rattle.cc_model.specs.Discards.{is_known}
-use Rattle.cc_model.specs.History.{history}
-use Rattle.cc_model.specs.Touches.{size_of}
 use Rattle.cc_pieces.specs.Explained.{Answered, Given}
 use Rattle.cc_pieces.specs.Runs.{asked_of}
 use Rattle.cc_pieces.specs.Shim.{IsForWant}
@@ -25,7 +20,7 @@ use Rattle.cc_redo.specs.declared.record.LogRecord.{LogRecord}
 use Rattle.cc_redo.specs.declared.record.LogRecord.TheVariants.{Update, Checkpoint}
 use Rattle.cc_script.specs.declared.script.Action.{Action}
 use Rattle.cc_script.specs.declared.script.Action.TheVariants as action
-use Rattle.cc_update_laws.specs.Keeping.{AreStamped}
+use Rattle.cc_update_laws.specs.Keeping.{AreKnown, AreStamped, HasCheckpoint}
 
 -- whether a file is of another stream
 abbrev pub is_apart : ℕ → File → Bool
@@ -59,6 +54,30 @@ leaves_to_updates s log (action.Checkpoint streams handle) = not (handle == log)
 leaves_to_updates s log (action.Append handle bytes) = not (handle == log) || says_neither s (said_by bytes)
 leaves_to_updates s log other = true
 
+-- whether a line that may change a stream makes one call or one append, so that it changes nothing where it is refused
+abbrev pub is_one_call : Action → Bool
+is_one_call (action.Uninitialise file truncate) = true
+is_one_call (action.CopyWrite file at bytes) = true
+is_one_call (action.Zero file span) = true
+is_one_call (action.PreparePin file at len word zeroed exclusive) = true
+is_one_call (action.PinnedWrite word at bytes) = true
+is_one_call (action.MdlStore word at bytes) = true
+is_one_call (action.SetDirty word lsn) = true
+is_one_call (action.SetSizes file allocation size) = true
+is_one_call (action.Discard file span) = true
+is_one_call (action.SetLog file handle) = true
+is_one_call (action.Append handle bytes) = true
+is_one_call other = false
+
+-- whether a line was refused
+abbrev pub was_refused : Answer → Bool
+was_refused (answer.Refused e) = true
+was_refused other = false
+
+-- whether a line left the stream to its updates: it does so whatever it is answered, or it is one call that was refused
+abbrev pub left_to_updates : ℕ → ℕ → Action → Answer → Bool
+left_to_updates s log asked told = leaves_to_updates s log asked || (is_one_call asked && was_refused told)
+
 -- whether a line is a checkpoint of the log
 abbrev pub checkpoints : ℕ → Action → Bool
 checkpoints log (action.Checkpoint streams handle) = handle == log
@@ -69,27 +88,18 @@ abbrev pub IsUnwanting : ℕ → Action → Answer → Type 0
 IsUnwanting s (action.Update file at bytes) told = file.stream ≡ s → (e : CcError) → told ≡ answer.Refused e → IsForWant e → ⊥
 IsUnwanting s other told = Unit {0}
 
--- whether an entry is an append of the pass to the log
-abbrev pub appends_to : ℕ → ℕ → Entry → Bool
-appends_to me log (entry.Append pass handle lsn bytes) = pass == me && handle == log
-appends_to me log other = false
-
--- At each good sync of the stream that the pass made behind a table of the log's dirty pages that it listed, with no append of its own
--- to the log between them, the image of each page of the stream was known. So the syncs of a checkpoint stand.
+-- At each good sync of the stream that a checkpoint of the pass made, behind the table that it listed and before its record, the image of
+-- each page of the stream was known.
 abbrev pub IsKnownAt : ℕ → ℕ → ℕ → List Entry → Type 0
 IsKnownAt s log me past =
-    (later since before : List Entry) (nth : ℕ) (reply : Reply) →
-    past ≡ later ++ entry.Sync me s how.Good ∷ (since ++ entry.Call me nth None (call.DirtyPages log) (outcome.Done reply) ∷ before) →
-    list_any (appends_to me log) since ≡ false → (p : ℕ) →
-    4096 * p < size_of (history (since ++ entry.Call me nth None (call.DirtyPages log) (outcome.Done reply) ∷ before) s) →
-    is_known (history (since ++ entry.Call me nth None (call.DirtyPages log) (outcome.Done reply) ∷ before) s) p ≡ true
+    (between listed later during : List Entry) (it : HasCheckpoint log me between listed past) →
+    between ≡ later ++ entry.Sync me s how.Good ∷ during →
+    AreKnown s (during ++ entry.Call me it.nth None (call.DirtyPages log) (outcome.Done it.reply) ∷ listed)
 
 -- the lines of a run with their answers, in the order of the script
 abbrev pub lines_answered : Given → Answered → List (Action × Answer)
 lines_answered given told = asked_of (λ line. true) given.lines (drop (length given.streams) (drop (length given.restarts) told.replies))
 
--- At each table of the log's dirty pages that was listed, each recorded update of the stream had been written and set dirty.
+-- At the table of the log's dirty pages that each checkpoint listed, each recorded update of the stream had been written and set dirty.
 abbrev pub AreStampedAtTables : ℕ → ℕ → List Entry → Type 0
-AreStampedAtTables s log past =
-    (later front : List Entry) (me nth : ℕ) (reply : Reply) →
-    past ≡ later ++ entry.Call me nth None (call.DirtyPages log) (outcome.Done reply) ∷ front → AreStamped s log front
+AreStampedAtTables s log past = (me : ℕ) (between listed : List Entry) → HasCheckpoint log me between listed past → AreStamped s log listed

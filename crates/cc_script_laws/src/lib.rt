@@ -7,5 +7,6 @@
 mod laws;
 
 pub use laws::{
-    records_tell_what_was_valid, scripts_of_updates_keep_the_form, streams_open_with_their_numbers,
+    records_tell_what_was_valid, refused_restarts_open_no_stream, scripts_of_updates_keep_the_form,
+    streams_open_with_their_numbers,
 };

@@ -5,5 +5,6 @@ mod Outcome
 mod Made
 pub mod Restarting
 pub mod Runs
+pub mod Unopened
 pub mod Computed
 mod WorkedRun

@@ -19,14 +19,14 @@ use Rattle.cc_redo.specs.declared.redo.Redo.{Redo}
 use Rattle.cc_restart_laws.proofs.Again.{after-least, made-data, made-file, once-more, valid-more}
 use Rattle.cc_restart_laws.proofs.Ends.{page-byte}
 use Rattle.cc_restart_laws.proofs.Raised.{behind-same, from-same, makes-same, redone-same, updates-same}
-use Rattle.cc_restart_laws.proofs.Redoing.{contains-any, valid-within}
+use Rattle.cc_restart_laws.proofs.Redoing.{contains-any, valid-same, valid-within}
 use Rattle.cc_restart_laws.proofs.Told.{read-once}
-use Rattle.cc_restart_laws.specs.Stops.{MakesFile, file_byte, updated_byte, updates_in}
+use Rattle.cc_restart_laws.specs.Stops.{MakesFile, file_byte, updated_byte, updates_in, valid_after}
 use Rattle.cc_restarts.specs.Given.{AreSizes, IsRedoOf, size_said, valid_said}
 use Rattle.cc_script.specs.declared.script.StreamLine.{StreamLine}
 use Rattle.cc_traits.specs.Disk.{Disk, may_of, page_of}
 use Rattle.cc_traits.specs.Log.{LogEntry}
-use Rattle.cc_stop_laws.specs.Redoable.{IsFileMade, IsHandedOn, IsRedoable}
+use Rattle.cc_stop_laws.specs.Redoable.{IsFileMade, IsHandedOn, IsRedoable, TellsGreatest}
 use Rattle.cc_stop_laws.proofs.Given.{SameSaid, one-alone, same-redo, same-sizes}
 
 -- ---- the pages that are made are whole
@@ -188,23 +188,35 @@ module _ (s size first : ℕ) (stream : StreamLine) (kept : List LogEntry) (page
       let fits = redo.in_range in
       record { in_range = record { size_in_range = omega (arith, its, fits); within = omega (arith, its, within) }; spelled = is ∙ ap (λ (n : ℕ). record_page n reached) its }
 
-  pub file-made : (made : Disk) → IsMade (made_from given (readings kept) redo handed) made → IsFileMade s size kept pages first made
-  file-made made is = record {
-    valid = reached;
-    spelled = spells-reached (page_of made record_number) (is.holds record_number ∙ made-record given kept redo handed);
-    has = record {
-      redo = redo;
-      stream_is = of_it.stream_is;
-      size_is = size-is;
-      least = valid-more kept redo first least;
-      file = λ i below. let its = size-is in
-          made-file given kept redo pages first handed made (λ p in_size. makes-handed given contains p (omega (arith, its, in_size))) is i (omega (arith, its, below));
-      whole = record {
-        long = λ p. ap length (is.holds p) ∙ made-long given kept redo handed p (handed_on.whole.long p);
-        alone = λ p. is.may p ∙ ap (λ (l : List ℕ). l ∷ []) (sym (is.holds p));
-      };
-    };
+  -- what it tells as valid, of a line of which it was given this valid data length
+  told-greatest : (line : StreamLine) → redo.valid ≡ valid_said line read → TellsGreatest line handed kept redo reached
+  told-greatest line given_is = record {
+    read = read;
+    reads = spelled;
+    greatest = sym (valid-same redo kept redo.valid) ∙ ap (valid_after (updates_in redo kept)) given_is;
   }
+
+  pub file-made : (line : StreamLine) → redo.valid ≡ valid_said line read → (made : Disk) → IsMade (made_from given (readings kept) redo handed) made →
+      (file : IsFileMade s size kept pages first made) × TellsGreatest line handed kept file.has.redo file.valid
+  file-made line given_is made is = (
+    record {
+      valid = reached;
+      spelled = spells-reached (page_of made record_number) (is.holds record_number ∙ made-record given kept redo handed);
+      has = record {
+        redo = redo;
+        stream_is = of_it.stream_is;
+        size_is = size-is;
+        least = valid-more kept redo first least;
+        file = λ i below. let its = size-is in
+            made-file given kept redo pages first handed made (λ p in_size. makes-handed given contains p (omega (arith, its, in_size))) is i (omega (arith, its, below));
+        whole = record {
+          long = λ p. ap length (is.holds p) ∙ made-long given kept redo handed p (handed_on.whole.long p);
+          alone = λ p. is.may p ∙ ap (λ (l : List ℕ). l ∷ []) (sym (is.holds p));
+        };
+      };
+    },
+    told-greatest line given_is,
+  )
 
   module _ (now : Disk) (between : IsBetween (made_from given (readings kept) redo handed) handed now) where
     -- what a crash may leave of a page was handed in, or is made

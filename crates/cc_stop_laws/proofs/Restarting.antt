@@ -28,7 +28,7 @@ use Rattle.cc_stop_laws.proofs.Given.{SameSaid, names-same, same-redo, same-size
 use Rattle.cc_stop_laws.proofs.Made.{file-made, redoable-again, redoable-handed, redoable-made}
 use Rattle.cc_stop_laws.proofs.Outcome.{IsMadeOf, done-last, done-made, refused-left, restarted-from}
 use Rattle.cc_stop_laws.proofs.Position.{IsAt, at-restart}
-use Rattle.cc_stop_laws.specs.Redoable.{IsFileMade, IsHandedIn, IsHandedOn, IsRedoable, NamesAgain, RestartsStream, TellsAt}
+use Rattle.cc_stop_laws.specs.Redoable.{IsFileMade, IsHandedIn, IsHandedOn, IsRedoable, NamesAgain, RestartsStream, TellsAt, TellsGreatest}
 use Rattle.cc_stop_laws.specs.Runs.{IsRedoneFrom, as_read}
 
 -- a log that keeps each entry up to the last that was read keeps all that were read
@@ -106,17 +106,14 @@ module _ {D L : Type 0} (told : D → Option Disk) (faults : D → ℕ) (log_tol
     done numbers ok =
         done-made told faults log_told log_count s log streams line is.named (restarted-from log line is.stored is.logged) kept handed handed_in.disk_at.device place.was log_is handed_in.disk_at.tells sizes one.ended place.old place.new place.now before place.restarted numbers ok
 
-    pub made-file : (numbers : Numbers) → one.ended ≡ Ok numbers → (made : Disk) × TellsAt told disks_begun s made × TellsAt log_told logs_begun log kept × IsFileMade s size kept.entries pages first made
-        × IsLogOf s size kept.entries
+    pub made-file : (numbers : Numbers) → one.ended ≡ Ok numbers → (made : Disk) × TellsAt told disks_begun s made × TellsAt log_told logs_begun log kept × (file : IsFileMade s size kept.entries pages first made)
+        × IsLogOf s size kept.entries × TellsGreatest line handed kept.entries file.has.redo file.valid
     made-file numbers ok =
-        let m : MadeOf (λ made old now. IsMade made now) = done numbers ok in (
-          m.made,
-          record { device = m.after; at = place.after ∙ m.at; tells = m.tells_made },
-          log-tells,
-          file-made s size first stream kept.entries pages left handed redoable handed_in.handed_on m.given m.read m.redo m.spelled
-              (same-redo s stream line m.read m.redo (said m.read m.spelled) (stream-sizes m.read m.spelled) m.of_it) m.contains m.made m.is,
-          are-kept,
-        )
+        let m : MadeOf (λ made old now. IsMade made now) = done numbers ok in
+        let file =
+        file-made s size first stream kept.entries pages left handed redoable handed_in.handed_on m.given m.read m.redo m.spelled
+        (same-redo s stream line m.read m.redo (said m.read m.spelled) (stream-sizes m.read m.spelled) m.of_it) m.contains line m.of_it.valid_is m.made m.is in
+        (m.made, record { device = m.after; at = place.after ∙ m.at; tells = m.tells_made }, log-tells, file.0, are-kept, file.1)
 
     -- however it ended, a restart of the same entries makes the file of what it left
     abbrev pub Again : Type 0

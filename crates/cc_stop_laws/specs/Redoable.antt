@@ -107,6 +107,13 @@ pub record HasFile (s size : ℕ) (kept : List LogEntry) (pages : ℕ → List �
   pub file : (i : ℕ) → i < size → file_byte (page_of disk) valid i ≡ updated_byte pages first (updates_in redo kept) i
   pub whole : IsWholeDisk disk
 
+-- A restart that was handed this disk tells this as valid: the greatest of what it was given, by the record on that disk or else by the
+-- line of the stream, and the ends of the updates of these entries that were not passed over, those from before a checkpoint too.
+pub record TellsGreatest (line : StreamLine) (handed : Disk) (kept : List LogEntry) (redo : Redo) (valid : ℕ) : Type 0 where
+  pub read : Option StreamRecord
+  pub reads : IsReadAs (page_of handed record_number) read
+  pub greatest : valid ≡ valid_after (updates_in redo kept) (valid_said line read)
+
 -- It has it with the valid data length that its record tells, and the record tells the size.
 pub record IsFileMade (s size : ℕ) (kept : List LogEntry) (pages : ℕ → List ℕ) (first : ℕ) (made : Disk) : Type 0 where
   pub valid : ℕ

@@ -1,10 +1,13 @@
 //! What follows of a stop of a run and of the next run's restarts. Each function does nothing: its contract is the law.
 
-ghost use Rattle.std.specs.Prelude.{◌≡◌, ℕ, List, [], Ok, Some, slice_get};
+ghost use Rattle.std.specs.Prelude.{◌≡◌, ℕ, false, List, [], Ok, Some, slice_get};
 ghost use Rattle.std.specs.declared.option.Option.{Option};
 ghost use Rattle.cc_entry.specs.declared.entry.Entry.{Entry};
 ghost use Rattle.cc_format.specs.Spelling.{IsReadAs};
 ghost use Rattle.cc_format.specs.declared.record.StreamRecord.{StreamRecord};
+ghost use Rattle.cc_model.specs.Good.{IsGoodSoFar};
+ghost use Rattle.cc_model.specs.History.{history};
+ghost use Rattle.cc_model.specs.Objects.{had_map};
 ghost use Rattle.cc_model.specs.Setup.{Setup};
 ghost use Rattle.cc_redo.specs.Disks.{record_number};
 ghost use Rattle.cc_redo.specs.Heard.{last_of, readings};
@@ -14,10 +17,12 @@ ghost use Rattle.cc_restarts.specs.declared.ended.LogRestart.{LogRestart};
 ghost use Rattle.cc_restarts.specs.declared.ended.Numbers.{Numbers};
 ghost use Rattle.cc_script.specs.declared.script.RestartLine.{RestartLine};
 ghost use Rattle.cc_script.specs.declared.script.StreamLine.{StreamLine};
-ghost use Rattle.cc_stop_laws.specs.Redoable.{IsFileMade, IsHandedIn, NamesAgain, RestartsStream, TellsAt};
+ghost use Rattle.cc_stop_laws.specs.Redoable.{IsFileMade, IsHandedIn, NamesAgain, RecordsTell, RestartsStream, TellsAt, TellsGreatest};
 ghost use Rattle.cc_stop_laws.specs.Runs.{HasBegunWith, IsRedoneFrom, IsUpdatedRun, as_read};
 ghost use Rattle.cc_traits.specs.Disk.{Disk, page_of};
 ghost use Rattle.cc_traits.specs.Log.{Log, LogEntry};
+ghost use Rattle.cc_turns.specs.Disk.{HasGone};
+ghost use Rattle.cc_turns.specs.RecordPage.{RecordHasGone};
 ghost use Rattle.cc_update_laws.specs.Devices.{GoesOnFrom, IsWholeDisk};
 ghost use Rattle.cc_update_laws.specs.Logs.{IsLogOf};
 
@@ -41,7 +46,8 @@ pub fn what_a_run_leaves_can_be_redone()
 {}
 
 /// What the restarts of a script make (`LogsRestarted`, of the clause `restarted` of the program's call), where what a crash left of
-/// a stream's disk and of its log was handed in. One that is done makes the file (`made`), and tells the greatest LSN of the log (`last`).
+/// a stream's disk and of its log was handed in. One that is done makes the file, with the valid data length that it is to tell (`made`),
+/// and tells the greatest LSN of the log (`last`).
 /// However it ended, at whichever call it stopped, it leaves a disk of which the next one makes it, whatever a crash leaves of it then,
 /// if the log still has the entries that were read (`again`). So it is of what was handed in where nothing was restarted (`untouched`).
 pub fn restarts_redo_what_is_left<D: PageDisk, L: LogFile>()
@@ -53,7 +59,8 @@ pub fn restarts_redo_what_is_left<D: PageDisk, L: LogFile>()
         IsRedoneFrom s stream size pages first left after →
         IsHandedIn D.told L.told disks logs s log left after handed kept → NamesAgain handed stream line →
         (numbers : Numbers) → one.ended ≡ Ok numbers → (made : Disk) × TellsAt D.told disks_begun s made
-        × TellsAt L.told logs_begun log kept × IsFileMade s size kept.entries pages first made × IsLogOf s size kept.entries }
+        × TellsAt L.told logs_begun log kept × (file : IsFileMade s size kept.entries pages first made) × IsLogOf s size kept.entries
+        × TellsGreatest line handed kept.entries file.has.redo file.valid }
     ensures last { (streams : List StreamLine) (restarts : List RestartLine) (ended : List LogRestart) (disks disks_begun : List D)
         (logs logs_begun : List L) →
         LogsRestarted D.told D.faults L.told L.faults streams restarts ended disks disks_begun logs logs_begun →
@@ -85,4 +92,13 @@ pub fn made_files_begin_the_next_run()
         (size_said line read ≡ size) × HasBegunWith past s log line read pages first made begun }
     ensures named { (s size first : ℕ) (kept : List LogEntry) (pages : ℕ → List ℕ) (made : Disk) →
         IsFileMade s size kept pages first made → (stream line : StreamLine) → NamesAgain made stream line }
+{}
+
+/// Of what a run leaves in which a stream has no map can be redone what could of the disk with which it began, if a crash could leave
+/// each page of that in one way alone.
+pub fn unopened_streams_are_left_alone()
+    ensures { (u : Setup) (past : List Entry) (s size first : ℕ) (stream : StreamLine) (pages : ℕ → List ℕ) (opening left : Disk)
+        (after : Log) → IsGoodSoFar u past → had_map (history past s) ≡ false → RecordsTell s 0 past → IsWholeDisk opening →
+        HasGone (history past s) opening left → RecordHasGone past s opening left →
+        IsRedoneFrom s stream size pages first opening after → IsRedoneFrom s stream size pages first left after }
 {}

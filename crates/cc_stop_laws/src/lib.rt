@@ -8,6 +8,7 @@ mod laws;
 mod worked;
 
 pub use laws::{
-    made_files_begin_the_next_run, restarts_redo_what_is_left, what_a_run_leaves_can_be_redone,
+    made_files_begin_the_next_run, restarts_redo_what_is_left, unopened_streams_are_left_alone,
+    what_a_run_leaves_can_be_redone,
 };
 pub use worked::{a_checkpoint_syncs_its_streams, a_worked_run_is_stopped};

@@ -1,4 +1,4 @@
-//! A worked run that is stopped meets all that is asked of one, and one whose checkpoint syncs no stream does not.
+//! A worked run that is stopped meets all that is asked of its journal, and one whose checkpoint syncs no stream does not.
 
 ghost use Rattle.std.specs.Prelude.{◌≡◌, ℕ, [], ◌∷◌, ◌++◌};
 ghost use Rattle.cc_log.specs.Turn.{appended};
@@ -12,8 +12,8 @@ ghost use Rattle.cc_restart_laws.specs.Updates.{IsUpdated};
 ghost use Rattle.cc_stop_laws.specs.Worked.{durable_entries, first_bytes, last_entry, setup, stopped, unsynced};
 
 /// The run is good and of the form, though it has an update before its checkpoint and one behind it, and a page under way. Its log
-/// has the three records, of which a stop may lose the last one. Of the first page a crash leaves what it was or what it became, of
-/// the second what it was.
+/// has the three records, of which a stop may lose the last one. A crash leaves the first page with the byte that it began with or
+/// with the one that it got, and the second as it was.
 #[tactic(auto, unfolding(crate::proofs::Computed::computed))]
 pub fn a_worked_run_is_stopped()
     ensures legal { IsLegal setup stopped }

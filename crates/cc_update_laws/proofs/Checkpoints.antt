@@ -1,10 +1,11 @@
 -- What a checkpoint leaves keeps the form: its rows are those of the table that it listed, and it synced the stream since.
-use Rattle.std.specs.Prelude.{◌≡◌, ℕ, zero, suc, ◌*◌, ◌<◌, Bool, true, false, ◌==◌, List, [], ◌∷◌, ◌++◌, map, Result, Ok, Err, refl, ◌⊎◌, if◌then◌else◌}
+use Rattle.std.specs.Prelude.{◌≡◌, ℕ, zero, suc, ◌<◌, Bool, true, false, ◌==◌, List, [], ◌∷◌, ◌++◌, map, Result, Ok, Err, refl, ◌⊎◌, if◌then◌else◌}
 use Rattle.std.specs.List.{list_any}
 use Rattle.std.specs.declared.option.Option.{Option}
 use Rattle.std.specs.declared.option.Option.TheVariants.{Some, None}
 use Rattle.std.proofs.Common.{ap, sym, subst, ◌∙◌, inl, inr, append_assoc, arith}
 use Rattle.std.proofs.lemmas.Bool.{eq-eqb, eqb-false, eqb-true}
+use Rattle.std.proofs.lemmas.List.{append_cancel_right}
 use Rattle.cc_entry.specs.declared.call.Call.TheVariants as call
 use Rattle.cc_entry.specs.declared.entry.End.TheVariants as how
 use Rattle.cc_entry.specs.declared.entry.Entry.{Entry}
@@ -18,15 +19,14 @@ use Rattle.cc_entry.specs.declared.reply.Reply.TheVariants as reply
 use Rattle.cc_format.specs.LogRecords.{checkpoint_record}
 use Rattle.cc_model.specs.Good.{IsGoodSoFar}
 use Rattle.cc_model.specs.History.{history}
-use Rattle.cc_model.specs.Discards.{is_known}
 use Rattle.cc_model.specs.Objects.{had_map, objects}
 use Rattle.cc_model.specs.Settings.{log_of}
 use Rattle.cc_model.specs.Setup.{Setup}
 use Rattle.cc_model.specs.Stamps.{dirty_table}
-use Rattle.cc_model.specs.Touches.{size_of}
 use Rattle.cc_effects.specs.Calls.{CallLeft}
 use Rattle.cc_effects.specs.LogCalls.{FlushRefused, WasFlushed}
 use Rattle.cc_effects.specs.Moments.{PlacedOnly}
+use Rattle.cc_pieces.proofs.Walks.{walked-idle, walked-then}
 use Rattle.cc_pieces.specs.Checkpoints.{CheckpointLeft, RecordFlushed, RecordLogged, RowsLogged, StateAsked, StatesAsked, SyncedLogged, first_object, has_log, record_of_rows, sync_call, with_stream}
 use Rattle.cc_pieces.specs.Shim.{CallsLeft}
 use Rattle.cc_redo.specs.Reading.{said_by}
@@ -41,7 +41,8 @@ use Rattle.cc_update_laws.proofs.Growing.{IsGrown, call-grown, good-grown, grown
 use Rattle.cc_update_laws.proofs.Keeping.{KeepsAll, all-failed, all-idle, all-looks, all-only, all-then, stays-open}
 use Rattle.cc_update_laws.proofs.LogCalls.{append-refused, log-flush}
 use Rattle.cc_update_laws.proofs.Replies.{state-open, table-stream, told-rows, told-state}
-use Rattle.cc_update_laws.specs.Keeping.{HasNoneOpen, IsCalm, RowsFit}
+use Rattle.cc_update_laws.proofs.Unlisted.{IsNeither, Unlisted, neither-each, unlisted-call, unlisted-grown, unlisted-others}
+use Rattle.cc_update_laws.specs.Keeping.{HasCheckpoint, HasNoneOpen, IsCalm, RowsFit, lists_or_appends}
 
 -- a stream is one of those that were found
 abbrev IsFound : ℕ → List ℕ → Type 0
@@ -57,14 +58,14 @@ found-more s n handle state found is = go (has_log handle state)
 module _ (u : Setup) (s log me : ℕ) where
   -- ---- calls that look, one after the other
 
-  states-grown : (handle n : ℕ) (found : List ℕ) (old new : List Entry) → StatesAsked u me handle n found old new → IsGrown old new
-  states-grown handle zero found old new left = idle-grown me old new left.1
-  states-grown handle (suc n) found old new (earlier, state, between, is, asked, last) =
-      grown-then old between new (states-grown handle n earlier old between asked) (one state last)
+  states-unlisted : (handle n : ℕ) (found : List ℕ) (old new : List Entry) → StatesAsked u me handle n found old new → Unlisted me log old new
+  states-unlisted handle zero found old new left = walked-idle (IsNeither me log) me old new left.1
+  states-unlisted handle (suc n) found old new (earlier, state, between, is, asked, last) =
+      walked-then (IsNeither me log) me old between new (states-unlisted handle n earlier old between asked) (one state last)
     where
-      one : (o : Option FileState) → StateAsked u me n o between new → IsGrown between new
-      one (Some state) left = call-grown u me (call.State (first_object n)) (outcome.Done (reply.State state)) between new left
-      one None left = call-grown u me (call.State (first_object n)) (outcome.Failed error.NotCached) between new left
+      one : (o : Option FileState) → StateAsked u me n o between new → Unlisted me log between new
+      one (Some state) left = unlisted-call u me log (call.State (first_object n)) (λ nth stream ended. refl) (outcome.Done (reply.State state)) between new left
+      one None left = unlisted-call u me log (call.State (first_object n)) (λ nth stream ended. refl) (outcome.Failed error.NotCached) between new left
 
   all-states : (handle n : ℕ) (found : List ℕ) (old new : List Entry) → HasNoneOpen s log me old → StatesAsked u me handle n found old new → KeepsAll s log me old new
   all-states handle zero found old new none left = all-idle s log me old new none left.1
@@ -83,6 +84,12 @@ module _ (u : Setup) (s log me : ℕ) where
   syncs-grown (t ∷ found) (Err e) old new (inl failed) = call-grown u me (sync_call t) (outcome.Failed e) old new failed
   syncs-grown (t ∷ found) (Err e) old new (inr (between, one, rest)) =
       grown-then old between new (call-grown u me (sync_call t) (outcome.Done reply.Unit) old between one) (syncs-grown found (Err e) between new rest)
+
+  syncs-unlisted : (found : List ℕ) (old new : List Entry) → CallsLeft u me (map sync_call found) (Ok tt) old new → Unlisted me log old new
+  syncs-unlisted [] old new left = walked-idle (IsNeither me log) me old new left
+  syncs-unlisted (t ∷ found) old new (between, one, rest) =
+      walked-then (IsNeither me log) me old between new (unlisted-call u me log (sync_call t) (λ nth stream ended. refl) (outcome.Done reply.Unit) old between one)
+      (syncs-unlisted found between new rest)
 
   all-syncs : (found : List ℕ) (answered : Result (Unit {0}) CcError) (old new : List Entry) → HasNoneOpen s log me old → CallsLeft u me (map sync_call found) answered old new → KeepsAll s log me old new
   all-syncs [] (Ok done) old new none left = all-idle s log me old new none left
@@ -200,7 +207,7 @@ module _ (u : Setup) (s log me : ℕ) where
         updated_between = updated-rest s log to_new.0 between (subst (λ (l : List Entry). IsUpdated s log l) to_new.1 updated)
 
         from_old : IsGrown old between
-        from_old = states-grown log n earlier old between asked
+        from_old = unlisted-grown me log old between (states-unlisted log n earlier old between asked)
 
         had_between : had_map (history between s) ≡ true
         had_between = ap (λ (l : List Entry). had_map (history l s)) from_old.1 ∙ had-more u s log from_old.0 old had
@@ -216,9 +223,10 @@ module _ (u : Setup) (s log me : ℕ) where
       listing nth rows = entry.Call me nth None (call.DirtyPages log) (outcome.Done (reply.Rows rows))
 
       is-checkpoint : (nth lsn : ℕ) (rows : List DirtyRow) (bytes : List ℕ) (rest later since : List Entry) → whole ≡ rest ++ entry.Append me log lsn bytes ∷ (later ++ listing nth rows ∷ (since ++ begun)) →
+          said_by bytes ≡ Some (Checkpoint (map row_told (dirty_table (since ++ begun) log))) → list_any (lists_or_appends me log) later ≡ false →
           (had_map (history (since ++ begun) s) ≡ true → WasSynced (listing nth rows ∷ (since ++ begun)) (later ++ listing nth rows ∷ (since ++ begun))) →
           IsCheckpoint s log (map row_told (dirty_table (since ++ begun) log)) (later ++ listing nth rows ∷ (since ++ begun))
-      is-checkpoint nth lsn rows bytes rest later since grew synced = record {
+      is-checkpoint nth lsn rows bytes rest later since grew said alone synced = record {
         pass = me;
         nth = nth;
         reply = reply.Rows rows;
@@ -226,29 +234,31 @@ module _ (u : Setup) (s log me : ℕ) where
         listed = since ++ begun;
         splits = refl;
         told = refl;
-        stamped =
-            calm.stamped (rest ++ entry.Append me log lsn bytes ∷ later) since nth (reply.Rows rows)
-            (grew ∙ sym (append_assoc rest (entry.Append me log lsn bytes ∷ later) (listing nth rows ∷ (since ++ begun))));
-        none_since = calm.none_between rest later since nth lsn (reply.Rows rows) bytes grew;
+        stamped = calm.stamped later since its;
+        none_since = calm.none_between later since its;
         synced = λ had. sync (synced had);
       }
         where
+          its : HasCheckpoint log me later (since ++ begun) whole
+          its = record {
+            later = rest;
+            lsn = lsn;
+            bytes = bytes;
+            rows = map row_told (dirty_table (since ++ begun) log);
+            nth = nth;
+            reply = reply.Rows rows;
+            splits = grew;
+            said = said;
+            alone = alone;
+          }
+
           sync : WasSynced (listing nth rows ∷ (since ++ begun)) (later ++ listing nth rows ∷ (since ++ begun)) → HasSynced s (listing nth rows ∷ (since ++ begun)) (later ++ listing nth rows ∷ (since ++ begun))
           sync k =
-              let same : (k.since ++ listing nth rows ∷ since) ++ begun ≡ k.since ++ listing nth rows ∷ (since ++ begun) = append_assoc k.since (listing nth rows ∷ since) begun in
               let it : Entry = entry.Sync me s how.Good in
-              let at_end : whole ≡ (rest ++ entry.Append me log lsn bytes ∷ k.later) ++ it ∷ ((k.since ++ listing nth rows ∷ since) ++ begun) =
-              grew
-              ∙ (ap (λ (l : List Entry). rest ++ entry.Append me log lsn bytes ∷ l) k.is
-              ∙ (sym (append_assoc rest (entry.Append me log lsn bytes ∷ k.later) (it ∷ (k.since ++ listing nth rows ∷ (since ++ begun))))
-              ∙ ap (λ (l : List Entry). (rest ++ entry.Append me log lsn bytes ∷ k.later) ++ it ∷ l) (sym same))) in
-              record {
-                pass = me;
-                later = k.later;
-                since = k.since;
-                splits = k.is;
-                known = subst (λ (l : List Entry). (p : ℕ) → 4096 * p < size_of (history l s) → is_known (history l s) p ≡ true) same (calm.known (rest ++ entry.Append me log lsn bytes ∷ k.later) (k.since ++ listing nth rows ∷ since) at_end);
-              }
+              let inside : later ≡ k.later ++ it ∷ k.since =
+              append_cancel_right later (k.later ++ it ∷ k.since) (listing nth rows ∷ (since ++ begun))
+              (k.is ∙ sym (append_assoc k.later (it ∷ k.since) (listing nth rows ∷ (since ++ begun)))) in
+              record { pass = me; later = k.later; since = k.since; splits = k.is; known = calm.known later since k.later k.since its inside }
 
       said-rows : (rows : List DirtyRow) (later since : List Entry) → whole ≡ later ++ (since ++ begun) → rows ≡ dirty_table (since ++ begun) log → said_by (record_of_rows rows) ≡ Some (Checkpoint (map row_told (dirty_table (since ++ begun) log)))
       said-rows rows later since grew is =
@@ -267,12 +277,19 @@ module _ (u : Setup) (s log me : ℕ) where
           let f : List Entry = only.earlier ++ sync_end in
           let from_e : IsGrown (e ∷ (since ++ begun)) between =
           (p.later, p.grew ∙ ap (λ (o : Option ℕ). p.later ++ entry.Call me p.nth o (call.DirtyPages log) (outcome.Done (reply.Rows rows)) ∷ (since ++ begun)) (table-stream me log (reply.Rows rows) begun between listed)) in
-          let to_asked : IsGrown between asked_end = states-grown log streams found between asked_end asked in
-          let to_synced : IsGrown asked_end sync_end = syncs-grown found (Ok tt) asked_end sync_end calls in
+          let w_listed : Unlisted me log (e ∷ (since ++ begun)) between =
+          subst (Unlisted me log (e ∷ (since ++ begun))) (sym from_e.1) (unlisted-others me log p.later (e ∷ (since ++ begun)) p.quiet) in
+          let w_asked : Unlisted me log between asked_end = states-unlisted log streams found between asked_end asked in
+          let w_synced : Unlisted me log asked_end sync_end = syncs-unlisted found asked_end sync_end calls in
+          let w_f : Unlisted me log sync_end f = unlisted-others me log only.earlier sync_end only.quiet_before in
+          let w_behind : Unlisted me log asked_end f = walked-then (IsNeither me log) me asked_end sync_end f w_synced w_f in
+          let w_between : Unlisted me log between f = walked-then (IsNeither me log) me between asked_end f w_asked w_behind in
+          let w : Unlisted me log (e ∷ (since ++ begun)) f = walked-then (IsNeither me log) me (e ∷ (since ++ begun)) between f w_listed w_between in
+          let to_asked : IsGrown between asked_end = unlisted-grown me log between asked_end w_asked in
           let to_f : IsGrown sync_end f = (only.earlier, refl) in
-          let asked_f : IsGrown asked_end f = grown-then asked_end sync_end f to_synced to_f in
-          let between_f : IsGrown between f = grown-then between asked_end f to_asked asked_f in
-          let e_f : IsGrown (e ∷ (since ++ begun)) f = grown-then (e ∷ (since ++ begun)) between f from_e between_f in
+          let asked_f : IsGrown asked_end f = unlisted-grown me log asked_end f w_behind in
+          let between_f : IsGrown between f = unlisted-grown me log between f w_between in
+          let e_f : IsGrown (e ∷ (since ++ begun)) f = (w.during, w.grew) in
           let f_after : IsGrown (a ∷ f) after = (only.later, only.grew) in
           let f_whole : IsGrown (a ∷ f) whole = grown-then (a ∷ f) after whole f_after to_end in
           let whole_f : IsGrown f whole = grown-then f (a ∷ f) whole (a ∷ [], refl) f_whole in
@@ -292,7 +309,8 @@ module _ (u : Setup) (s log me : ℕ) where
           (found-synced at.0 at.1 asked_end sync_end (subst (λ (l : List ℕ). CallsLeft u me (map sync_call l) (Ok tt) asked_end sync_end) at.2 calls))) to_f in
           subst (λ (o : Option LogRecord). MayLog s log me o f) (sym (said-rows rows since_whole.0 since since_whole.1 is))
           (subst (λ (l : List Entry). IsCheckpoint s log (map row_told (dirty_table (since ++ begun) log)) l) (sym e_f.1)
-          (is-checkpoint p.nth lsn rows (record_of_rows rows) f_whole.0 e_f.0 since whole_is (λ had. subst (λ (l : List Entry). WasSynced (e ∷ (since ++ begun)) l) e_f.1 (synced had))))
+          (is-checkpoint p.nth lsn rows (record_of_rows rows) f_whole.0 e_f.0 since whole_is (said-rows rows since_whole.0 since since_whole.1 is)
+          (neither-each me log w.during (e ∷ (since ++ begun)) w.each) (λ had. subst (λ (l : List Entry). WasSynced (e ∷ (since ++ begun)) l) e_f.1 (synced had))))
 
       flushed-grown : (handle lsn : ℕ) (answered : Result ℕ CcError) (old new : List Entry) → RecordFlushed u me handle lsn answered old new → IsGrown old new
       flushed-grown handle lsn (Ok told) old new left = ok left.1.1

@@ -4,6 +4,7 @@ mod Silent
 pub mod Keeping
 mod Owed
 mod Growing
+mod Unlisted
 mod Replies
 mod LogCalls
 pub mod Recorded

@@ -36,7 +36,7 @@ use Rattle.cc_redo.specs.declared.record.LogRecord.{LogRecord}
 use Rattle.cc_redo.specs.declared.record.LogRecord.TheVariants.{Update}
 use Rattle.cc_restart_laws.proofs.Contents.{valid-more}
 use Rattle.cc_restart_laws.proofs.Entries.{updated-rest}
-use Rattle.cc_restart_laws.proofs.Records.{log-stays}
+use Rattle.cc_restart_laws.proofs.Records.{log-one, log-stays}
 use Rattle.cc_restart_laws.specs.Updates.{HasRecord, HasWritten, IsPinned, IsStamp, IsUpdated, MayAppend, MayLog, Updating, WasStamped}
 use Rattle.cc_update_laws.proofs.Growing.{IsGrown, call-grown, good-grown, grown-then, idle-grown, only-grown, refused-grown}
 use Rattle.cc_update_laws.proofs.Keeping.{KeepsAll, all-failed, all-idle, all-looks, all-only, all-then, by-done, is_write, keeps-entry, keeps-idle, keeps-then, open-entry, open-idle, opens-stamp, opens-write, stays-on, stays-open}
@@ -59,7 +59,7 @@ record IsTold (file : File) (at handle : ℕ) (begun past : List Entry) : Type 0
   log : log_of (history (since ++ begun) file.stream) ≡ Some handle
   valid : at ≤ valid_of (history (since ++ begun) file.stream)
 
-module _ (u : Setup) (s log me : ℕ) (file : File) (at : ℕ) (bytes : List ℕ) (says : said_by (update_record file at bytes) ≡ Some (Update file.stream at bytes)) (begun : List Entry) (has_log : file.stream ≡ s → IsUpdated s log begun → log_of (history begun s) ≡ Some log) where
+module _ (u : Setup) (s log me : ℕ) (file : File) (at : ℕ) (bytes : List ℕ) (says : said_by (update_record file at bytes) ≡ Some (Update file.stream at bytes)) (begun : List Entry) where
   abbrev spelled : List ℕ
   spelled = update_record file at bytes
 
@@ -71,9 +71,8 @@ module _ (u : Setup) (s log me : ℕ) (file : File) (at : ℕ) (bytes : List ℕ
   same-log handle past told same updated =
       let front : List Entry = told.since ++ begun in
       let there : IsUpdated s log front = updated-rest s log told.later front (subst (λ (l : List Entry). IsUpdated s log l) told.grew updated) in
-      let its : log_of (history front s) ≡ Some log = log-stays s log told.since begun there (has_log same (updated-rest s log told.since begun there)) in
       let told_is : log_of (history front s) ≡ Some handle = subst (λ (n : ℕ). log_of (history front n) ≡ Some handle) same told.log in
-      some-is handle log (sym told_is ∙ its)
+      log-one s log front there handle told_is
 
   told-later : (handle : ℕ) (more past : List Entry) → IsTold file at handle begun past → IsTold file at handle begun (more ++ past)
   told-later handle more past told = record {
@@ -95,7 +94,8 @@ module _ (u : Setup) (s log me : ℕ) (file : File) (at : ℕ) (bytes : List ℕ
       let good_all : IsGoodSoFar u (told.later ++ front) = subst (λ (l : List Entry). IsGoodSoFar u l) told.grew good in
       let updated_all : IsUpdated s log (told.later ++ front) = subst (λ (l : List Entry). IsUpdated s log l) told.grew updated in
       let there : IsUpdated s log front = updated-rest s log told.later front updated_all in
-      let its : log_of (history front s) ≡ Some log = log-stays s log told.since begun there (has_log same (updated-rest s log told.since begun there)) in
+      let told_is : log_of (history front s) ≡ Some handle = subst (λ (n : ℕ). log_of (history front n) ≡ Some handle) same told.log in
+      let its : log_of (history front s) ≡ Some log = told_is ∙ ap (λ (h : ℕ). Some h) (log-one s log front there handle told_is) in
       let logged : log_of (history (told.later ++ front) s) ≡ Some log = log-stays s log told.later front updated_all its in
       let valid : at ≤ valid_of (history front s) = subst (λ (n : ℕ). at ≤ valid_of (history front n)) same told.valid in
       let more = valid-more u s log told.later front good_all updated_all in

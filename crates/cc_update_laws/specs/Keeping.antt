@@ -1,7 +1,7 @@
 -- What a line of a pass keeps of the form of a journal of updates: each entry that it placed stands there as the form asks.
-use Rattle.std.specs.Prelude.{◌≡◌, ℕ, ◌*◌, ◌^◌, ◌<◌, false, true, List, ◌∷◌, ◌++◌, length, map}
+use Rattle.std.specs.Prelude.{◌≡◌, ℕ, ◌*◌, ◌^◌, ◌<◌, ◌==◌, ◌&&◌, Bool, false, true, List, ◌∷◌, ◌++◌, length, map}
 use Rattle.std.specs.List.{AllByRecursion, list_any}
-use Rattle.std.specs.declared.option.Option.TheVariants.{None}
+use Rattle.std.specs.declared.option.Option.TheVariants.{None, Some}
 use Rattle.cc_entry.specs.declared.call.Call.TheVariants as call
 use Rattle.cc_entry.specs.declared.entry.End.TheVariants as how
 use Rattle.cc_entry.specs.declared.entry.Entry.{Entry}
@@ -14,7 +14,9 @@ use Rattle.cc_model.specs.Passes.{is_mine}
 use Rattle.cc_model.specs.Stamps.{dirty_table}
 use Rattle.cc_model.specs.Touches.{size_of}
 use Rattle.cc_effects.specs.Moments.{EachOwn}
-use Rattle.cc_redo.specs.Reading.{FitsRow}
+use Rattle.cc_format.specs.declared.log.OldestRow.{OldestRow}
+use Rattle.cc_redo.specs.Reading.{FitsRow, said_by}
+use Rattle.cc_redo.specs.declared.record.LogRecord.TheVariants.{Checkpoint}
 use Rattle.cc_restart_laws.specs.Updates.{HasRecorded, HasWritten, IsUpdated, IsUpdatedEntry, Updating, WasStamped, records_update, row_told}
 
 -- the pass has no update of the stream under way: each whose bytes it wrote it set dirty
@@ -40,22 +42,40 @@ abbrev pub OthersRecordNone : ℕ → ℕ → ℕ → List Entry → List Entry 
 OthersRecordNone s log me old new =
     (later during : List Entry) (e : Entry) → new ≡ later ++ e ∷ (during ++ old) → is_mine me e ≡ false → records_update s log e ≡ false
 
--- What a checkpoint of the log asks of the moments between which it is made, of the stream: where its pass listed the dirty
--- pages each update that had a record was set dirty; none had one between that and the record of the checkpoint; and where
--- its pass synced the stream the image of each of its pages was known.
+-- whether an entry is a table of the log's dirty pages that the pass listed, or an append of the pass to the log
+abbrev pub lists_or_appends : ℕ → ℕ → Entry → Bool
+lists_or_appends me log (entry.Append pass handle lsn bytes) = pass == me && handle == log
+lists_or_appends me log (entry.Call pass nth stream (call.DirtyPages handle) ended) = pass == me && handle == log
+lists_or_appends me log other = false
+
+-- The pass appended the record of a checkpoint to the log, some entries behind a table of its dirty pages that it had listed. Between the
+-- two it listed no table of the log and appended nothing to it, so the table is the one that the checkpoint listed.
+pub record HasCheckpoint (log me : ℕ) (between listed past : List Entry) : Type 0 where
+  pub later : List Entry
+  pub lsn : ℕ
+  pub bytes : List ℕ
+  pub rows : List OldestRow
+  pub nth : ℕ
+  pub reply : Reply
+  pub splits : past
+      ≡ later ++ entry.Append me log lsn bytes ∷ (between ++ entry.Call me nth None (call.DirtyPages log) (outcome.Done reply) ∷ listed)
+  pub said : said_by bytes ≡ Some (Checkpoint rows)
+  pub alone : list_any (lists_or_appends me log) between ≡ false
+
+-- the image of each page of the stream is known
+abbrev pub AreKnown : ℕ → List Entry → Type 0
+AreKnown s past = (p : ℕ) → 4096 * p < size_of (history past s) → is_known (history past s) p ≡ true
+
+-- What a checkpoint of the log asks of the moments between which it is made, of the stream: where it listed the dirty pages each
+-- update that had a record was set dirty; none had one between that and its own record; and where it synced the stream the image of
+-- each of its pages was known.
 pub record IsCalm (s log me : ℕ) (old new : List Entry) : Type 0 where
-  pub stamped :
-      (later since : List Entry) (nth : ℕ) (reply : Reply)
-      → new ≡ later ++ entry.Call me nth None (call.DirtyPages log) (outcome.Done reply) ∷ (since ++ old)
-      → AreStamped s log (since ++ old)
-  pub none_between :
-      (later between since : List Entry) (nth lsn : ℕ) (reply : Reply) (bytes : List ℕ)
-      → new
-      ≡ later ++ entry.Append me log lsn bytes ∷ (between ++ entry.Call me nth None (call.DirtyPages log) (outcome.Done reply) ∷ (since ++ old))
-      → list_any (records_update s log) between ≡ false
-  pub known :
-      (later since : List Entry) → new ≡ later ++ entry.Sync me s how.Good ∷ (since ++ old) → (p : ℕ)
-      → 4096 * p < size_of (history (since ++ old) s) → is_known (history (since ++ old) s) p ≡ true
+  pub stamped : (between since : List Entry) → HasCheckpoint log me between (since ++ old) new → AreStamped s log (since ++ old)
+  pub none_between : (between since : List Entry) → HasCheckpoint log me between (since ++ old) new →
+      list_any (records_update s log) between ≡ false
+  pub known : (between since later during : List Entry) (it : HasCheckpoint log me between (since ++ old) new) →
+      between ≡ later ++ entry.Sync me s how.Good ∷ during →
+      AreKnown s (during ++ entry.Call me it.nth None (call.DirtyPages log) (outcome.Done it.reply) ∷ (since ++ old))
 
 -- the rows of the log's dirty page table have numbers that the record of a checkpoint can spell
 pub record RowsFit (log : ℕ) (past : List Entry) : Type 0 where

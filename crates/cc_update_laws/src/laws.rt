@@ -33,12 +33,12 @@ ghost use Rattle.cc_update_laws.specs.Logs.{EachEndsWithin, IsLogOf};
 ghost use Rattle.cc_update_laws.specs.Keeping.{AreStamped, HasNoneOpen, IsCalm, Keeps, KeepsForm, OthersRecordNone, RowsFit};
 
 /// What an update leaves, whatever it was answered, keeps the form that is asked of a stream that changes by updates alone: of
-/// each stream and each log, if the update's own stream, where it is that one, has that log as the update begins. The record
+/// each stream and each log. A stream of that form is given no other log, so the log that the update was told is this one. The record
 /// that it gives the log is the one that a restart reads.
 pub fn updates_keep_the_form()
     ensures kept { (u : Setup) (s log me : ℕ) (file : File) (at : ℕ) (bytes : List ℕ) (answered : Result ℕ CcError)
         (old new : List Entry) → file.stream < 255 → at < 2 ^ 64 → length bytes < 2 ^ 32 →
-        (file.stream ≡ s → IsUpdated s log old → log_of (history old s) ≡ Some log) → IsGoodSoFar u new → HasNoneOpen s log me old →
+        IsGoodSoFar u new → HasNoneOpen s log me old →
         UpdateLeft u me file at bytes answered old new → Keeps s log me old new × HasNoneOpen s log me new }
     ensures spelled { (file : File) (at : ℕ) (bytes : List ℕ) → update_record file at bytes ≡ record_of_update file.stream at bytes }
 {}
@@ -49,7 +49,7 @@ pub fn updates_keep_the_form()
 pub fn answered_updates_are_set_dirty()
     ensures { (u : Setup) (s log me : ℕ) (file : File) (at : ℕ) (bytes : List ℕ) (answered : Result ℕ CcError)
         (old new : List Entry) → file.stream < 255 → at < 2 ^ 64 → length bytes < 2 ^ 32 →
-        (file.stream ≡ s → IsUpdated s log old → log_of (history old s) ≡ Some log) → IsGoodSoFar u new → IsUpdated s log new →
+        IsGoodSoFar u new → IsUpdated s log new →
         ((e : CcError) → answered ≡ Err e → IsForWant e → ⊥) → OthersRecordNone s log me old new → AreStamped s log old →
         UpdateLeft u me file at bytes answered old new → AreStamped s log new }
 {}
