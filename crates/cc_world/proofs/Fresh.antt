@@ -124,7 +124,7 @@ fresh-world {D} {L} {Q} tells setup made rows logs j disk_room log_room disks_mo
     (fresh-stands tells setup rows logs j few_disks few_logs new rows_are logs_are, room, log_space)
 
 -- what the disks are that a World gives back, and the logs
-row-at : {D : Type 0} (o : Option (Row D)) (disk : D) → Some disk ≡ option_map (λ (row : Row D). row.disk) o → (row : Row D) × (o ≡ Some row) × (row.disk ≡ disk)
+pub row-at : {D : Type 0} (o : Option (Row D)) (disk : D) → Some disk ≡ option_map (λ (row : Row D). row.disk) o → (row : Row D) × (o ≡ Some row) × (row.disk ≡ disk)
 row-at None disk is = absurd (cc)
 row-at (Some row) disk is = (row, refl, cc)
 
@@ -142,7 +142,7 @@ disks-end {D} {L} {Q} tells w disks stands back = record {
               (subst (λ (n : ℕ). DiskIsUsed tells.disk tells.disk_faults (disk_at_first tells.disk tells.disk_faults (slice_get w.begun.disks s)) w.journal.entries n row.disk row.kept) home.stream home.stands.disk),
         )
 
-log-at : {L : Type 0} (o : Option (LogState L)) (file : L) → Some file ≡ option_map (λ (log : LogState L). log.file) o → (log : LogState L) × (o ≡ Some log) × (log.file ≡ file)
+pub log-at : {L : Type 0} (o : Option (LogState L)) (file : L) → Some file ≡ option_map (λ (log : LogState L). log.file) o → (log : LogState L) × (o ≡ Some log) × (log.file ≡ file)
 log-at None file is = absurd (cc)
 log-at (Some log) file is = (log, refl, cc)
 

@@ -16,6 +16,7 @@ pub mod LogSteps
 pub mod JournalSteps
 pub mod FiledUnder
 pub mod Fresh
+pub mod CrashSafe
 pub mod CallGood
 pub mod CallSums
 pub mod CallLeft

@@ -7,6 +7,7 @@ pub mod Logs
 pub mod Filing
 pub mod Naming
 pub mod World
+pub mod Crash
 pub mod Calls
 pub mod Residents
 pub mod HoldUses

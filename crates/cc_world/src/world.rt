@@ -9,6 +9,7 @@ ghost use Rattle.cc_model.specs.Good.{IsGood};
 ghost use Rattle.cc_model.specs.Throttle.{queue};
 ghost use Rattle.cc_turns.specs.Desk.{made_from, tells_of};
 ghost use Rattle.cc_effects.specs.Events.{IsKnown, IsUnposted, NamesOf};
+ghost use Rattle.cc_world.specs.Crash.{DisksAreCrashSafe, LogsAreDurable, disks_in, files_in};
 ghost use Rattle.cc_world.specs.World.{AreRowsFor, DisksEnded, IsFresh, IsNoLogReply, JournalRests, LogsEnded, Stepped, setup_of};
 ghost use Rattle.cc_effects.specs.declared.events.Event.TheVariants as event;
 
@@ -85,10 +86,18 @@ impl<D: PageDisk, L: LogFile, Q: PostRoutine> World<D, L, Q> {
     /// The World of a run of which nothing happened yet. Where memory is wanting the setup comes back.
     pub fn new(alloc: Global, setup: Setup<D, L>) -> Result<World<D, L, Q>, (Setup<D, L>, CcError)>
         ensures fresh { IfOk result (λ world. IsFresh (made_from setup) world) }
+        ensures crash { IfOk result (λ world. DisksAreCrashSafe (tells_of D.told D.faults L.told L.faults Q.posted)
+            world.begun.disks world.journal.entries (disks_in world)) }
+        ensures logged { IfOk result (λ world. LogsAreDurable (tells_of D.told D.faults L.told L.faults Q.posted)
+            world.journal.entries (files_in world)) }
         ensures err { IfErr result (λ back. (back.0 ≡ setup) × (back.1 ≡ error.NoMemory)) }
     {
         match Rows::new(alloc, &setup) {
-            Ok(rows) => Ok(World::over(alloc, setup, rows)),
+            Ok(rows) => {
+                let world = World::over(alloc, setup, rows);
+                world.crash_safe();
+                Ok(world)
+            }
             Err(NoMemory) => Err((setup, CcError::NoMemory)),
         }
     }
@@ -121,8 +130,35 @@ impl<D: PageDisk, L: LogFile, Q: PostRoutine> World<D, L, Q> {
         }
     }
 
-    /// Lets an event happen, where the law of entries allows it now.
+    /// Lets an event happen, where the law of entries allows it now. Whatever is replied, a crash leaves behind it of each page
+    /// of a disk only what the journal allows, and each log is durable to the newest LSN that a page of its streams had as a
+    /// transfer of it began.
     pub fn step(&mut self, event: Event<Q>) -> StepReply<Q>
+        requires known { IsKnown (length self.old.begun.disks) event }
+        requires unposted { IsUnposted Q.posted event }
+        ensures stepped { Stepped (tells_of D.told D.faults L.told L.faults Q.posted) event result self.old self.new }
+        ensures crash { DisksAreCrashSafe (tells_of D.told D.faults L.told L.faults Q.posted)
+            self.new.begun.disks self.new.journal.entries (disks_in self.new) }
+        ensures logged { LogsAreDurable (tells_of D.told D.faults L.told L.faults Q.posted)
+            self.new.journal.entries (files_in self.new) }
+    {
+        let reply = self.happen(event);
+        self.crash_safe();
+        reply
+    }
+
+    // A crash leaves only what the journal allows, and the logs have what was stamped on each page as its transfers began.
+    fn crash_safe(&self)
+        ensures crash { DisksAreCrashSafe (tells_of D.told D.faults L.told L.faults Q.posted)
+            self.now.begun.disks self.now.journal.entries (disks_in self.now) }
+        ensures logged { LogsAreDurable (tells_of D.told D.faults L.told L.faults Q.posted)
+            self.now.journal.entries (files_in self.now) }
+    {
+        let _alloc = self.alloc;
+    }
+
+    // An event happens.
+    fn happen(&mut self, event: Event<Q>) -> StepReply<Q>
         requires known { IsKnown (length self.old.begun.disks) event }
         requires unposted { IsUnposted Q.posted event }
         ensures { Stepped (tells_of D.told D.faults L.told L.faults Q.posted) event result self.old self.new }
@@ -356,6 +392,10 @@ impl<D: PageDisk, L: LogFile, Q: PostRoutine> World<D, L, Q> {
         ensures within { IsWithinCapacity self.begun.capacity self.journal.entries }
         ensures disks { DisksEnded (tells_of D.told D.faults L.told L.faults Q.posted) self result.disks.items }
         ensures logs { LogsEnded (tells_of D.told D.faults L.told L.faults Q.posted) self result.logs.items }
+        ensures crash { DisksAreCrashSafe (tells_of D.told D.faults L.told L.faults Q.posted)
+            self.begun.disks self.journal.entries result.disks.items }
+        ensures logged { LogsAreDurable (tells_of D.told D.faults L.told L.faults Q.posted)
+            self.journal.entries result.logs.items }
         ensures queued { map (λ waiting. waiting.0) result.queued.items
             ≡ map (λ d. d.id) (queue self.journal.entries) }
         ensures routines { result.queued.items ≡ routines_of self.journal.queue }

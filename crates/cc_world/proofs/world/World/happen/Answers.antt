@@ -5,7 +5,7 @@ use Rattle.cc_turns.specs.Desk.{tells_of}
 use Rattle.cc_world.specs.World.{Stepped, world_of}
 use Rattle.cc_effects.specs.declared.events.Event.TheVariants as event
 use Rattle.cc_world.proofs.JournalSteps.{journal-stands, journal-stepped}
-use Rattle.cc_world.proofs.world.World.step.Goals as goal
+use Rattle.cc_world.proofs.world.World.happen.Goals as goal
 
 pub invariant_of-self : goal.invariant_of-self
 invariant_of-self g c =
