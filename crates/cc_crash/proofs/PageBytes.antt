@@ -23,7 +23,7 @@ use Rattle.cc_laws.proofs.ActSteps.{content_by, content-done}
 use Rattle.cc_laws.proofs.DiskBytes.{on_disk-image, page_bytes-at}
 use Rattle.cc_laws.proofs.ImageSteps.{begun-began_page, begun-began_other, image-ended_good}
 use Rattle.cc_readers.specs.Changes.{change_by}
-use Rattle.cc_crash.specs.DiskPages.{bytes_by, changed_bytes, shown_bytes}
+use Rattle.cc_crash.specs.DiskPages.{LeavesPage, bytes_by, changed_bytes, shown_bytes}
 
 -- two functions that agree on a page tell the same bytes of it
 pub bytes-same : (f g : ℕ → ℕ) (p : ℕ) → ((i : ℕ) → 4096 * p ≤ i → i < 4096 * p + 4096 → f i ≡ g i) → bytes_by f p ≡ bytes_by g p
@@ -60,6 +60,18 @@ bytes-opening bytes pages p long is =
     ∙ (ap (λ (l : List ℕ). slice_index l ((4096 * p + k) % 4096)) is ∙ ap (slice_index bytes) place))))
 
 -- ---- calls
+
+-- an act that changes no byte of the page
+pub bytes-left : (a : Act) (size p : ℕ) (bytes : List ℕ) → length bytes ≡ 4096 → LeavesPage a p → changed_bytes a size p bytes ≡ bytes
+bytes-left a size p bytes long leaves =
+    ext_get_or 0 (changed_bytes a size p bytes) bytes (length-map-range_with_len at 0 4096 ∙ sym long)
+    (λ k below.
+    let within : k < 4096 = omega (arith, length-map-range_with_len at 0 4096) in
+    get_or-map-range_with_len at 0 4096 k k 0 within (omega arith)
+    ∙ ap (λ (o : Option ℕ). unwrap_or o (slice_index bytes k)) (leaves size (4096 * p + k) (omega arith) (omega (arith, within))))
+  where
+    at : ℕ → ℕ
+    at k = unwrap_or (change_by a size (4096 * p + k)) (slice_index bytes k)
 
 chosen : (b : Bool) (byte old : ℕ) → (elim b as (λ x. ℕ) [ true ↦ byte | false ↦ old ]) ≡ unwrap_or (if b then Some byte else None) old
 chosen true byte old = refl

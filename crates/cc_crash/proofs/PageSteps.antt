@@ -1,13 +1,15 @@
 -- What an entry makes of a page: a done call, and each step of its transfers.
-use Rattle.std.specs.Prelude.{◌≡◌, ℕ, ◌+◌, ◌<◌, ◌≤◌, ◌≢◌, nat_eq, Bool, true, false, ◌==◌, ◌&&◌, ◌++◌, List, [], ◌∷◌, length, take, slice_index, slice_set, if◌then◌else◌, refl}
+use Rattle.std.specs.Prelude.{◌≡◌, ℕ, ◌+◌, ◌<◌, ◌≤◌, ◌≢◌, nat_eq, Bool, true, false, ◌==◌, ◌&&◌, ◌++◌, List, [], ◌∷◌, length, take, slice_index, slice_set, if◌then◌else◌, refl, OnOk}
 use Rattle.std.specs.declared.option.Option.{Option}
 use Rattle.std.specs.declared.option.Option.TheVariants.{Some, None}
+use Rattle.std.specs.declared.result.Result.{Result}
 use Rattle.std.specs.List.{cons_option}
 use Rattle.std.specs.Option.{option_map}
 use Rattle.std.proofs.Common.{ap, sym, ◌∙◌, arith, get_or}
 use Rattle.std.proofs.lemmas.Bool.{eqb-true}
 use Rattle.std.proofs.lemmas.Bool.Decides.{nat_tests}
 use Rattle.std.proofs.lemmas.Grind.{get_or-set_at}
+use Rattle.std.proofs.lemmas.Result.{on_ok_weaker}
 use Rattle.std.proofs.lemmas.List.{get_or-set_other, length-take, take-take}
 use Rattle.cc_entry.specs.declared.call.Call.{Call}
 use Rattle.cc_entry.specs.declared.reply.Reply.{Reply}
@@ -223,3 +225,9 @@ bytes-more f bytes n byte within is before k below = go (nat_eq k n) refl
     go false away =
         let other : k ≢ n = grind (arith, nat_tests) in
         get_or-set_other bytes n k byte 0 other ∙ before k (omega (arith, other, below))
+
+-- ---- where memory was found
+
+-- a page that a step left so, where that is what the effects make of it
+pub left_as : {T E : Type 0} (r : Result T E) (left : PageState) (by to : PageState) → OnOk r (left ≡ by) → by ≡ to → OnOk r (left ≡ to)
+left_as r left by to was is = on_ok_weaker {P = left ≡ by} {Q = left ≡ to} r (λ e. e ∙ is) was

@@ -1,5 +1,5 @@
 -- What entries say of a page, and how that goes with each of them.
-use Rattle.std.specs.Prelude.{ℕ, ◌+◌, ◌*◌, Bool, true, false, ◌==◌, ◌&&◌, nat_lt, List, [], ◌∷◌, ◌++◌, map, slice_index, if◌then◌else◌}
+use Rattle.std.specs.Prelude.{◌≡◌, ℕ, ◌+◌, ◌*◌, ◌<◌, ◌≤◌, Bool, true, false, ◌==◌, ◌&&◌, nat_lt, List, [], ◌∷◌, ◌++◌, map, slice_index, if◌then◌else◌}
 use Rattle.std.specs.declared.option.Option.{Option}
 use Rattle.std.specs.declared.option.Option.TheVariants.{Some, None}
 use Rattle.std.specs.List.{range_with_len}
@@ -7,6 +7,8 @@ use Rattle.std.specs.Option.{option_map, unwrap_or}
 use Rattle.cc_crash.specs.declared.steps.Step.{Step}
 use Rattle.cc_crash.specs.declared.steps.Step.TheVariants as step
 use Rattle.cc_entry.specs.declared.call.Call.{Call}
+use Rattle.cc_entry.specs.Pages.{has_byte}
+use Rattle.cc_entry.specs.Place.{Range}
 use Rattle.cc_events.specs.declared.event.Event.{Event}
 use Rattle.cc_events.specs.declared.event.Event.TheVariants as event
 use Rattle.cc_model.specs.Acts.{Act}
@@ -49,6 +51,14 @@ at_first opening = record { given = opening; held = opening; may = opening ∷ [
 abbrev pub changed_bytes : Act → ℕ → ℕ → List ℕ → List ℕ
 changed_bytes a size p bytes =
     map (λ k. unwrap_or (change_by a size (4096 * p + k)) (slice_index bytes k)) (range_with_len 0 4096)
+
+-- a range has no byte of the page
+abbrev pub IsApart : Range → ℕ → Type 0
+IsApart range p = (i : ℕ) → 4096 * p ≤ i → i < 4096 * p + 4096 → has_byte range i ≡ false
+
+-- an act changes no byte of the page, whatever the size before it
+abbrev pub LeavesPage : Act → ℕ → Type 0
+LeavesPage a p = (size i : ℕ) → 4096 * p ≤ i → i < 4096 * p + 4096 → change_by a size i ≡ None
 
 -- the bytes of the page as the plain file has them: zero from the valid data length on
 abbrev pub shown_bytes : ℕ → ℕ → List ℕ → List ℕ

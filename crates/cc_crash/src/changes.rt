@@ -1,8 +1,8 @@
 //! What a done call makes of the bytes of a page.
 
-ghost use Rattle.std.specs.Prelude.{◌≡◌, nat_lt, slice_index, if◌then◌else◌};
+ghost use Rattle.std.specs.Prelude.{◌≡◌, nat_lt, slice_index, false, if◌then◌else◌};
 ghost use Rattle.std.specs.Option.{unwrap_or};
-ghost use Rattle.cc_crash.specs.DiskPages.{changed_bytes, shown_bytes};
+ghost use Rattle.cc_crash.specs.DiskPages.{IsApart, LeavesPage, changed_bytes, shown_bytes};
 ghost use Rattle.cc_entry.specs.Pages.{has_byte};
 ghost use Rattle.cc_model.specs.Acts.{act_of, Writes, Zeroes, Stores};
 ghost use Rattle.cc_readers.specs.Changes.{change_by};
@@ -20,6 +20,42 @@ pub(crate) fn changed(bytes: &[u8; 4096], call: &Call, size: u64, page: PageId) 
         changed[i] = byte_after(call, size, first + i as u64, bytes[i]);
     }
     changed
+}
+
+/// Whether a done call may change bytes of a page; where it says no, the call changes none.
+pub(crate) fn reaches(call: &Call, page: PageId) -> bool
+    ensures { result ≡ false → LeavesPage (act_of call.now) page.page }
+{
+    match call {
+        Call::CopyWrite { at, bytes, .. } => meets_bytes(*at, bytes, page),
+        Call::PinnedWrite { at, bytes, .. } => meets_bytes(*at, bytes, page),
+        Call::MdlStore { at, bytes, .. } => meets_bytes(*at, bytes, page),
+        Call::Zero { span, .. } => meets(u128::from(span.from()), u128::from(span.to()), page),
+        Call::PreparePin {
+            at,
+            len,
+            zero: true,
+            ..
+        } => meets(u128::from(*at), u128::from(*at) + u128::from(*len), page),
+        Call::NcStore { page: stored, .. } => *stored == page.page(),
+        _ => false,
+    }
+}
+
+// Whether bytes from `at` on may have one of a page.
+fn meets_bytes(at: u64, bytes: &Bytes, page: PageId) -> bool
+    ensures { result ≡ false → LeavesPage (Writes at bytes.now) page.page }
+{
+    let from = u128::from(at);
+    meets(from, from + u128::from(bytes.len()), page)
+}
+
+// Whether a range may have a byte of a page.
+fn meets(from: u128, to: u128, page: PageId) -> bool
+    ensures { result ≡ false → IsApart (record { from = from; to = to }) page.page }
+{
+    let first = 4096 * u128::from(page.page());
+    from < first + 4096 && first < to
 }
 
 /// The bytes of a page as the plain file has them: zero from the valid data length on.

@@ -4,7 +4,7 @@ ghost use Rattle.std.specs.Prelude.{◌≡◌, IfOk, OnOk};
 ghost use Rattle.cc_crash.specs.DiskPages.{PageState, at_first, begins, changes, discards, ends, syncs};
 ghost use Rattle.cc_model.specs.Acts.{act_of};
 
-use crate::changes::{changed, shown};
+use crate::changes::{changed, reaches, shown};
 use cc_entry::{Call, NoMemory, PageId};
 use std::alloc::Global;
 use std::marker::Model;
@@ -56,7 +56,9 @@ impl DiskPage {
     pub(crate) fn changes(&mut self, call: &Call, size: u64, page: PageId)
         ensures { self.new ≡ changes (act_of call.now) size page.page self.old }
     {
-        self.given = changed(&self.given, call, size, page);
+        if reaches(call, page) {
+            self.given = changed(&self.given, call, size, page);
+        }
     }
 
     /// The page is discarded.

@@ -1,12 +1,11 @@
 -- By the entry: a done call, or the step of a transfer.
 use Rattle.std.proofs.Common.{ℕ, ap, sym, refl, ◌∙◌}
-use Rattle.std.proofs.lemmas.Result.{on_ok_weaker}
 use Rattle.cc_model.specs.History.{effect_of}
 use Rattle.cc_model.specs.Touches.{valid_of}
 use Rattle.cc_readers.specs.Effects.{effects}
 use Rattle.cc_crash.specs.DiskPages.{call_of}
 use Rattle.cc_crash.specs.declared.steps.Step.TheVariants as step
-use Rattle.cc_crash.proofs.PageSteps.{page_state-call, page_state-by}
+use Rattle.cc_crash.proofs.PageSteps.{page_state-call, page_state-by, left_as}
 use Rattle.cc_crash.proofs.contents.follow.Goals as goal
 
 pub returns-in-Some : goal.returns-in-Some
@@ -14,7 +13,8 @@ returns-in-Some c = λ pages was.
     let o = effect_of c.args.entry.now c.args.page.stream in
     let h = effects c.args.before.now c.args.page.stream in
     let is = sym (c.in-Some.ensures ∙ ap (λ (s : ℕ). call_of (effect_of c.args.entry.now s)) c.stream.ensures) in
-    on_ok_weaker c.call_done.result (λ e. e ∙ page_state-call pages o h c.args.page.page c.in-Some.call.now c.args.left.now is was) c.call_done.ensures
+    left_as c.call_done.result _ _ _ c.call_done.ensures
+    (page_state-call pages o h c.args.page.page c.in-Some.call.now c.args.left.now is was)
 
 pub returns-in-Rests : goal.returns-in-Rests
 returns-in-Rests c = λ pages was.
@@ -29,9 +29,8 @@ returns-in_ok-valid-in-Begins c = λ pages was.
     let h = effects c.args.before.now c.args.page.stream in
     let none = sym (c.in_default.ensures ∙ ap (λ (s : ℕ). call_of (effect_of c.args.entry.now s)) c.stream.ensures) in
     let valid = c.in_ok-valid-in-Begins.ensures ∙ ap (λ (s : ℕ). valid_of (effects c.args.before.now s)) c.stream-in-Begins.ensures in
-    on_ok_weaker c.begins.result
-    (λ e. e ∙ page_state-by pages o h c.args.page.page step.Begins c.in_ok-valid-in-Begins.valid c.args.left.now none c.in-Begins.ensures valid was)
-    c.begins.ensures
+    left_as c.begins.result _ _ _ c.begins.ensures
+    (page_state-by pages o h c.args.page.page step.Begins c.in_ok-valid-in-Begins.valid c.args.left.now none c.in-Begins.ensures valid was)
 
 pub returns-in-Ends : goal.returns-in-Ends
 returns-in-Ends c = λ pages was.
@@ -45,6 +44,5 @@ returns-in-Syncs c = λ pages was.
     let o = effect_of c.args.entry.now c.args.page.stream in
     let h = effects c.args.before.now c.args.page.stream in
     let none = sym (c.in_default.ensures ∙ ap (λ (s : ℕ). call_of (effect_of c.args.entry.now s)) c.stream.ensures) in
-    on_ok_weaker c.syncs.result
-    (λ e. e ∙ page_state-by pages o h c.args.page.page step.Syncs (valid_of h) c.args.left.now none c.in-Syncs.ensures refl was)
-    c.syncs.ensures
+    left_as c.syncs.result _ _ _ c.syncs.ensures
+    (page_state-by pages o h c.args.page.page step.Syncs (valid_of h) c.args.left.now none c.in-Syncs.ensures refl was)
