@@ -9,9 +9,6 @@ from scripts import TOP
 # Verbs that no row of docs/ROUTINES.md has: what they are here.
 OTHERS = {
     "stream": ("`CcInitializeCacheMap` of object 0, and `CcSetLogHandleForFile` where a log is said", "the line itself is our choice"),
-    "restart": ("none", "our choice (docs/RESTART.md)"),
-    "settle": ("none", "our choice: a flush, and the record of the stream's sizes behind it (docs/SCRIPTS.md)"),
-    "checkpoint": ("none", "our choice: the table of `CcGetDirtyPages` goes to the log (docs/SCRIPTS.md)"),
     "fill": ("none", "our choice: in Windows the memory manager reads the page as it is touched"),
     "out": ("none", "our choice: in Windows the memory manager lets the page go"),
     "begin": ("none", "our choice: in Windows the lazy writer or a flush hands the page to the file system"),
