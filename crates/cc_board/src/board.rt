@@ -5,6 +5,8 @@ ghost use Rattle.std.specs.Mem.Slots.{slots_items, slots_len, IsFull};
 ghost use Rattle.cc_entry.specs.declared.error.CcError.TheVariants as error;
 ghost use Rattle.cc_turns.specs.Standing.{nothing};
 ghost use Rattle.cc_turns.specs.Places.{IsRoomFor};
+ghost use Rattle.cc_turns.specs.Desk.{tells_of};
+ghost use Rattle.cc_turns.specs.Crash.{IsCrashSafe};
 ghost use Rattle.cc_board.specs.Board.{IsOf, IsFirstOf, IsOpened, IsHandedBack, IsSplit, IsClosed, after_join};
 
 use crate::rule::{BoardRule, CountsPasses, DrawsNumber, Key, Parting, Slot, View};
@@ -179,10 +181,13 @@ impl<D: PageDisk, L: LogFile, Q: PostRoutine> Board<D, L, Q> {
         }
     }
 
-    /// Closes the board into a desk, which is refused exactly where another pass was not joined. It takes no memory.
+    /// Closes the board into a desk, which is refused exactly where another pass was not joined. Of the disks that the
+    /// desk then has a crash leaves only what the journal allows, and its logs are durable to what was stamped on each
+    /// page as a transfer of it began. It takes no memory.
     pub fn close(self, first: FirstPass<D, L, Q>) -> Result<Desk<D, L, Q>, StillOut<D, L, Q>>
         requires here { IsFirstOf self first }
         ensures closed { IfOk result (λ desk. IsClosed self first desk) }
+        ensures crash { IfOk result (λ desk. IsCrashSafe (tells_of D.told D.faults L.told L.faults Q.posted) desk) }
         ensures refused { IsErr result ↔ (suc (length first.knows.ended) < first.knows.made) }
         ensures out { IfErr result (λ still. (still.board ≡ self) × (still.first ≡ first)
             × (suc (length first.knows.ended) + still.passes ≡ first.knows.made)) }
@@ -209,7 +214,9 @@ impl<D: PageDisk, L: LogFile, Q: PostRoutine> Board<D, L, Q> {
             streams: _,
             logs: _,
         } = self;
-        Ok(emptied.put_together(take_out(table.close_with(seat), room)))
+        let desk = emptied.put_together(take_out(table.close_with(seat), room));
+        desk.crash_safe();
+        Ok(desk)
     }
 }
 

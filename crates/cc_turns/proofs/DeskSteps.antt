@@ -117,8 +117,8 @@ module _ {D L Q : Type 0} (tells : Tells D L Q) (d : DeskState D L Q) (disks : L
   }
 
   -- a disk is held
-  pub device_taken : (at s turns : ℕ) (now : Option D) → at ≡ s → now ≡ None → s < length d.begun.disks → d.held.device ≡ None → DeskStands tells d disks books logs journal → DeskStands tells (record d { held = record d.held { device = Some s }; device_turns = turns }) (slice_set disks at now) books logs journal
-  device_taken at s turns now same none within free stands = record {
+  pub device_taken : (at s turns : ℕ) (now : Option D) (left : List D) → at ≡ s → now ≡ None → s < length d.begun.disks → d.held.device ≡ None → DeskStands tells d disks books logs journal → DeskStands tells (record d { disks = left; held = record d.held { device = Some s }; device_turns = turns }) (slice_set disks at now) books logs journal
+  device_taken at s turns now left same none within free stands = record {
     disks_are = taken_at (length d.begun.disks) d.held.device disks at s now same none within free stands.disks_are;
     books_are = stands.books_are;
     logs_are = stands.logs_are;
@@ -129,8 +129,8 @@ module _ {D L Q : Type 0} (tells : Tells D L Q) (d : DeskState D L Q) (disks : L
     acted = stands.acted;
   }
 
-  pub device_given : (at s : ℕ) (now : Option D) (disk : D) → at ≡ s → now ≡ Some disk → d.held.device ≡ Some s → DiskIsHome tells.disk tells.disk_faults d.begun.disks d.last.entries s disk → DeskStands tells d disks books logs journal → DeskStands tells (record d { held = record d.held { device = None } }) (slice_set disks at now) books logs journal
-  device_given at s now disk same put is is_home stands = record {
+  pub device_given : (at s : ℕ) (now : Option D) (disk : D) (left : List D) → at ≡ s → now ≡ Some disk → d.held.device ≡ Some s → DiskIsHome tells.disk tells.disk_faults d.begun.disks d.last.entries s disk → DeskStands tells d disks books logs journal → DeskStands tells (record d { disks = left; held = record d.held { device = None } }) (slice_set disks at now) books logs journal
+  device_given at s now disk left same put is is_home stands = record {
     disks_are = given_at (length d.begun.disks) d.held.device disks at s now disk same put is is_home stands.disks_are;
     books_are = stands.books_are;
     logs_are = stands.logs_are;
@@ -167,8 +167,8 @@ module _ {D L Q : Type 0} (tells : Tells D L Q) (d : DeskState D L Q) (disks : L
   }
 
   -- a log is held
-  pub log_taken : (at s : ℕ) (now : Option (LogState L)) → at ≡ s → now ≡ None → s < length d.begun.logs → d.held.log ≡ None → DeskStands tells d disks books logs journal → DeskStands tells (record d { held = record d.held { log = Some s } }) disks books (slice_set logs at now) journal
-  log_taken at s now same none within free stands = record {
+  pub log_taken : (at s : ℕ) (now : Option (LogState L)) (left : List L) → at ≡ s → now ≡ None → s < length d.begun.logs → d.held.log ≡ None → DeskStands tells d disks books logs journal → DeskStands tells (record d { logs = left; held = record d.held { log = Some s } }) disks books (slice_set logs at now) journal
+  log_taken at s now left same none within free stands = record {
     disks_are = stands.disks_are;
     books_are = stands.books_are;
     logs_are = taken_at (length d.begun.logs) d.held.log logs at s now same none within free stands.logs_are;
@@ -179,8 +179,8 @@ module _ {D L Q : Type 0} (tells : Tells D L Q) (d : DeskState D L Q) (disks : L
     acted = stands.acted;
   }
 
-  pub log_given : (at s : ℕ) (now : Option (LogState L)) (log : LogState L) → at ≡ s → now ≡ Some log → d.held.log ≡ Some s → LogIsHome tells.log tells.log_faults d.begun.logs d.last.entries s log → DeskStands tells d disks books logs journal → DeskStands tells (record d { held = record d.held { log = None } }) disks books (slice_set logs at now) journal
-  log_given at s now log same put is is_home stands = record {
+  pub log_given : (at s : ℕ) (now : Option (LogState L)) (log : LogState L) (left : List L) → at ≡ s → now ≡ Some log → d.held.log ≡ Some s → LogIsHome tells.log tells.log_faults d.begun.logs d.last.entries s log → DeskStands tells d disks books logs journal → DeskStands tells (record d { logs = left; held = record d.held { log = None } }) disks books (slice_set logs at now) journal
+  log_given at s now log left same put is is_home stands = record {
     disks_are = stands.disks_are;
     books_are = stands.books_are;
     logs_are = given_at (length d.begun.logs) d.held.log logs at s now log same put is is_home stands.logs_are;

@@ -82,8 +82,8 @@ log_fresh told faults logs handle at file log is same new stands = record {
 }
 
 -- a run as it begins stands
-fresh_stands : {D L Q : Type 0} (tells : Tells D L Q) (begun : Begun D L) (j last : JournalState Q) (disks : List (Option D)) (books : List (Option BookState)) (logs : List (Option (LogState L))) → length begun.disks ≤ 16 → length begun.logs ≤ 4 → last ≡ j → IsNew begun j → disks ≡ map (λ a. Some a) begun.disks → ((opening : ℕ → Option (ℕ → List ℕ)) → AreHome (length begun.disks) None (BookIsHome opening []) books) → AreHome (length begun.logs) None (LogIsHome tells.log tells.log_faults begun.logs []) logs → DeskStands tells (record { begun = begun; last = last; since = last.entries; pass = 0; held = nothing; device_turns = 0 }) disks books logs (Some j)
-fresh_stands {D} {L} {Q} tells begun j last disks books logs few_disks few_logs same new moved books_new logs_new = subst (λ l. DeskStands tells (record { begun = begun; last = l; since = l.entries; pass = 0; held = nothing; device_turns = 0 }) disks books logs (Some j)) (sym same) (record {
+fresh_stands : {D L Q : Type 0} (tells : Tells D L Q) (begun : Begun D L) (j last : JournalState Q) (disks : List (Option D)) (books : List (Option BookState)) (logs : List (Option (LogState L))) (home : List D) (files : List L) → length begun.disks ≤ 16 → length begun.logs ≤ 4 → last ≡ j → IsNew begun j → disks ≡ map (λ a. Some a) begun.disks → ((opening : ℕ → Option (ℕ → List ℕ)) → AreHome (length begun.disks) None (BookIsHome opening []) books) → AreHome (length begun.logs) None (LogIsHome tells.log tells.log_faults begun.logs []) logs → DeskStands tells (record { begun = begun; disks = home; logs = files; last = last; since = last.entries; pass = 0; held = nothing; device_turns = 0 }) disks books logs (Some j)
+fresh_stands {D} {L} {Q} tells begun j last disks books logs home files few_disks few_logs same new moved books_new logs_new = subst (λ l. DeskStands tells (record { begun = begun; disks = home; logs = files; last = l; since = l.entries; pass = 0; held = nothing; device_turns = 0 }) disks books logs (Some j)) (sym same) (record {
   disks_are = rw (new.empty.0, moved) (disks_fresh tells.disk tells.disk_faults begun.disks);
   books_are = rw new.empty.0 (books_new (openings tells.disk tells.disk_faults begun.disks));
   logs_are = rw new.empty.0 logs_new;
@@ -102,11 +102,11 @@ fresh_stands {D} {L} {Q} tells begun j last disks books logs few_disks few_logs 
   acted = record { added = []; grew = refl; own = tt };
 })
 
-pub fresh_desk : {D L Q : Type 0} (tells : Tells D L Q) (setup made : Setup D L) (j last : JournalState Q) (since : List Entry) (disks : List (Option D)) (books : List (Option BookState)) (logs : List (Option (LogState L))) (disk_room : List D) (log_room : List L) (disks_most logs_most : ℕ) → made ≡ setup → last ≡ j → since ≡ last.entries → length setup.disks.items ≤ 16 → length setup.logs.items ≤ 4 → IsNew (made_from setup) j → disks ≡ map (λ a. Some a) setup.disks.items → ((opening : ℕ → Option (ℕ → List ℕ)) → AreHome (length setup.disks.items) None (BookIsHome opening []) books) → AreHome (length setup.logs.items) None (LogIsHome tells.log tells.log_faults setup.logs.items []) logs → IsRoomFor (length setup.disks.items) disk_room disks_most → IsRoomFor (length setup.logs.items) log_room logs_most → DeskStands tells (record { begun = made_from made; last = last; since = since; pass = 0; held = nothing; device_turns = 0 }) disks books logs (Some j) × IsRoomFor (length made.disks.items) disk_room disks_most × IsRoomFor (length made.logs.items) log_room logs_most
-fresh_desk tells setup made j last since disks books logs disk_room log_room disks_most logs_most is same begun few_disks few_logs new moved books_new logs_new room log_space =
-    subst (λ s. DeskStands tells (record { begun = made_from s; last = last; since = since; pass = 0; held = nothing; device_turns = 0 }) disks books logs (Some j)
+pub fresh_desk : {D L Q : Type 0} (tells : Tells D L Q) (setup made : Setup D L) (j last : JournalState Q) (since : List Entry) (disks : List (Option D)) (books : List (Option BookState)) (logs : List (Option (LogState L))) (home : List D) (files : List L) (disk_room : List D) (log_room : List L) (disks_most logs_most : ℕ) → made ≡ setup → last ≡ j → since ≡ last.entries → length setup.disks.items ≤ 16 → length setup.logs.items ≤ 4 → IsNew (made_from setup) j → disks ≡ map (λ a. Some a) setup.disks.items → ((opening : ℕ → Option (ℕ → List ℕ)) → AreHome (length setup.disks.items) None (BookIsHome opening []) books) → AreHome (length setup.logs.items) None (LogIsHome tells.log tells.log_faults setup.logs.items []) logs → IsRoomFor (length setup.disks.items) disk_room disks_most → IsRoomFor (length setup.logs.items) log_room logs_most → DeskStands tells (record { begun = made_from made; disks = home; logs = files; last = last; since = since; pass = 0; held = nothing; device_turns = 0 }) disks books logs (Some j) × IsRoomFor (length made.disks.items) disk_room disks_most × IsRoomFor (length made.logs.items) log_room logs_most
+fresh_desk tells setup made j last since disks books logs home files disk_room log_room disks_most logs_most is same begun few_disks few_logs new moved books_new logs_new room log_space =
+    subst (λ s. DeskStands tells (record { begun = made_from s; disks = home; logs = files; last = last; since = since; pass = 0; held = nothing; device_turns = 0 }) disks books logs (Some j)
     × IsRoomFor (length s.disks.items) disk_room disks_most × IsRoomFor (length s.logs.items) log_room logs_most) (sym is)
-    (rw begun (fresh_stands tells (made_from setup) j last disks books logs few_disks few_logs same new moved books_new logs_new), room, log_space)
+    (rw begun (fresh_stands tells (made_from setup) j last disks books logs home files few_disks few_logs same new moved books_new logs_new), room, log_space)
 
 -- what the disks are that a run gives back
 pub disks_end : {D L Q : Type 0} (told : D → Option Disk) (faults : D → ℕ) (d : DeskState D L Q) (places : List (Option D)) (disks : List D) (held : Option ℕ) → AreHome (length d.begun.disks) held (DiskIsHome told faults d.begun.disks d.last.entries) places → map (λ a. Some a) disks ≡ places → DisksEnded told faults d disks

@@ -9,6 +9,7 @@ pub mod Homes
 pub mod DeskSteps
 pub mod RowSteps
 pub mod Fresh
+pub mod CrashSafe
 pub mod SlotSteps
 pub mod Taking
 pub mod Keeping

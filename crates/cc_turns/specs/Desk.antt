@@ -1,5 +1,5 @@
 -- What the turns of one thread keep.
-use Rattle.std.specs.Prelude.{◌≡◌, ℕ, ◌-◌, ◌≤◌, Bool, List, [], length, slice_get, if◌then◌else◌, vec_capacity}
+use Rattle.std.specs.Prelude.{◌≡◌, ℕ, ◌-◌, ◌≤◌, Bool, List, [], length, map, slice_get, if◌then◌else◌, vec_capacity}
 use Rattle.std.specs.declared.option.Option.{Option}
 use Rattle.std.specs.declared.option.Option.TheVariants.{Some, None}
 use Rattle.cc_book.specs.Book.{BookState, BookStands}
@@ -18,7 +18,7 @@ use Rattle.cc_turns.specs.Disk.{DiskStands, opening_of}
 use Rattle.cc_turns.specs.Log.{LogStands, FileStands}
 use Rattle.cc_turns.specs.Journal.{JournalStands}
 use Rattle.cc_turns.specs.Takes.{HasActed}
-use Rattle.cc_turns.specs.Places.{AreHome, IsRoomFor}
+use Rattle.cc_turns.specs.Places.{AreHome, IsRoomFor, at_home}
 use Rattle.cc_turns.specs.declared.desk.Held.{Held as HeldTurns}
 use Rattle.cc_turns.specs.declared.desk.Rows.{Rows}
 
@@ -55,10 +55,13 @@ pub record IsNew {D L Q : Type 0} (begun : Begun D L) (j : JournalState Q) : Typ
   pub limits : (j.capacity ≡ begun.capacity) × (j.threshold ≡ begun.threshold) × (j.logs ≡ length begun.logs)
   pub empty : (j.entries ≡ []) × (j.reserved ≡ 0) × (j.queue ≡ [])
 
--- A desk as contracts see it: what the run was made from, the journal as it was last at home, what stood in it as the
--- desk began to act as its pass, that pass, the turns that are held, and how often the turn of a disk was taken.
+-- A desk as contracts see it: what the run was made from, its disks and the files of its logs, those that are held left out, the
+-- journal as it was last at home, what stood in it as the desk began to act as its pass, that pass, the turns that are held, and
+-- how often the turn of a disk was taken.
 pub record DeskState (D L Q : Type 0) : Type 0 where
   pub begun : Begun D L
+  pub disks : List D
+  pub logs : List L
   pub last : JournalState Q
   pub since : List Entry
   pub pass : ℕ
@@ -66,9 +69,12 @@ pub record DeskState (D L Q : Type 0) : Type 0 where
   pub device_turns : ℕ
 
 -- the desk of these fields
-abbrev pub state_of : {D L Q : Type 0} → Setup D L → JournalState Q → List Entry → ℕ → HeldTurns → ℕ → DeskState D L Q
-state_of begun last since pass held device_turns = record {
+abbrev pub state_of : {D L Q : Type 0} → Setup D L → List (Option D) → List (Option (LogState L)) → JournalState Q
+    → List Entry → ℕ → HeldTurns → ℕ → DeskState D L Q
+state_of begun disks logs last since pass held device_turns = record {
   begun = made_from begun;
+  disks = at_home disks;
+  logs = map (λ log. log.file) (at_home logs);
   last = last;
   since = since;
   pass = pass;

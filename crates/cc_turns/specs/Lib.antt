@@ -8,5 +8,6 @@ pub mod Journal
 pub mod Takes
 pub mod Places
 pub mod Desk
+pub mod Crash
 pub mod Slots
 pub mod Transfers

@@ -9,7 +9,8 @@ ghost use Rattle.cc_turns.specs.Standing.{Standing, nothing};
 ghost use Rattle.cc_turns.specs.Log.{LogStands};
 ghost use Rattle.cc_turns.specs.Journal.{JournalStands};
 ghost use Rattle.cc_turns.specs.Takes.{Adds, HasActed, without_log, without_journal};
-ghost use Rattle.cc_turns.specs.Desk.{AreRowsFor, DisksEnded, LogsEnded, IsFresh, made_from, standing_of};
+ghost use Rattle.cc_turns.specs.Desk.{AreRowsFor, DisksEnded, LogsEnded, IsFresh, made_from, standing_of, tells_of};
+ghost use Rattle.cc_turns.specs.Crash.{IsCrashSafe};
 
 use crate::held::{AtTake, HeldDisk};
 use crate::places;
@@ -68,11 +69,13 @@ impl<D: PageDisk, L: LogFile, Q: PostRoutine> Model for Desk<D, L, Q> {
 
     ghost Value = { DeskState D L Q };
 
-    ghost view = { λ d. state_of d.begun.value d.last.value d.since.value.value.entries d.pass d.held d.device_turns };
+    ghost view = { λ d. state_of d.begun.value d.disks.items d.logs.items d.last.value d.since.value.value.entries
+        d.pass d.held d.device_turns };
 
     ghost invariant = { λ d.
         DeskStands (tells_of D.told D.faults L.told L.faults Q.posted)
-        (state_of d.begun.value d.last.value d.since.value.value.entries d.pass d.held d.device_turns)
+        (state_of d.begun.value d.disks.items d.logs.items d.last.value d.since.value.value.entries
+        d.pass d.held d.device_turns)
         d.disks.items d.books.items d.logs.items d.journal
         × IsRoomFor (length d.begun.value.disks.items) d.disk_room.items (vec_capacity d.disk_room)
         × IsRoomFor (length d.begun.value.logs.items) d.log_room.items (vec_capacity d.log_room) };
@@ -168,6 +171,15 @@ impl<D: PageDisk, L: LogFile, Q: PostRoutine> Desk<D, L, Q> {
         let _pass = self.pass;
     }
 
+    /// While no turn is held, a crash leaves of each page only what the journal allows, and of each log what was stamped on its
+    /// streams' pages as their transfers began.
+    pub fn crash_safe(&self)
+        requires { self.now.held ≡ nothing }
+        ensures { IsCrashSafe (tells_of D.told D.faults L.told L.faults Q.posted) self.now }
+    {
+        let _pass = self.pass;
+    }
+
     /// The journal, where its turn is not held.
     pub fn journal(&self) -> &Journal<Q>
         requires { self.now.held.journal ≡ false }
@@ -182,6 +194,8 @@ impl<D: PageDisk, L: LogFile, Q: PostRoutine> Desk<D, L, Q> {
         ensures journal { reverse result.journal.items ≡ self.last.entries }
         ensures good { IsGood (standing_of D.told D.faults L.told L.faults self).setup self.last.entries }
         ensures within { IsWithinCapacity self.begun.capacity self.last.entries }
+        ensures crash { IsCrashSafe (tells_of D.told D.faults L.told L.faults Q.posted) self }
+        ensures same { (result.disks.items ≡ self.disks) × (result.logs.items ≡ self.logs) }
         ensures disks { DisksEnded D.told D.faults self result.disks.items }
         ensures logs { LogsEnded L.told L.faults self result.logs.items }
         ensures queued { map (λ waiting. waiting.0) result.queued.items

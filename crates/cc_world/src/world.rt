@@ -9,7 +9,8 @@ ghost use Rattle.cc_model.specs.Good.{IsGood};
 ghost use Rattle.cc_model.specs.Throttle.{queue};
 ghost use Rattle.cc_turns.specs.Desk.{made_from, tells_of};
 ghost use Rattle.cc_effects.specs.Events.{IsKnown, IsUnposted, NamesOf};
-ghost use Rattle.cc_world.specs.Crash.{DisksAreCrashSafe, LogsAreDurable, disks_in, files_in};
+ghost use Rattle.cc_turns.specs.Crash.{DisksAreCrashSafe, LogsAreDurable};
+ghost use Rattle.cc_world.specs.Crash.{disks_in, files_in};
 ghost use Rattle.cc_world.specs.World.{AreRowsFor, DisksEnded, IsFresh, IsNoLogReply, JournalRests, LogsEnded, Stepped, setup_of};
 ghost use Rattle.cc_effects.specs.declared.events.Event.TheVariants as event;
 

@@ -1,9 +1,12 @@
 -- With nothing held every disk and log is at home, and stands for the journal that comes back.
-use Rattle.std.proofs.Common.{subst, ap, ◌∙◌}
-use Rattle.cc_turns.specs.Desk.{DisksEnded, LogsEnded}
+use Rattle.std.proofs.Common.{refl, subst, ap, ◌∙◌}
+use Rattle.cc_log.specs.Turn.{LogState}
+use Rattle.cc_turns.specs.Crash.{IsCrashSafe}
+use Rattle.cc_turns.specs.Desk.{DisksEnded, LogsEnded, tells_of}
 use Rattle.cc_turns.proofs.RowSteps.{all_home}
 use Rattle.cc_turns.proofs.DeskSteps.{seen_good, seen_within}
 use Rattle.cc_turns.proofs.Fresh.{disks_end, logs_end}
+use Rattle.cc_turns.proofs.CrashSafe.{desk_safe, row_home, files_home}
 use Rattle.cc_turns.proofs.desk.Desk.end.Goals as goal
 
 pub back_to-requires-clause-home : goal.back_to-requires-clause-home
@@ -13,6 +16,17 @@ back_to-requires-clause-home g c =
 pub back_to_logs-requires-clause-home : goal.back_to_logs-requires-clause-home
 back_to_logs-requires-clause-home g c =
     all_home _ _ _ (ap (λ d. d.held.log) c.self.view_is ∙ ap (λ held. held.log) c.requires) c.self.invariant.0.logs_are
+
+pub returns-clause-crash : goal.returns-clause-crash
+returns-clause-crash g c =
+    subst (λ d. IsCrashSafe (tells_of g.D.Told.told g.D.Told.faults g.L.LogFile.told g.L.LogFile.faults g.Q.PostRoutine.posted) d) c.self.view_is
+    (desk_safe _ _ c.self.inside.disks.items _ c.self.inside.logs.items _ (ap (λ d. d.held) c.self.view_is ∙ c.requires) refl refl c.self.invariant.0)
+
+pub returns-clause-same : goal.returns-clause-same
+returns-clause-same g c = (
+  row_home c.back_to.result.items c.self.inside.disks.items c.back_to.ensures ∙ ap (λ d. d.disks) c.self.view_is,
+  files_home (λ (log : LogState g.row.L.Denot). log.file) c.back_to_logs.result.items c.self.inside.logs.items c.back_to_logs.ensures ∙ ap (λ d. d.logs) c.self.view_is,
+)
 
 pub returns-clause-disks : goal.returns-clause-disks
 returns-clause-disks g c =

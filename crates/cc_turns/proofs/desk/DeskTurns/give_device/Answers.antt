@@ -19,7 +19,7 @@ index_mut-requires g c =
 
 pub invariant_of-self : goal.invariant_of-self
 invariant_of-self g c = (
-  device_given _ _ _ _ _ _ c.from.result c.args.stream c.replace.new.self c.into_disk.result (c.from.ensures ∙ c.number.ensures.same) c.replace.ensures.after
+  device_given _ _ _ _ _ _ c.from.result c.args.stream c.replace.new.self c.into_disk.result _ (c.from.ensures ∙ c.number.ensures.same) c.replace.ensures.after
       (ap (λ d. d.held.device) c.self.view_is ∙ ap (λ held. held.device) c.requires.held)
       (record { stands = disk_back g.D.Told.told g.D.Told.faults _ _ c.args.stream c.into_disk.result c.args.disk c.into_disk.ensures (subst (λ d. DiskStands (held_told g.D.Told.told) (held_faults g.D.Told.faults) (disk_at_first g.D.Told.told g.D.Told.faults (slice_get d.begun.disks c.args.stream)) d.last.entries c.args.stream c.args.disk) (sym c.self.view_is) c.requires.stands); at_rest = subst (λ d. open_of (history d.last.entries c.args.stream) ≡ None) (sym c.self.view_is) c.requires.at_rest }) c.self.invariant.0,
   c.self.invariant.1,

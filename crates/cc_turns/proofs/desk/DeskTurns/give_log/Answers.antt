@@ -16,7 +16,7 @@ index_mut-requires g c =
 
 pub invariant_of-self : goal.invariant_of-self
 invariant_of-self g c = (
-  log_given _ _ _ _ _ _ c.from.result c.args.handle (Some c.args.log) c.args.log c.from.ensures refl
+  log_given _ _ _ _ _ _ c.from.result c.args.handle (Some c.args.log) c.args.log _ c.from.ensures refl
       (ap (λ d. d.held.log) c.self.view_is ∙ c.requires.held)
       (record { handle_is = c.requires.handle; stands = subst (λ d. LogStands g.L.LogFile.told g.L.LogFile.faults (log_at_first g.L.LogFile.told g.L.LogFile.faults (slice_get d.begun.logs c.args.handle)) d.last.entries c.args.log) (sym c.self.view_is) c.requires.stands }) c.self.invariant.0,
   c.self.invariant.1,

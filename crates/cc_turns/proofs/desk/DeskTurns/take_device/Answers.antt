@@ -9,7 +9,7 @@ use Rattle.cc_turns.proofs.desk.DeskTurns.take_device.Goals as goal
 
 pub invariant_of-self : goal.invariant_of-self
 invariant_of-self g c = (
-  device_taken _ _ _ _ _ _ c.from.result c.args.stream _ c.take.new.self (c.from.ensures ∙ c.number.ensures.same) c.take.ensures.after
+  device_taken _ _ _ _ _ _ c.from.result c.args.stream _ c.take.new.self _ (c.from.ensures ∙ c.number.ensures.same) c.take.ensures.after
       (subst (λ d. c.args.stream < length d.begun.disks) (sym c.self.view_is) c.requires.known)
       (ap (λ d. d.held.device) c.self.view_is ∙ ap (λ held. held.device) c.requires.free) c.self.invariant.0,
   c.self.invariant.1,

@@ -7,7 +7,7 @@ use Rattle.cc_turns.proofs.desk.DeskTurns.take_log.Goals as goal
 
 pub invariant_of-self : goal.invariant_of-self
 invariant_of-self g c = (
-  log_taken _ _ _ _ _ _ c.from.result c.args.handle c.take.new.self c.from.ensures c.take.ensures.after
+  log_taken _ _ _ _ _ _ c.from.result c.args.handle c.take.new.self _ c.from.ensures c.take.ensures.after
       (subst (λ d. c.args.handle < length d.begun.logs) (sym c.self.view_is) c.requires.known)
       (ap (λ d. d.held.log) c.self.view_is ∙ c.requires.no_log) c.self.invariant.0,
   c.self.invariant.1,

@@ -1,6 +1,7 @@
 use Rattle.std.proofs.Common.{subst}
 use Rattle.cc_turns.specs.Desk.{tells_of}
-use Rattle.cc_world.specs.Crash.{DisksAreCrashSafe, LogsAreDurable, disks_in, files_in}
+use Rattle.cc_turns.specs.Crash.{DisksAreCrashSafe, LogsAreDurable}
+use Rattle.cc_world.specs.Crash.{disks_in, files_in}
 use Rattle.cc_world.proofs.CrashSafe.{disks-safe, logs-safe}
 use Rattle.cc_world.proofs.world.World.crash_safe.Goals as goal
 

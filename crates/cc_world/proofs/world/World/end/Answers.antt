@@ -1,6 +1,6 @@
 use Rattle.std.proofs.Common.{subst, sym}
 use Rattle.cc_turns.specs.Desk.{tells_of}
-use Rattle.cc_world.specs.Crash.{DisksAreCrashSafe, LogsAreDurable}
+use Rattle.cc_turns.specs.Crash.{DisksAreCrashSafe, LogsAreDurable}
 use Rattle.cc_world.specs.World.{DisksEnded, LogsEnded, setup_of}
 use Rattle.cc_journal.specs.Capacity.{IsWithinCapacity}
 use Rattle.cc_model.specs.Good.{IsGood}
