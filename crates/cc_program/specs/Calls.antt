@@ -12,7 +12,7 @@ use Rattle.cc_traits.specs.Disk.{Disk}
 use Rattle.cc_traits.specs.Log.{Log}
 use Rattle.cc_program.specs.Begun.{IsBegun}
 use Rattle.cc_program.specs.Disks.{DisksLeft}
-use Rattle.cc_program.specs.Ends.{Input}
+use Rattle.cc_program.specs.Ends.{Input, IsAsked}
 use Rattle.cc_program.specs.Logs.{LogsLeft}
 use Rattle.cc_program.specs.Runs.{IsExplainedBy}
 use Rattle.cc_program.specs.Setups.{IsSetupOf, setup_of}
@@ -33,7 +33,8 @@ pub record ProgramCall (D L : Type 0) : Type 0 where
   pub logs_begun : List L
   pub logs_left : List L
 
--- The clauses `restarted`, `good`, `explained`, `disks` and `logs` of the program's call.
+-- The clauses `restarted`, `good`, `explained`, `disks` and `logs` of the program's call; and of `ended` that the script that was run is
+-- the one that the words ask for.
 pub record HasClauses {D L : Type 0} (told : D → Option Disk) (faults : D → ℕ) (log_told : L → Option Log) (log_faults : L → ℕ)
     (call : ProgramCall D L) : Type 0 where
   pub restarted : IsBegun told faults log_told log_faults call.input call.script call.told.replies call.past call.status
@@ -43,3 +44,4 @@ pub record HasClauses {D L : Type 0} (told : D → Option Disk) (faults : D → 
       (setup_of told faults script call.disks_begun call.logs_begun) script call.told call.taken call.past)
   pub disks : DisksLeft told faults call.past call.disks_begun call.disks_left
   pub logs : LogsLeft log_told log_faults call.past call.logs_begun call.logs_left
+  pub asked : IfSome call.script (IsAsked call.input)

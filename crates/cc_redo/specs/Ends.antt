@@ -70,7 +70,7 @@ OneFailed {D} faults P streams old new =
 abbrev pub IsReadFault : List Change → ℕ → Option Disk → Option Disk → Type 0
 IsReadFault changes page was now = (is_changed changes page ≡ true) × (now ≡ was)
 
--- the pages are all made, the record stands, and nothing is settled yet
+-- the pages are all made, and the record stands as it did
 pub record AwaitsSync (changes : List Change) (old new : Disk) : Type 0 where
   pub holds : Holds (changed_page changes old) new
   pub stands : RecordStands old new

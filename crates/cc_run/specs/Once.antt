@@ -45,4 +45,5 @@ pub record AreToldOnce (streams : List StreamLine) (lines : List ActionLine) (to
   pub setup : take (length streams) kept ≡ take (length streams) told
   pub part : AllTellPart lines (drop (length streams) told) (drop (length streams) kept)
   pub once : IsDistinct nat_eq (posted_in lines (drop (length streams) kept))
-  pub all : (id : ℕ) → tells_it id (posted_in lines (drop (length streams) told)) ≡ tells_it id (posted_in lines (drop (length streams) kept))
+  pub all : (id : ℕ) →
+      tells_it id (posted_in lines (drop (length streams) told)) ≡ tells_it id (posted_in lines (drop (length streams) kept))

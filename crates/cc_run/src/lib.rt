@@ -18,9 +18,9 @@
 //! there are enough disks, logs and post routines, `row` parts those that a run takes from the others, and `table` has the
 //! table of the text. `laws` has what follows of how the program ended, and of what the records of its disks tell.
 //!
-//! It stands on the command (its words, the bytes of its script, the text that is put out), on the script, on the text, on the calls, on the turns of one thread and on those that threads share, on the
-//! events of a script of steps, on the traits of the outside, on what a journal means and on how it explains answers. The
-//! program stands on it.
+//! It stands on the command (its words, the bytes of its script, the text that is put out), on the script, on the text,
+//! on the calls, on the turns of one thread and on those that threads share, on the events of a script of steps, on the
+//! traits of the outside, on what a journal means and on how it explains answers. The program stands on it.
 #![tactic(auto)]
 
 mod aheads;

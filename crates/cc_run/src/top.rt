@@ -462,8 +462,8 @@ pub fn cache_main<
     ensures logs { LogsLeft L.told L.faults (reverse result.journal.items) result.logs_begun.value.items result.logs.items }
     ensures posts { PostsLeft Q.posted (deferrals_in result.script result.replies.items) (reverse result.journal.items)
         posts.items result.posts.items }
-    // Five of these clauses, `restarted`, `good`, `explained`, `disks` and `logs`, as one record over this call: the laws on calls that
-    // follow each other are stated over it.
+    // Five of these clauses, `restarted`, `good`, `explained`, `disks` and `logs`, as one record over this call, with what `ended` says of
+    // its script: the laws on calls that follow each other are stated over it.
     ensures clauses { HasClauses D.told D.faults L.told L.faults (record {
       input = input S.told S.faults S.given S.ended (map string_bytes words.now) script.old script.new
           (length disks.items) (length logs.items) (length posts.items);

@@ -1,5 +1,5 @@
 -- What the clauses of the program's call say of a call: of its devices, of its restarts, and of the run behind them.
-use Rattle.std.specs.Prelude.{◌≡◌, ℕ, zero, suc, List, [], ◌∷◌, IfSome, slice_get, slice_set, Ok, refl}
+use Rattle.std.specs.Prelude.{◌≡◌, ℕ, zero, suc, ◌<◌, List, [], ◌∷◌, IfSome, slice_get, slice_set, Ok, refl}
 use Rattle.std.specs.declared.option.Option.{Option}
 use Rattle.std.specs.declared.option.Option.TheVariants.{Some}
 use Rattle.std.proofs.Common.{ap, sym, subst, ◌∙◌}
@@ -21,12 +21,13 @@ use Rattle.cc_script.specs.declared.script.RestartLine.{RestartLine}
 use Rattle.cc_script.specs.declared.script.Script.{Script}
 use Rattle.cc_script.specs.declared.script.StreamLine.{StreamLine}
 use Rattle.cc_stop_laws.proofs.Restarting.{tells-last}
-use Rattle.cc_stop_laws.specs.Redoable.{TellsAt}
+use Rattle.cc_stop_laws.specs.Redoable.{RestartsOnce, TellsAt}
 use Rattle.cc_stop_laws.specs.Runs.{IsUpdatedRun}
 use Rattle.cc_traits.specs.Disk.{Disk}
 use Rattle.cc_traits.specs.Log.{Log}
 use Rattle.cc_update_laws.specs.Devices.{GoesOnFrom}
 use Rattle.cc_format.specs.declared.record.StreamRecord.{StreamRecord}
+use Rattle.cc_run_laws.proofs.Asked.{restarts-once, within-run}
 use Rattle.cc_run_laws.proofs.GoesOn.{answered-done, goes-on, number-last}
 use Rattle.cc_run_laws.proofs.Left.{has-left, so-far}
 use Rattle.cc_run_laws.specs.Calls.{HasRestarted, RanUpdated}
@@ -77,16 +78,16 @@ module _ {D L : Type 0} (told : D → Option Disk) (faults : D → ℕ) (log_tol
         (subst (λ (o : Option Script). IfSome o (λ script. IsExplainedBy (mode_in call.input.words) (setup_of told faults script call.disks_begun call.logs_begun) script call.told call.taken call.past)) ran clauses.explained)
 
     -- it is one in which the stream changed by logged updates alone
-    pub updated-run : (script : Script) → call.script ≡ Some script → (s log : ℕ) (line : StreamLine) (read : Option StreamRecord) (opening left : Disk) (begun after : Log) → RanUpdated told log_told call s log line read opening left begun after →
+    pub updated-run : (script : Script) → call.script ≡ Some script → (s log : ℕ) (line : StreamLine) (read : Option StreamRecord) (opening left : Disk) (begun after : Log) → s < 16 → log < 4 → RanUpdated told log_told call s log line read opening left begun after →
         IsUpdatedRun (setup_of told faults script call.disks_begun call.logs_begun) call.past s log line read opening left begun after
-    updated-run script ran s log line read opening left begun after run = record {
-      below = run.stream_below;
+    updated-run script ran s log line read opening left begun after below low run = record {
+      below = below;
       good = so-far (setup_of told faults script call.disks_begun call.logs_begun) call.past (good-run script ran);
       updated = run.updated;
       reads = run.reads;
       numbered = run.numbered;
       has_left =
-          has-left told faults log_told log_faults call.past call.disks_begun call.disks_left call.logs_begun call.logs_left clauses.disks clauses.logs s log opening left begun after run.stream_below run.log_below run.disk_begun run.disk_left
+          has-left told faults log_told log_faults call.past call.disks_begun call.disks_left call.logs_begun call.logs_left clauses.disks clauses.logs s log opening left begun after below low run.disk_begun run.disk_left
           run.log_begun run.log_left;
     }
 
@@ -100,6 +101,10 @@ module _ {D L : Type 0} (told : D → Option Disk) (faults : D → ℕ) (log_tol
     its-end =
         let one = has-end restarted.script.streams restarted.script.restarts behind.ended call.disks call.disks_begun call.logs call.logs_begun behind.made restarted.n restarted.lines.restart restarted.lines.at in
         record { one = one.one; at = one.at; of_log = one.of_log ∙ restarted.lines.of_log }
+
+    -- no other line restarts the log
+    pub its-once : RestartsOnce log restarted.script.restarts restarted.n
+    its-once = restarts-once restarted.script.restarts (within-run told faults log_told log_faults call restarted.clauses restarted.script restarted.ran).restarts log restarted.n restarted.lines.restart restarted.lines.at restarted.lines.of_log
 
     -- it was done
     pub numbers-told : (numbers : Numbers) × (its-end.one.ended ≡ Ok numbers)
@@ -119,4 +124,4 @@ module _ {D L : Type 0} (told : D → Option Disk) (faults : D → ℕ) (log_tol
         last : k.0.last ≡ lsn_of (last_of (readings restarted.kept.entries))
         last =
             tells-last told faults log_told log_faults restarted.script.streams restarted.script.restarts behind.ended call.disks call.disks_begun call.logs call.logs_begun behind.made s log restarted.n restarted.line its-end.one restarted.kept
-            restarted.lines its-end.at restarted.handed_in.log_at k.0 k.1
+            restarted.lines its-once its-end.at restarted.handed_in.log_at k.0 k.1

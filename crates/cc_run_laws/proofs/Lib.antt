@@ -1,9 +1,11 @@
 -- Lemmas.
+mod Asked
 mod Left
 mod Quiet
 mod GoesOn
 mod Calls
 mod Chains
+mod Flushed
 mod ScriptRan
 mod ScriptLinks
 mod Found

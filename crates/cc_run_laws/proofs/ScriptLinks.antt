@@ -20,6 +20,8 @@ module _ {D L : Type 0} (told : D → Option Disk) (faults : D → ℕ) (log_tol
     clauses = is.clauses;
     script = is.ran.leaves.its.script;
     ran = is.ran.leaves.its.ran;
+    named = is.ran.leaves.its.named;
+    logged = is.ran.leaves.its.logged;
     begun = is.begun;
     run = updated call is.clauses s log stream read opening left is.begun after is.ran;
     whole = is.whole;

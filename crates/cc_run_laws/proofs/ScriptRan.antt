@@ -11,6 +11,7 @@ use Rattle.cc_restart_laws.specs.Updates.{IsUpdated}
 use Rattle.cc_program.specs.Runs.{given_of}
 use Rattle.cc_program.specs.Setups.{setup_of}
 use Rattle.cc_command.specs.Words.{mode_in}
+use Rattle.cc_script.specs.Within.{IsWithin}
 use Rattle.cc_script.specs.declared.script.Mode.TheVariants as mode
 use Rattle.cc_script.specs.declared.script.Script.{Script}
 use Rattle.cc_script.specs.declared.script.StreamLine.{StreamLine}
@@ -19,6 +20,7 @@ use Rattle.cc_traits.specs.Disk.{Disk, page_of}
 use Rattle.cc_traits.specs.Log.{Log}
 use Rattle.cc_turns.specs.Desk.{disk_at_first}
 use Rattle.cc_turns.specs.Disk.{opening_of}
+use Rattle.cc_run_laws.proofs.Asked.{stream-below, within-run}
 use Rattle.cc_run_laws.proofs.Calls.{explained-run, good-run}
 use Rattle.cc_run_laws.proofs.Left.{so-far}
 use Rattle.cc_run_laws.specs.Calls.{RanUpdated}
@@ -32,7 +34,7 @@ get-take (suc n) (y ∷ xs) zero x below at = at
 get-take (suc n) (y ∷ xs) (suc s) x below at = get-take n xs s x (omega (arith, below)) at
 
 module _ {D L : Type 0} (told : D → Option Disk) (faults : D → ℕ) (log_told : L → Option Log) (log_faults : L → ℕ) (call : ProgramCall D L) (clauses : HasClauses told faults log_told log_faults call) (s log : ℕ) (line : StreamLine) (read : Option StreamRecord)
-    (opening left : Disk) (begun after : Log) (script : Script) (ran : call.script ≡ Some script) (mode_is : mode_in call.input.words ≡ mode.Run) (had : HadDevices told log_told call s log line read opening left begun after) where
+    (opening left : Disk) (begun after : Log) (script : Script) (ran : call.script ≡ Some script) (named : slice_get script.streams s ≡ Some line) (mode_is : mode_in call.input.words ≡ mode.Run) (had : HadDevices told log_told call s log line read opening left begun after) where
   abbrev pub setup : Setup
   setup = setup_of told faults script call.disks_begun call.logs_begun
 
@@ -42,16 +44,17 @@ module _ {D L : Type 0} (told : D → Option Disk) (faults : D → ℕ) (log_tol
   pub good : IsGoodSoFar setup call.past
   good = so-far setup call.past (good-run told faults log_told log_faults call clauses script ran)
 
+  pub within : IsWithin script
+  within = within-run told faults log_told log_faults call clauses script ran
+
   -- the disk told the opening pages of the stream
   pub opens : setup.opening s ≡ Some (page_of opening)
   opens =
-      ap (λ (o : Option D). opening_of (disk_at_first told faults o).told) (get-take 16 call.disks_begun s had.disk_begun.device had.stream_below had.disk_begun.at)
+      ap (λ (o : Option D). opening_of (disk_at_first told faults o).told) (get-take 16 call.disks_begun s had.disk_begun.device (stream-below script within s line named) had.disk_begun.at)
       ∙ ap opening_of had.disk_begun.tells
 
   pub ran-updated : IsUpdated s log call.past → IsNumbered s line read call.past → RanUpdated told log_told call s log line read opening left begun after
   ran-updated updated numbered = record {
-    stream_below = had.stream_below;
-    log_below = had.log_below;
     disk_begun = had.disk_begun;
     disk_left = had.disk_left;
     log_begun = had.log_begun;

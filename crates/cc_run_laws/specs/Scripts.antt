@@ -1,5 +1,5 @@
 -- A run that left a stream to its logged updates, and what a checkpoint of its log asks beside.
-use Rattle.std.specs.Prelude.{◌≡◌, ◌⊎◌, ◌+◌, ◌<◌, ℕ, true, false, length, slice_get}
+use Rattle.std.specs.Prelude.{◌≡◌, ◌⊎◌, ◌+◌, ℕ, true, false, length, slice_get}
 use Rattle.std.specs.List.{AllByRecursion}
 use Rattle.std.specs.declared.option.Option.{Option}
 use Rattle.std.specs.declared.option.Option.TheVariants.{Some, None}
@@ -13,7 +13,6 @@ use Rattle.cc_model.specs.History.{history}
 use Rattle.cc_model.specs.Objects.{had_map}
 use Rattle.cc_redo.specs.Disks.{record_number}
 use Rattle.cc_program.specs.Runs.{given_of}
-use Rattle.cc_script.specs.Checkpoints.{CheckpointsStandApart}
 use Rattle.cc_script.specs.declared.script.Mode.TheVariants as mode
 use Rattle.cc_script.specs.declared.script.Script.{Script}
 use Rattle.cc_script.specs.declared.script.StreamLine.{StreamLine}
@@ -51,18 +50,14 @@ InitialisesNone s script = AllByRecursion (λ each. initialises s each.action �
 abbrev pub HasNoCheckpoint : ℕ → Script → Type 0
 HasNoCheckpoint log script = AllByRecursion (λ each. checkpoints log each.action ≡ false) script.lines
 
--- It has no checkpoint of the log; or the stream had no map in the run, and each checkpoint is alone in its phase with lines of its caller,
--- as the grammar says.
+-- It has no checkpoint of the log, or the stream had no map in the run.
 abbrev pub HasNoneOrOpensNone : {D L : Type 0} → ProgramCall D L → ℕ → ℕ → Script → Type 0
-HasNoneOrOpensNone call s log script =
-    HasNoCheckpoint log script ⊎ (CheckpointsStandApart script.lines × (had_map (history call.past s) ≡ false))
+HasNoneOrOpensNone call s log script = HasNoCheckpoint log script ⊎ (had_map (history call.past s) ≡ false)
 
 -- A disk and a log told these as the run of a call began and as it ended. What the record page spelled is what the stream is opened with,
 -- or it spelled none.
 pub record HadDevices {D L : Type 0} (told : D → Option Disk) (log_told : L → Option Log) (call : ProgramCall D L) (s log : ℕ)
     (line : StreamLine) (read : Option StreamRecord) (opening left : Disk) (begun after : Log) : Type 0 where
-  pub stream_below : s < 16
-  pub log_below : log < 4
   pub disk_begun : TellsAt told call.disks_begun s opening
   pub disk_left : TellsAt told call.disks_left s left
   pub log_begun : TellsAt log_told call.logs_begun log begun
@@ -70,11 +65,10 @@ pub record HadDevices {D L : Type 0} (told : D → Option Disk) (log_told : L �
   pub reads : IsReadAs (page_of opening record_number) read
   pub stored : (line.stored ≡ true) ⊎ (read ≡ None)
 
--- What the checkpoints of the log ask: each is alone in its phase with lines of its caller, as the grammar says; each recorded update of
--- the stream was set dirty as a checkpoint listed the table of the log's dirty pages, or no update of it was refused for want of room or of
--- memory; and at the sync of the stream that each made the image of each of its pages was known.
+-- What the checkpoints of the log ask: each recorded update of the stream was set dirty as a checkpoint listed the table of the log's dirty
+-- pages, or no update of it was refused for want of room or of memory; and at the sync of the stream that each made the image of each of its
+-- pages was known.
 pub record CheckpointsAreRight {D L : Type 0} (call : ProgramCall D L) (s log : ℕ) (script : Script) : Type 0 where
-  pub apart : CheckpointsStandApart script.lines
   pub stamped : AreStampedAtTables s log call.past
       ⊎ AllByRecursion (λ each. IsUnwanting s each.0 each.1) (lines_answered (given_of script) call.told)
   pub known : AllByRecursion (λ each. checkpoints log each.action ≡ true → IsKnownAt s log each.caller call.past) script.lines

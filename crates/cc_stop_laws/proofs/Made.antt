@@ -303,7 +303,7 @@ redoable-handed s size first stream kept pages left handed redoable handed_on = 
     still p bytes among = subst (λ (l : List ℕ). Contains (may_of left p) l) (one-alone (page_of handed p) bytes (subst (λ (l : List (List ℕ)). Contains l bytes) (handed_on.whole.alone p) among)) (handed_on.among p)
 
 -- and so can one on which the restart was done
-between-made : (made : ℕ → List ℕ) (old new : Disk) → IsMade made new → IsBetween made old new
+pub between-made : (made : ℕ → List ℕ) (old new : Disk) → IsMade made new → IsBetween made old new
 between-made made old new is = record {
   pages = record {
     holds = λ page possible.

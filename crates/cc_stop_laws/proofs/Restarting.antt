@@ -1,14 +1,16 @@
 -- The restarts of a script over what was handed in.
-use Rattle.std.specs.Prelude.{◌≡◌, ℕ, ◌^◌, ◌<◌, ◌≤◌, ◌⊎◌, List, [], ◌∷◌, ◌++◌, slice_get, Result, Ok, Err, refl}
+use Rattle.std.specs.Prelude.{◌≡◌, ℕ, ◌^◌, ◌<◌, ◌≤◌, ◌⊎◌, List, [], ◌∷◌, ◌++◌, Contains, slice_get, Result, Ok, Err, refl}
 use Rattle.std.specs.List.{AllByRecursion}
 use Rattle.std.specs.declared.option.Option.{Option}
 use Rattle.std.specs.declared.option.Option.TheVariants.{Some}
 use Rattle.std.proofs.Common.{ap, append-nil, sym, subst, ◌∙◌, arith, inl, inr}
+use Rattle.std.proofs.lemmas.List.Elements.{Contains-push}
 use Rattle.std.proofs.lemmas.Option.{same_Some}
 use Rattle.cc_entry.specs.declared.error.CcError.{CcError}
 use Rattle.cc_format.specs.Spelling.{IsReadAs}
 use Rattle.cc_format.specs.declared.record.StreamRecord.{StreamRecord}
 use Rattle.cc_redo.specs.Disks.{IsBetween, IsMade, record_number}
+use Rattle.cc_redo.specs.Ends.{made_from}
 use Rattle.cc_redo.specs.Heard.{last_of, readings}
 use Rattle.cc_restart_laws.proofs.Logs.{among-all, among-right}
 use Rattle.cc_restart_laws.proofs.Redoing.{IsAmong}
@@ -20,15 +22,15 @@ use Rattle.cc_restarts.specs.declared.ended.LogRestart.{LogRestart}
 use Rattle.cc_restarts.specs.declared.ended.Numbers.{Numbers}
 use Rattle.cc_script.specs.declared.script.RestartLine.{RestartLine}
 use Rattle.cc_script.specs.declared.script.StreamLine.{StreamLine}
-use Rattle.cc_traits.specs.Disk.{Disk, page_of}
+use Rattle.cc_traits.specs.Disk.{Disk, may_of, page_of}
 use Rattle.cc_traits.specs.Log.{Log, LogEntry}
 use Rattle.cc_update_laws.proofs.Devices.{last-least, log-front}
 use Rattle.cc_update_laws.specs.Logs.{IsLogOf}
 use Rattle.cc_stop_laws.proofs.Given.{SameSaid, names-same, same-redo, same-sizes}
-use Rattle.cc_stop_laws.proofs.Made.{file-made, redoable-again, redoable-handed, redoable-made}
+use Rattle.cc_stop_laws.proofs.Made.{between-made, file-made, redoable-again, redoable-handed, redoable-made}
 use Rattle.cc_stop_laws.proofs.Outcome.{IsMadeOf, done-last, done-made, refused-left, restarted-from}
 use Rattle.cc_stop_laws.proofs.Position.{IsAt, at-restart}
-use Rattle.cc_stop_laws.specs.Redoable.{IsFileMade, IsHandedIn, IsHandedOn, IsRedoable, NamesAgain, RestartsStream, TellsAt, TellsGreatest}
+use Rattle.cc_stop_laws.specs.Redoable.{HoldsPossible, IsFileMade, IsHandedIn, IsHandedOn, IsRedoable, NamesAgain, RestartsOnce, RestartsStream, TellsAt, TellsGreatest}
 use Rattle.cc_stop_laws.specs.Runs.{IsRedoneFrom, as_read}
 
 -- a log that keeps each entry up to the last that was read keeps all that were read
@@ -50,6 +52,15 @@ redone-read s size first stream pages now kept are redoable = record {
   redoable = λ fewer keeps. subst (λ (l : List LogEntry). IsRedoable s stream size l pages first now) (all-kept s size kept.entries fewer are keeps) redoable;
 }
 
+-- each page that is handed on is all that a crash can leave of it
+pub possible-handed : (left handed : Disk) → IsHandedOn left handed → HoldsPossible handed
+possible-handed left handed handed_on = λ p.
+    subst (λ (l : List (List ℕ)). Contains l (page_of handed p)) (sym (handed_on.whole.alone p)) (Contains-push [] (page_of handed p))
+
+-- so is each that a restart leaves
+possible-between : (left handed now : Disk) (made : ℕ → List ℕ) → IsHandedOn left handed → IsBetween made handed now → HoldsPossible now
+possible-between left handed now made handed_on between = λ p. between.pages.holds p (possible-handed left handed handed_on p)
+
 -- of what was handed in too
 pub redone-handed : (s size first : ℕ) (stream : StreamLine) (pages : ℕ → List ℕ) (left handed : Disk) (after kept : Log) → IsRedoneFrom s stream size pages first left after → IsHandedOn left handed → IsKept after.durable after.entries kept.entries →
     IsRedoneFrom s stream size pages first handed (as_read kept)
@@ -59,9 +70,9 @@ redone-handed s size first stream pages left handed after kept redone handed_on 
 
 module _ {D L : Type 0} (told : D → Option Disk) (faults : D → ℕ) (log_told : L → Option Log) (log_count : L → ℕ) (streams : List StreamLine) (restarts : List RestartLine) (ended : List LogRestart) (disks disks_begun : List D) (logs logs_begun : List L)
     (restarted : LogsRestarted told faults log_told log_count streams restarts ended disks disks_begun logs logs_begun) (s log n : ℕ) (line : StreamLine) (one : LogRestart) (kept : Log) (is : RestartsStream s log line streams restarts n)
-    (ended_at : slice_get ended n ≡ Some one) (log_at : TellsAt log_told logs log kept) where
+    (once : RestartsOnce log restarts n) (ended_at : slice_get ended n ≡ Some one) (log_at : TellsAt log_told logs log kept) where
   place : IsAt told faults log_told log_count s log streams one disks disks_begun logs logs_begun
-  place = at-restart told faults log_told log_count streams s log line is.named is.logged restarts ended disks disks_begun logs logs_begun restarted n is.restart one is.at is.of_log ended_at is.once
+  place = at-restart told faults log_told log_count streams s log line is.named is.logged restarts ended disks disks_begun logs logs_begun restarted n is.restart one is.at is.of_log ended_at once
 
   log_is : log_told place.was ≡ Some kept
   log_is = ap log_told (same_Some place.was log_at.device (sym place.log_before ∙ log_at.at)) ∙ log_at.tells
@@ -117,14 +128,15 @@ module _ {D L : Type 0} (told : D → Option Disk) (faults : D → ℕ) (log_tol
 
     -- however it ended, a restart of the same entries makes the file of what it left
     abbrev pub Again : Type 0
-    Again = (now : Disk) × TellsAt told disks_begun s now × TellsAt log_told logs_begun log kept × IsRedoneFrom s stream size pages first now (as_read kept)
+    Again = (now : Disk) × TellsAt told disks_begun s now × TellsAt log_told logs_begun log kept × IsRedoneFrom s stream size pages first now (as_read kept) × HoldsPossible now
 
-    redone-again : (now : Disk) → TellsAt told disks_begun s now → IsRedoable s stream size kept.entries pages first now → Again
-    redone-again now at redoable = (
+    redone-again : (now : Disk) → TellsAt told disks_begun s now → IsRedoable s stream size kept.entries pages first now → HoldsPossible now → Again
+    redone-again now at redoable possible = (
       now,
       at,
       log-tells,
       redone-read s size first stream pages now kept are-kept redoable,
+      possible,
     )
 
     pub made-again : Again
@@ -133,11 +145,12 @@ module _ {D L : Type 0} (told : D → Option Disk) (faults : D → ℕ) (log_tol
         go : ((after : D) × (slice_get place.new s ≡ Some after) × (told after ≡ Some handed)) ⊎ MadeOf IsBetween → Again
         go (inl stays) =
             redone-again handed (record { device = stays.0; at = place.after ∙ stays.1; tells = stays.2 })
-            (redoable-handed s size first stream kept.entries pages left handed redoable handed_in.handed_on)
+            (redoable-handed s size first stream kept.entries pages left handed redoable handed_in.handed_on) (possible-handed left handed handed_in.handed_on)
         go (inr m) =
             redone-again m.made (record { device = m.after; at = place.after ∙ m.at; tells = m.tells_made })
             (redoable-again s size first stream kept.entries pages left handed redoable handed_in.handed_on m.given m.read m.redo m.spelled
             (same-redo s stream line m.read m.redo (said m.read m.spelled) (stream-sizes m.read m.spelled) m.of_it) m.contains m.made m.is)
+            (possible-between left handed m.made (made_from m.given (readings kept.entries) m.redo handed) handed_in.handed_on m.is)
 
         ends : (answered : Result Numbers CcError) → one.ended ≡ answered → Again
         ends (Ok numbers) ok =
@@ -145,6 +158,7 @@ module _ {D L : Type 0} (told : D → Option Disk) (faults : D → ℕ) (log_tol
             redone-again m.made (record { device = m.after; at = place.after ∙ m.at; tells = m.tells_made })
             (redoable-made s size first stream kept.entries pages left handed redoable handed_in.handed_on m.given m.read m.redo m.spelled
             (same-redo s stream line m.read m.redo (said m.read m.spelled) (stream-sizes m.read m.spelled) m.of_it) m.contains m.made m.is)
+            (possible-between left handed m.made (made_from m.given (readings kept.entries) m.redo handed) handed_in.handed_on (between-made (made_from m.given (readings kept.entries) m.redo handed) handed m.made m.is))
         ends (Err e) err =
             go
             (refused-left told faults log_told log_count s log streams line is.named (restarted-from log line is.stored is.logged) kept handed handed_in.disk_at.device place.was log_is handed_in.disk_at.tells sizes one.ended place.old place.new place.now before

@@ -1,10 +1,10 @@
--- A run in which a stream has no map leaves its disk as it was.
+-- A run in which a stream has no map gives its disk back as it was.
 use Rattle.std.specs.Prelude.{◌≡◌, ℕ, ◌==◌, ◌⊎◌, Bool, true, false, List, [], ◌∷◌, ◌++◌, Contains, refl}
 use Rattle.std.specs.declared.option.Option.{Option}
 use Rattle.std.specs.declared.option.Option.TheVariants.{Some, None}
 use Rattle.std.proofs.Common.{ap, sym, subst, ◌∙◌, arith, inl, inr}
 use Rattle.std.proofs.lemmas.Bool.{ne_eqb}
-use Rattle.std.proofs.lemmas.List.Elements.{Contains-push}
+use Rattle.cc_entry.specs.declared.entry.End.{End}
 use Rattle.cc_entry.specs.declared.entry.Entry.{Entry}
 use Rattle.cc_entry.specs.declared.entry.Entry.TheVariants as entry
 use Rattle.cc_laws.proofs.FirstMap.{IsFirst-steady}
@@ -24,10 +24,9 @@ use Rattle.cc_script.specs.declared.script.StreamLine.{StreamLine}
 use Rattle.cc_traits.specs.Disk.{Disk, may_of, page_of}
 use Rattle.cc_traits.specs.Log.{Log, LogEntry}
 use Rattle.cc_turns.specs.Disk.{HasGone}
-use Rattle.cc_turns.specs.RecordPage.{RecordHasGone}
-use Rattle.cc_update_laws.specs.Devices.{IsWholeDisk}
+use Rattle.cc_turns.specs.RecordPage.{RecordHasGone, record_image}
 use Rattle.cc_stop_laws.proofs.Given.{one-alone}
-use Rattle.cc_stop_laws.specs.Redoable.{IsRedoable, RecordsTell}
+use Rattle.cc_stop_laws.specs.Redoable.{HoldsPossible, IsLeftUnopened, IsRedoable, RecordsTell}
 use Rattle.cc_stop_laws.specs.Runs.{IsRedoneFrom}
 
 clash : {b : Bool} → b ≡ true → b ≡ false → ⊥
@@ -60,42 +59,77 @@ crash-never pages (Synced pass how ∷ h) p bytes steady never among =
     settled-one (ended_ok how) (image pages h p) (crash_pages pages h p) (pages p) bytes ((IsFirst-steady h steady.1 never).opening_page pages p)
     (λ inner. crash-never pages h p bytes steady.1 never inner) among
 
-module _ (u : Setup) (past : List Entry) (s : ℕ) (good : IsGoodSoFar u past) (never : had_map (history past s) ≡ false) (records : RecordsTell s 0 past) (opening left : Disk) (whole : IsWholeDisk opening) (gone : HasGone (history past s) opening left)
-    (record_gone : RecordHasGone past s opening left) where
+again : (later : List Entry) (e : Entry) (front : List Entry) → (later ++ e ∷ []) ++ front ≡ later ++ e ∷ front
+again [] e front = refl
+again (x ∷ later) e front = ap (λ (l : List Entry). x ∷ l) (again later e front)
+
+-- no record of the stream was written
+abbrev HasNoRecord : ℕ → List Entry → Type 0
+HasNoRecord s past = (later front : List Entry) (pass size valid : ℕ) (how : End) → past ≡ later ++ entry.Record pass s size valid how ∷ front → ⊥
+
+-- so its page is as it was
+record-first : (opening : List ℕ) (past : List Entry) (s : ℕ) → HasNoRecord s past → record_image opening past s ≡ Some opening
+unfolding record_image
+record-first opening [] s none = refl
+record-first opening (entry.Record pass stream size valid how ∷ past) s none =
+    let other : (stream == s) ≡ false = ne_eqb stream s (λ same. none [] past pass size valid how (ap (λ (n : ℕ). entry.Record pass n size valid how ∷ past) same)) in
+    rw (other, record_image)
+    (record-first opening past s (λ later front p z v h is. none (entry.Record pass stream size valid how ∷ later) front p z v h (ap (λ (l : List Entry). entry.Record pass stream size valid how ∷ l) is)))
+record-first opening (e ∷ past) s none = record-first opening past s (λ later front p z v h is. none (e ∷ later) front p z v h (ap (λ (l : List Entry). e ∷ l) is))
+
+module _ (u : Setup) (past : List Entry) (s : ℕ) (good : IsGoodSoFar u past) (never : had_map (history past s) ≡ false) (records : RecordsTell s 0 past) (opening back : Disk) (possible : HoldsPossible opening) (gone : HasGone (history past s) opening back)
+    (record_gone : RecordHasGone past s opening back) where
+  no-record : HasNoRecord s past
+  no-record later front pass size valid how splits =
+      let e : Entry = entry.Record pass s size valid how in
+      let had = had-more u s 0 (later ++ e ∷ []) front (records later front pass size valid how splits).0 in
+      clash (ap (λ (l : List Entry). had_map (history l s)) (splits ∙ sym (again later e front)) ∙ had) never
+
+  -- each page holds what it held
+  holds-page : (p : ℕ) → (p == record_number) ≡ false → page_of back p ≡ page_of opening p
+  holds-page p apart = gone.images p (page_of opening p) apart ((IsFirst-steady (history past s) (IsSteady-good u past s good) never).opening_page (page_of opening) p)
+
+  holds-record : page_of back record_number ≡ page_of opening record_number
+  holds-record = record_gone.holds (page_of opening record_number) (record-first (page_of opening record_number) past s no-record)
+
   held : (p : ℕ) (bytes : List ℕ) → bytes ≡ page_of opening p → Contains (may_of opening p) bytes
-  held p bytes is = subst (λ (l : List (List ℕ)). Contains l bytes) (sym (whole.alone p)) (subst (λ (l : List ℕ). Contains (page_of opening p ∷ []) l) (sym is) (Contains-push [] (page_of opening p)))
+  held p bytes is = subst (λ (l : List ℕ). Contains (may_of opening p) l) (sym is) (possible p)
 
-  page-left : (p : ℕ) (bytes : List ℕ) → (p == record_number) ≡ false → Contains (may_of left p) bytes → Contains (may_of opening p) bytes
-  page-left p bytes apart among =
-      held p bytes (crash-never (page_of opening) (history past s) p bytes (IsSteady-good u past s good) never (gone.crash p bytes apart (whole.alone p) among))
+  module _ (left : Disk) (leaves : IsLeftUnopened opening back left) where
+    page-left : (p : ℕ) (bytes : List ℕ) → (p == record_number) ≡ false → Contains (may_of left p) bytes → Contains (may_of opening p) bytes
+    page-left p bytes apart among = go (leaves p bytes among)
+      where
+        go : (bytes ≡ page_of back p) ⊎ (Contains (may_of opening p) bytes ⊎ ((may_of opening p ≡ page_of opening p ∷ []) × Contains (may_of back p) bytes)) → Contains (may_of opening p) bytes
+        go (inl is) = held p bytes (is ∙ holds-page p apart)
+        go (inr (inl was)) = was
+        go (inr (inr (alone, now))) = held p bytes (crash-never (page_of opening) (history past s) p bytes (IsSteady-good u past s good) never (gone.crash p bytes apart alone now))
 
-  record-left : (content : List ℕ) → Contains (may_of left record_number) content → Contains (may_of opening record_number) content
-  record-left content among = held record_number content (go (written-at (page_of opening record_number) past s content (record_gone.crash content (whole.alone record_number) among)))
-    where
-      go : (page_of opening record_number ≡ content) ⊎ IsWrittenAt s past content → content ≡ page_of opening record_number
-      go (inl is) = sym is
-      go (inr k) =
-          let e : Entry = entry.Record k.pass s k.size k.valid k.how in
-          let had = had-more u s 0 (k.later ++ e ∷ []) k.front (records k.later k.front k.pass k.size k.valid k.how k.splits).0 in
-          absurd (clash (ap (λ (l : List Entry). had_map (history l s)) (k.splits ∙ sym (again k.later e k.front)) ∙ had) never)
-        where
-          again : (later : List Entry) (e : Entry) (front : List Entry) → (later ++ e ∷ []) ++ front ≡ later ++ e ∷ front
-          again [] e front = refl
-          again (x ∷ later) e front = ap (λ (l : List Entry). x ∷ l) (again later e front)
+    record-left : (content : List ℕ) → Contains (may_of left record_number) content → Contains (may_of opening record_number) content
+    record-left content among = go (leaves record_number content among)
+      where
+        written : (page_of opening record_number ≡ content) ⊎ IsWrittenAt s past content → content ≡ page_of opening record_number
+        written (inl is) = sym is
+        written (inr k) = absurd (no-record k.later k.front k.pass k.size k.valid k.how k.splits)
 
-  redoable-left : (stream : StreamLine) (size first : ℕ) (kept : List LogEntry) (pages : ℕ → List ℕ) → IsRedoable s stream size kept pages first opening → IsRedoable s stream size kept pages first left
-  redoable-left stream size first kept pages redoable = record {
-    sizes = λ content read among reads. redoable.sizes content read (record-left content among) reads;
-    makes = λ content read record_among reads streams redo its among p bytes below contained.
-        let said = redoable.sizes content read (record-left content record_among) reads in
-        let same = said.1 in
-        let fits = said.0.in_range in
-        redoable.makes content read (record-left content record_among) reads streams redo its among p bytes below
-        (page-left p bytes (ne_eqb p record_number (λ is. absurd (omega (arith, below, same, fits, is)))) contained);
-  }
+        go : (content ≡ page_of back record_number)
+            ⊎ (Contains (may_of opening record_number) content ⊎ ((may_of opening record_number ≡ page_of opening record_number ∷ []) × Contains (may_of back record_number) content)) → Contains (may_of opening record_number) content
+        go (inl is) = held record_number content (is ∙ holds-record)
+        go (inr (inl was)) = was
+        go (inr (inr (alone, now))) = held record_number content (written (written-at (page_of opening record_number) past s content (record_gone.crash content alone now)))
 
-  pub unopened-redone : (stream : StreamLine) (size first : ℕ) (pages : ℕ → List ℕ) (after : Log) → IsRedoneFrom s stream size pages first opening after → IsRedoneFrom s stream size pages first left after
-  unopened-redone stream size first pages after redone = record {
-    entries = redone.entries;
-    redoable = λ kept keeps. redoable-left stream size first kept pages (redone.redoable kept keeps);
-  }
+    redoable-left : (stream : StreamLine) (size first : ℕ) (kept : List LogEntry) (pages : ℕ → List ℕ) → IsRedoable s stream size kept pages first opening → IsRedoable s stream size kept pages first left
+    redoable-left stream size first kept pages redoable = record {
+      sizes = λ content read among reads. redoable.sizes content read (record-left content among) reads;
+      makes = λ content read record_among reads streams redo its among p bytes below contained.
+          let said = redoable.sizes content read (record-left content record_among) reads in
+          let same = said.1 in
+          let fits = said.0.in_range in
+          redoable.makes content read (record-left content record_among) reads streams redo its among p bytes below
+          (page-left p bytes (ne_eqb p record_number (λ is. absurd (omega (arith, below, same, fits, is)))) contained);
+    }
+
+    pub unopened-redone : (stream : StreamLine) (size first : ℕ) (pages : ℕ → List ℕ) (after : Log) → IsRedoneFrom s stream size pages first opening after → IsRedoneFrom s stream size pages first left after
+    unopened-redone stream size first pages after redone = record {
+      entries = redone.entries;
+      redoable = λ kept keeps. redoable-left stream size first kept pages (redone.redoable kept keeps);
+    }

@@ -1,5 +1,5 @@
 -- What a stop leaves of a stream's disk, how the next run is handed it, and what the restart of its log makes of it.
-use Rattle.std.specs.Prelude.{◌≡◌, ℕ, ◌*◌, ◌<◌, ◌≤◌, true, List, ◌∷◌, ◌++◌, Contains, slice_get}
+use Rattle.std.specs.Prelude.{◌≡◌, ℕ, ◌*◌, ◌<◌, ◌≤◌, ◌⊎◌, true, List, [], ◌∷◌, ◌++◌, Contains, slice_get}
 use Rattle.std.specs.declared.option.Option.{Option}
 use Rattle.std.specs.declared.option.Option.TheVariants.{Some, None}
 use Rattle.cc_entry.specs.declared.entry.End.{End}
@@ -14,7 +14,7 @@ use Rattle.cc_model.specs.Logs.{flushed_to}
 use Rattle.cc_model.specs.Objects.{had_map}
 use Rattle.cc_model.specs.Records.{first_valid}
 use Rattle.cc_model.specs.Touches.{size_of}
-use Rattle.cc_redo.specs.Disks.{record_number}
+use Rattle.cc_redo.specs.Disks.{IsPossible, record_number}
 use Rattle.cc_redo.specs.declared.redo.Redo.{Redo}
 use Rattle.cc_restart_laws.specs.Stops.{IsKept, MakesFile, file_byte, updated_byte, updates_in, valid_after}
 use Rattle.cc_restarts.specs.Given.{AreSizes, IsRedoOf, size_said, valid_said}
@@ -86,7 +86,18 @@ pub record IsHandedIn {D L : Type 0} (told : D → Option Disk) (log_told : L �
   pub handed_on : IsHandedOn left handed
   pub keeps : IsKept after.durable after.entries kept.entries
 
--- Of the lines of a script the n-th that restarts a log restarts this one, and no other does; the stream is stored, and has that log.
+-- each page of a disk holds what a crash can leave of it
+abbrev pub HoldsPossible : Disk → Type 0
+HoldsPossible disk = (p : ℕ) → IsPossible disk p
+
+-- What may be left behind a run that gave this disk back and opened its stream at no time: of each page what the disk holds, or what a
+-- crash could leave of it as the run began; and what a crash can leave now, where that was one content alone.
+abbrev pub IsLeftUnopened : Disk → Disk → Disk → Type 0
+IsLeftUnopened opening back left =
+    (p : ℕ) (bytes : List ℕ) → Contains (may_of left p) bytes → (bytes ≡ page_of back p) ⊎ (Contains (may_of opening p) bytes
+    ⊎ ((may_of opening p ≡ page_of opening p ∷ []) × Contains (may_of back p) bytes))
+
+-- Of the lines of a script the n-th that restarts a log restarts this one; the stream is stored, and has that log.
 pub record RestartsStream (s log : ℕ) (stream : StreamLine) (streams : List StreamLine) (restarts : List RestartLine) (n : ℕ)
     : Type 0 where
   pub named : slice_get streams s ≡ Some stream
@@ -95,7 +106,10 @@ pub record RestartsStream (s log : ℕ) (stream : StreamLine) (streams : List St
   pub restart : RestartLine
   pub at : slice_get restarts n ≡ Some restart
   pub of_log : restart.handle ≡ log
-  pub once : (k : ℕ) (other : RestartLine) → slice_get restarts k ≡ Some other → other.handle ≡ log → k ≡ n
+
+-- no other does
+abbrev pub RestartsOnce : ℕ → List RestartLine → ℕ → Type 0
+RestartsOnce log restarts n = (k : ℕ) (other : RestartLine) → slice_get restarts k ≡ Some other → other.handle ≡ log → k ≡ n
 
 -- A disk has, with this valid data length, the file with these pages and this valid data length at first, with the updates of these
 -- entries applied in their order, each whole. A crash leaves that alone.

@@ -17,7 +17,7 @@ ghost use Rattle.cc_restarts.specs.declared.ended.LogRestart.{LogRestart};
 ghost use Rattle.cc_restarts.specs.declared.ended.Numbers.{Numbers};
 ghost use Rattle.cc_script.specs.declared.script.RestartLine.{RestartLine};
 ghost use Rattle.cc_script.specs.declared.script.StreamLine.{StreamLine};
-ghost use Rattle.cc_stop_laws.specs.Redoable.{IsFileMade, IsHandedIn, NamesAgain, RecordsTell, RestartsStream, TellsAt, TellsGreatest};
+ghost use Rattle.cc_stop_laws.specs.Redoable.{HoldsPossible, IsFileMade, IsHandedIn, IsLeftUnopened, NamesAgain, RecordsTell, RestartsOnce, RestartsStream, TellsAt, TellsGreatest};
 ghost use Rattle.cc_stop_laws.specs.Runs.{HasBegunWith, IsRedoneFrom, IsUpdatedRun, as_read};
 ghost use Rattle.cc_traits.specs.Disk.{Disk, page_of};
 ghost use Rattle.cc_traits.specs.Log.{Log, LogEntry};
@@ -49,14 +49,15 @@ pub fn what_a_run_leaves_can_be_redone()
 /// a stream's disk and of its log was handed in. One that is done makes the file, with the valid data length that it is to tell (`made`),
 /// and tells the greatest LSN of the log (`last`).
 /// However it ended, at whichever call it stopped, it leaves a disk of which the next one makes it, whatever a crash leaves of it then,
-/// if the log still has the entries that were read (`again`). So it is of what was handed in where nothing was restarted (`untouched`).
+/// if the log still has the entries that were read (`again`), and each page of that disk holds what a crash can leave of it. So it is of
+/// what was handed in where nothing was restarted (`untouched`).
 pub fn restarts_redo_what_is_left<D: PageDisk, L: LogFile>()
     ensures made { (streams : List StreamLine) (restarts : List RestartLine) (ended : List LogRestart) (disks disks_begun : List D)
         (logs logs_begun : List L) →
         LogsRestarted D.told D.faults L.told L.faults streams restarts ended disks disks_begun logs logs_begun →
         (s log n size first : ℕ) (stream line : StreamLine) (one : LogRestart) (pages : ℕ → List ℕ) (left handed : Disk)
-        (after kept : Log) → RestartsStream s log line streams restarts n → slice_get ended n ≡ Some one →
-        IsRedoneFrom s stream size pages first left after →
+        (after kept : Log) → RestartsStream s log line streams restarts n → RestartsOnce log restarts n →
+        slice_get ended n ≡ Some one → IsRedoneFrom s stream size pages first left after →
         IsHandedIn D.told L.told disks logs s log left after handed kept → NamesAgain handed stream line →
         (numbers : Numbers) → one.ended ≡ Ok numbers → (made : Disk) × TellsAt D.told disks_begun s made
         × TellsAt L.told logs_begun log kept × (file : IsFileMade s size kept.entries pages first made) × IsLogOf s size kept.entries
@@ -65,21 +66,21 @@ pub fn restarts_redo_what_is_left<D: PageDisk, L: LogFile>()
         (logs logs_begun : List L) →
         LogsRestarted D.told D.faults L.told L.faults streams restarts ended disks disks_begun logs logs_begun →
         (s log n : ℕ) (line : StreamLine) (one : LogRestart) (kept : Log) → RestartsStream s log line streams restarts n →
-        slice_get ended n ≡ Some one → TellsAt L.told logs log kept → (numbers : Numbers) → one.ended ≡ Ok numbers →
+        RestartsOnce log restarts n → slice_get ended n ≡ Some one → TellsAt L.told logs log kept → (numbers : Numbers) → one.ended ≡ Ok numbers →
         numbers.last ≡ lsn_of (last_of (readings kept.entries)) }
     ensures again { (streams : List StreamLine) (restarts : List RestartLine) (ended : List LogRestart) (disks disks_begun : List D)
         (logs logs_begun : List L) →
         LogsRestarted D.told D.faults L.told L.faults streams restarts ended disks disks_begun logs logs_begun →
         (s log n size first : ℕ) (stream line : StreamLine) (one : LogRestart) (pages : ℕ → List ℕ) (left handed : Disk)
-        (after kept : Log) → RestartsStream s log line streams restarts n → slice_get ended n ≡ Some one →
-        IsRedoneFrom s stream size pages first left after →
+        (after kept : Log) → RestartsStream s log line streams restarts n → RestartsOnce log restarts n →
+        slice_get ended n ≡ Some one → IsRedoneFrom s stream size pages first left after →
         IsHandedIn D.told L.told disks logs s log left after handed kept → NamesAgain handed stream line →
         (now : Disk) × TellsAt D.told disks_begun s now × TellsAt L.told logs_begun log kept
-        × IsRedoneFrom s stream size pages first now (as_read kept) }
+        × IsRedoneFrom s stream size pages first now (as_read kept) × HoldsPossible now }
     ensures untouched { (disks : List D) (logs : List L) (s log size first : ℕ) (stream : StreamLine) (pages : ℕ → List ℕ)
         (left handed : Disk) (after kept : Log) → IsRedoneFrom s stream size pages first left after →
         IsHandedIn D.told L.told disks logs s log left after handed kept →
-        IsRedoneFrom s stream size pages first handed (as_read kept) }
+        IsRedoneFrom s stream size pages first handed (as_read kept) × HoldsPossible handed }
 {}
 
 /// What a restart made is what `what_a_run_leaves_can_be_redone` asks of the run that begins with it, where that goes on with the log
@@ -94,11 +95,12 @@ pub fn made_files_begin_the_next_run()
         IsFileMade s size kept pages first made → (stream line : StreamLine) → NamesAgain made stream line }
 {}
 
-/// Of what a run leaves in which a stream has no map can be redone what could of the disk with which it began, if a crash could leave
-/// each page of that in one way alone.
+/// Of what is left behind a run in which a stream has no map can be redone what could of the disk with which it began: of what that run
+/// gives back, page by page as the disk holds it, or as a crash could leave it as the run began, or, where that was in one way alone, as a
+/// crash may leave it now. So it is too where a restart was refused between its writes, and a crash could leave a page in two ways.
 pub fn unopened_streams_are_left_alone()
-    ensures { (u : Setup) (past : List Entry) (s size first : ℕ) (stream : StreamLine) (pages : ℕ → List ℕ) (opening left : Disk)
-        (after : Log) → IsGoodSoFar u past → had_map (history past s) ≡ false → RecordsTell s 0 past → IsWholeDisk opening →
-        HasGone (history past s) opening left → RecordHasGone past s opening left →
+    ensures { (u : Setup) (past : List Entry) (s size first : ℕ) (stream : StreamLine) (pages : ℕ → List ℕ) (opening back left : Disk)
+        (after : Log) → IsGoodSoFar u past → had_map (history past s) ≡ false → RecordsTell s 0 past → HoldsPossible opening →
+        HasGone (history past s) opening back → RecordHasGone past s opening back → IsLeftUnopened opening back left →
         IsRedoneFrom s stream size pages first opening after → IsRedoneFrom s stream size pages first left after }
 {}

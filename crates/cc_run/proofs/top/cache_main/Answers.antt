@@ -1,5 +1,12 @@
 -- The end of the program, from how it was conducted: each status that is sure to come follows from what was told.
+use Rattle.std.specs.Prelude.{ℕ, List, IfSome}
+use Rattle.std.specs.declared.option.Option.{Option}
+use Rattle.std.specs.declared.option.Option.TheVariants.{Some, None}
 use Rattle.std.proofs.Common.{ap}
+use Rattle.cc_entry.specs.declared.answer.LineReply.{LineReply}
+use Rattle.cc_entry.specs.declared.entry.Entry.{Entry}
+use Rattle.cc_program.specs.Ends.{Input, Output, IsAsked, IsEnded}
+use Rattle.cc_script.specs.declared.script.Script.{Script}
 use Rattle.cc_run.proofs.Statuses.{words-always, syntax-always, too_long-always, too_long-told, too_few-always, complete}
 use Rattle.cc_run.proofs.top.cache_main.Goals as goal
 
@@ -19,8 +26,20 @@ returns-clause-ended g c =
       bounded = c.conduct-status.ensures.bounded;
     }
 
--- the five clauses as one
+-- the script that was run is the one that the words ask for
+asked-of : (i : Input) (o : Output) (script : Option Script) (replies : List LineReply) (journal : List Entry) (status : ℕ) → IsEnded i o script replies journal status → IfSome script (IsAsked i)
+asked-of i o None replies journal status ended = tt
+asked-of i o (Some script) replies journal status ended = ended.asked
+
+-- the five clauses as one, with that
 pub returns-clause-clauses : goal.returns-clause-clauses
 returns-clause-clauses g c =
     let it = c.conduct-status.ensures in
-    record { restarted = it.restarted; good = it.good; explained = it.explained; disks = it.disks; logs = it.logs }
+    record {
+      restarted = it.restarted;
+      good = it.good;
+      explained = it.explained;
+      disks = it.disks;
+      logs = it.logs;
+      asked = asked-of _ _ _ _ _ _ it.ended;
+    }
