@@ -26,9 +26,10 @@ DECISIONS = {
     "152 to 154": ("init", "uninit", "purge"),
     "189, 238 to 241, 248 to 251": ("ask", "ahead", "granularity"),
     "270 to 273, 285 to 287": ("aread", "complete"),
-    "155 to 160, 200, 203": ("ncread", "ncwrite", "ncstore"),
-    "206, 216, 217, 242, 260 to 262": ("read", "write", "update", "lock", "unlock"),
-    "244 to 247, 284, 288 to 290, 300 to 302": ("restart", "checkpoint"),
+    "155 to 160, 190, 200, 203": ("ncread", "ncwrite", "ncstore"),
+    "206, 216, 217, 242, 260 to 262": ("read", "write", "update"),
+    "185, 186, 206, 216, 217, 237, 242, 260 to 262": ("lock", "unlock"),
+    "244 to 247, 284, 288 to 290, 295 to 298, 300 to 309": ("restart", "checkpoint"),
     "280 to 283": ("settle",),
     "120 to 123": ("fill", "cread", "cwrite", "zero"),
 }

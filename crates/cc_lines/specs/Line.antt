@@ -183,13 +183,14 @@ LineServed old new asked told was now = LineWith (IsFullLine old new asked told)
 -- a line that was served
 abbrev pub AnyServed : Standing → Standing → Action → Answer → NamesState → NamesState → Type 0
 AnyServed old new asked told was now =
-    LineWith (IsFullLine old new asked told) (PlacesWent old.number ((asked, told) ∷ []) was.places now.places old.seen new.seen) old new asked told was now
+    LineWith (IsFullLine old new asked told)
+    (PlacesWent old.number ((asked, told) ∷ []) was.places now.places old.seen new.seen) old new asked told was now
 
 -- the same, and of each line that tells of a full journal a moment at which it was so
 abbrev pub LineEnds : Standing → Standing → Action → Answer → NamesState → NamesState → Type 0
 LineEnds old new asked told was now =
-    LineWith (IsFullLine old new asked told × WasFullTold old new told) (PlacesWent old.number ((asked, told) ∷ []) was.places now.places old.seen new.seen)
-    old new asked told was now
+    LineWith (IsFullLine old new asked told × WasFullTold old new told)
+    (PlacesWent old.number ((asked, told) ∷ []) was.places now.places old.seen new.seen) old new asked told was now
 
 -- a step of read-ahead, which took a request, or none
 pub record StepAt (old new : Standing) (told : Answer) (was now : PlaceState Request) : Type 0 where

@@ -33,7 +33,7 @@ pub record Given : Type 0 where
   pub ticks : ℕ
   pub aheads : ℕ
 
--- what it answered: the replies of the lines, those of the streams first, and the answers of the two workers
+-- what it answered: the replies of the lines, those of restarts and then of streams first, and the answers of the two workers
 pub record Answered : Type 0 where
   pub replies : List LineReply
   pub ticked : List LineReply

@@ -15,7 +15,8 @@ use Rattle.cc_pieces.specs.Checkpoints.{AskingStopped, StateAsked, StateRefused,
 
 -- whether a stream has the log, by its state; one that is not open has not
 abbrev pub LogAsked : Setup → ℕ → ℕ → ℕ → Result Bool CcError → Between
-LogAsked u me handle stream (Ok has) old new = (state : Option FileState) × (has ≡ has_log handle state) × StateAsked u me stream state old new
+LogAsked u me handle stream (Ok has) old new =
+    (state : Option FileState) × (has ≡ has_log handle state) × StateAsked u me stream state old new
 LogAsked u me handle stream (Err e) old new =
     (e ≢ error.NotCached) × CallLeft u me (call.State (first_object stream)) (outcome.Failed e) old new
 
