@@ -36,10 +36,10 @@ pub fn on_desk<R: Print, D: PageDisk + Drop, L: LogFile>(
     ensures logs { IfOk result (λ back. length back.1.items ≡ 1) }
 {
     let (mut desk, found) = begin(alloc, disks, logs)?;
-    // Each caller is a pass with a number of its own; a desk is one at a time.
+    // Entries of the journal name who acts. A desk is one pass at a time, and pass 0 at first.
     desk.act_as(1);
     let kept = keep_both(alloc, &mut desk, &found);
-    // A desk is never dropped: it ends, and gives the devices back, whatever was answered.
+    // A desk can't be dropped: it ends, and gives the devices back, whatever was answered.
     let Parts {
         disks,
         logs,
@@ -87,6 +87,7 @@ fn begin<D: PageDisk + Drop, L: LogFile>(
 {
     let mut disks = disks;
     let mut logs = logs;
+    // First what the records on the disks say, and then what the log has beyond that.
     let one = redo_of(&mut disks[0], 0)?;
     let other = redo_of(&mut disks[1], 1)?;
     let found = restart(alloc, &mut logs[0], &[one, other], &mut disks)?;
@@ -129,6 +130,7 @@ pub fn on_board<R: Print + Threads + Wait + Sync, D: PageDisk + Send + Drop, L: 
     requires logs { length logs.items ≡ 1 }
 {
     let (mut desk, found) = begin(alloc, disks, logs)?;
+    // Both streams are opened before the threads begin: what pass 0 has seen, each pass that is split from it has seen too.
     let (one, other) = match open_both(alloc, &mut desk, found.last) {
         Ok(files) => files,
         Err(error) => {
@@ -173,6 +175,7 @@ fn on_threads<R: Threads + Wait + Sync, D: PageDisk + Send, L: LogFile + Send>(
     let mut first = first;
     let left = split(&board, &mut first, one);
     let right = split(&board, &mut first, other);
+    // The threads share the board; each has a pass of its own, and hands it back.
     let on = &board;
     let ((left, lines), (right, others)) = join(
         rt,
@@ -187,6 +190,7 @@ fn on_threads<R: Threads + Wait + Sync, D: PageDisk + Send, L: LogFile + Send>(
     );
     board.join(&mut first, left);
     board.join(&mut first, right);
+    // It is refused while a pass is out, and here none is.
     match board.close(first) {
         Ok(desk) => (desk, lines, others),
         Err(_) => unreachable!(),

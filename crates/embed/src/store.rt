@@ -83,6 +83,7 @@ fn add<T: Turns>(alloc: Global, turns: &mut T, file: FileId, line: &str) -> Resu
     requires can { CanCall (T.standing turns.old) file.stream }
     ensures goes_on { WentOn (T.standing turns.old) (T.standing turns.new) }
 {
+    // The lines end at the valid data length, which an update at its end moves on.
     let end = file_state(alloc, turns, file)?.sizes.valid;
     update(alloc, turns, file, end, line.as_bytes())?;
     Ok(())
