@@ -1,8 +1,8 @@
 //! The program `embed`, an example of the cache in a program of one's own: it keeps lines of text in two files with one log.
 //!
 //! Without a word the files are in memory. With one they are those of the folder that it names, and the next run there finds
-//! what this one stored. docs/EMBEDDING.md goes through it. `store` has the calls on a stream, over any turns; `runs` the life
-//! of a cache, with one caller on a desk and with two threads on a board; `devices` what both stand on.
+//! what this one stored. docs/EMBEDDING.md goes through it. `store` has the calls on a stream, over any turns; `runs` a cache
+//! from restart to end, with one caller on a desk and with two threads on a board; `devices` what both stand on.
 #![tactic(auto)]
 
 ghost use Rattle.std.specs.Prelude.{◌≡◌, length};

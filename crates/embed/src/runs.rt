@@ -1,5 +1,5 @@
-//! The life of a cache: both streams are restarted from the log, a desk or a board is made, the store is used, and at the end
-//! the devices come back.
+//! A cache from its restart to its end: both streams are restarted from the log, a desk or a board is made, the store is used,
+//! and the devices come back.
 
 ghost use Rattle.std.specs.Prelude.{◌≡◌, ◌≤◌, ◌<◌, length, IfOk};
 ghost use Rattle.std.specs.Thread.{IsSync};

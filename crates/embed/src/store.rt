@@ -20,7 +20,8 @@ pub const LOG: u8 = 0;
 /// How many bytes each stream has. An update that would end past them is refused with `BeyondSize`.
 pub const SIZE: u64 = 65536;
 
-/// Opens both streams, behind a restart that read the log up to `last`, 0 where it had no entry.
+/// Opens both streams, behind a restart that read the log up to `last`, 0 where it had no entry. A pass that may call on
+/// stream 1 may call on stream 0 too.
 pub fn open_both<T: Turns>(
     alloc: Global,
     turns: &mut T,
@@ -30,7 +31,7 @@ pub fn open_both<T: Turns>(
     ensures goes_on { WentOn (T.standing turns.old) (T.standing turns.new) }
     ensures streams { IfOk result (λ files. (files.0.stream ≡ 0) × (files.1.stream ≡ 1)) }
 {
-    // The log's old entries are on the medium, and the next one comes behind them.
+    // Behind a flush of all that the log has, the next entry comes behind the old ones.
     if let Some(lsn) = Lsn::new(last) {
         log_flush(turns, LOG, lsn)?;
     }
