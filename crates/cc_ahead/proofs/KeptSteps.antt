@@ -6,8 +6,8 @@ use Rattle.std.proofs.lemmas.Grind.{get_or-set_at}
 use Rattle.cc_entry.specs.Place.{Range}
 use Rattle.cc_model.specs.Numbers.{is_among}
 use Rattle.cc_model.specs.ReadAhead.{is_sequential}
-use Rattle.cc_ahead.specs.Kept.{Kept, unused, kept_of}
-use Rattle.cc_ahead.specs.After.{changed}
+use Rattle.cc_ahead.specs.Kept.{ObjectReads, unused, kept_of}
+use Rattle.cc_ahead.specs.After.{with_object_changed}
 
 pub kept_of-begun : (n k : ℕ) → kept_of (replicate n unused) k ≡ unused
 kept_of-begun zero k = refl
@@ -15,10 +15,10 @@ kept_of-begun (suc n) zero = refl
 kept_of-begun (suc n) (suc k) = kept_of-begun n k
 
 -- the object that is changed, and the others
-pub kept_of-changed : (maps : List Kept) (n k : ℕ) (change : Kept → Kept) → k < length maps → kept_of (changed maps n change) k ≡ (if n == k then change (kept_of maps k) else kept_of maps k)
+pub kept_of-changed : (maps : List ObjectReads) (n k : ℕ) (change : ObjectReads → ObjectReads) → k < length maps → kept_of (with_object_changed maps n change) k ≡ (if n == k then change (kept_of maps k) else kept_of maps k)
 kept_of-changed maps n k change below = go (n == k) refl
   where
-    go : (b : Bool) → (n == k) ≡ b → kept_of (changed maps n change) k ≡ (if n == k then change (kept_of maps k) else kept_of maps k)
+    go : (b : Bool) → (n == k) ≡ b → kept_of (with_object_changed maps n change) k ≡ (if n == k then change (kept_of maps k) else kept_of maps k)
     go true is =
         let same : k ≡ n = sym (eqb-true n k is) in
         rw is (get_or-set_at maps n k _ unused same (omega arith) ∙ ap (λ (x : ℕ). change (kept_of maps x)) (sym same))

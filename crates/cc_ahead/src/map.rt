@@ -44,7 +44,7 @@ impl KeptRead {
 
 /// The last reads of an object that are kept, two at most.
 #[derive(Clone, Copy)]
-pub(crate) enum Reads {
+pub(crate) enum LastReads {
     Empty,
     One(KeptRead),
     Two { newest: KeptRead, older: KeptRead },
@@ -54,13 +54,13 @@ pub(crate) enum Reads {
 #[derive(Clone, Copy)]
 pub(crate) struct PrivateMap {
     granularity: u64,
-    reads: Reads,
+    reads: LastReads,
 }
 
 impl Model for PrivateMap {
-    ghost use Rattle.cc_ahead.specs.Kept.{Kept};
+    ghost use Rattle.cc_ahead.specs.Kept.{ObjectReads};
 
-    ghost Value = { Kept };
+    ghost Value = { ObjectReads };
 
     ghost use Rattle.cc_ahead.specs.Reads.{reads_in, reads_as, reads_as-reads_in};
     ghost use Rattle.std.proofs.Common.{ap};
@@ -79,7 +79,7 @@ impl PrivateMap {
     {
         PrivateMap {
             granularity: 65536,
-            reads: Reads::Empty,
+            reads: LastReads::Empty,
         }
     }
 
@@ -98,7 +98,7 @@ impl PrivateMap {
     pub(crate) fn forget_reads(&mut self)
         ensures { self.new ≡ without_reads self.old }
     {
-        self.reads = Reads::Empty;
+        self.reads = LastReads::Empty;
     }
 
     /// Keeps a read of so many bytes from a place on, if it is one at least.
@@ -110,12 +110,12 @@ impl PrivateMap {
         }
         let newest = KeptRead::new(at, len);
         self.reads = match &self.reads {
-            Reads::Empty => Reads::One(newest),
-            Reads::One(older) => Reads::Two {
+            LastReads::Empty => LastReads::One(newest),
+            LastReads::One(older) => LastReads::Two {
                 newest,
                 older: *older,
             },
-            Reads::Two { newest: older, .. } => Reads::Two {
+            LastReads::Two { newest: older, .. } => LastReads::Two {
                 newest,
                 older: *older,
             },
@@ -127,10 +127,10 @@ impl PrivateMap {
         ensures { result ≡ is_sequential at self.now.reads }
     {
         match &self.reads {
-            Reads::Two { newest, older } => {
+            LastReads::Two { newest, older } => {
                 older.to == u128::from(newest.from) && newest.to == u128::from(at)
             }
-            Reads::Empty | Reads::One(_) => false,
+            LastReads::Empty | LastReads::One(_) => false,
         }
     }
 

@@ -7,7 +7,7 @@ ghost use Rattle.cc_model.specs.Touches.{size_of};
 ghost use Rattle.cc_model.specs.Settings.{granularity_of, has_no_read_ahead};
 ghost use Rattle.cc_model.specs.ReadAhead.{reads_of, is_sequential, ahead_of};
 ghost use Rattle.cc_ahead.specs.Kept.{kept_of, PrivateStands};
-ghost use Rattle.cc_ahead.specs.After.{after, SaysOpen};
+ghost use Rattle.cc_ahead.specs.After.{kept_after, SaysOpen};
 ghost use Rattle.cc_ahead.specs.Request.{request_after};
 
 use crate::map::PrivateMap;
@@ -22,9 +22,9 @@ pub struct PrivateMaps {
 
 impl Model for PrivateMaps {
     ghost use Rattle.std.specs.Prelude.{◌≡◌, List, length};
-    ghost use Rattle.cc_ahead.specs.Kept.{Kept};
+    ghost use Rattle.cc_ahead.specs.Kept.{ObjectReads};
 
-    ghost Value = { List Kept };
+    ghost Value = { List ObjectReads };
 
     ghost view = { λ m. m.maps };
 
@@ -101,7 +101,7 @@ impl PrivateMaps {
 
 // Follows a call that was done.
 fn follow(maps: &mut [PrivateMap; 16], call: &Call, reply: &Reply, was_open: bool)
-    ensures { maps.new ≡ after call.now reply.now was_open maps.old }
+    ensures { maps.new ≡ kept_after call.now reply.now was_open maps.old }
 {
     match call {
         Call::Initialise { file, .. } => {

@@ -21,7 +21,7 @@ use Rattle.cc_model.specs.Replies.{Reads}
 use Rattle.cc_model.specs.Setup.{Setup}
 use Rattle.cc_turns.specs.Standing.{Standing}
 use Rattle.cc_calls.specs.Pages.{ReadEnds}
-use Rattle.cc_async.specs.Reads.{IsPlain, ReadLeft}
+use Rattle.cc_async.specs.Reads.{ReadIsPlain, AsyncReadLeft}
 
 -- the newest entry of a legal journal is legal
 newest-legal : (u : Setup) (me nth : ℕ) (stream : Option ℕ) (it : Call) (ended : Outcome) (front : List Entry) → IsLegal u (entry.Call me nth stream it ended ∷ front) → IsOutcome u front me stream it ended
@@ -29,7 +29,7 @@ unfolding IsLegal IsLegalEntry
 newest-legal u me nth stream it ended front legal = legal.0
 
 -- what a read that is done answers is what its entry's front defines
-pub plain-of : (u : Setup) (me : ℕ) (file : File) (at len : ℕ) (wait : Bool) (bytes : List ℕ) (old new : List Entry) → CallLeft u me (call.CopyRead file at len wait) (outcome.Done (reply.Read bytes)) old new → IsGood u new → IsPlain u me file at len wait bytes old new
+pub plain-of : (u : Setup) (me : ℕ) (file : File) (at len : ℕ) (wait : Bool) (bytes : List ℕ) (old new : List Entry) → CallLeft u me (call.CopyRead file at len wait) (outcome.Done (reply.Read bytes)) old new → IsGood u new → ReadIsPlain u me file at len wait bytes old new
 plain-of u me file at len wait bytes old new left good = record {
   nth = left.placed.nth;
   later = left.placed.later;
@@ -51,10 +51,10 @@ plain-of u me file at len wait bytes old new left good = record {
 
 module _ (w v : Standing) (file : File) (at len : ℕ) (wait : Bool) (was now : List ℕ) (same : length was ≡ len) where
   -- its bytes are those in the front of what was handed in
-  pub kept-done : (n : ℕ) (bytes : List ℕ) → bytes ≡ take n now → ReadEnds w v file at wait (Ok n) was now → ReadLeft w v file at len wait (Ok bytes)
+  pub kept-done : (n : ℕ) (bytes : List ℕ) → bytes ≡ take n now → ReadEnds w v file at wait (Ok n) was now → AsyncReadLeft w v file at len wait (Ok bytes)
   kept-done n bytes is ends =
-      subst (λ (m : ℕ). ReadLeft w v file at m wait (Ok bytes)) same
-      (subst (λ (b : List ℕ). ReadLeft w v file at (length was) wait (Ok b)) (sym is)
+      subst (λ (m : ℕ). AsyncReadLeft w v file at m wait (Ok bytes)) same
+      (subst (λ (b : List ℕ). AsyncReadLeft w v file at (length was) wait (Ok b)) (sym is)
       (record {
         pages = record { left = ends.pages.left; goes_on = ends.pages.goes_on; good = ends.pages.good; missed = ends.pages.missed };
         full = inl (tt, inl tt);
@@ -62,9 +62,9 @@ module _ (w v : Standing) (file : File) (at len : ℕ) (wait : Bool) (was now : 
         no_wait = ends.no_wait;
       }))
 
-  pub kept-failed : (e : CcError) → ReadEnds w v file at wait (Err e) was now → ReadLeft w v file at len wait (Err e)
+  pub kept-failed : (e : CcError) → ReadEnds w v file at wait (Err e) was now → AsyncReadLeft w v file at len wait (Err e)
   kept-failed e ends =
-      subst (λ (m : ℕ). ReadLeft w v file at m wait (Err e)) same
+      subst (λ (m : ℕ). AsyncReadLeft w v file at m wait (Err e)) same
       (record {
         pages = record { left = ends.pages.left; goes_on = ends.pages.goes_on; good = ends.pages.good; missed = ends.pages.missed };
         full = ends.full;
@@ -77,7 +77,7 @@ may-want-memory file at len true = refl
 may-want-memory file at len false = refl
 
 -- without memory for the bytes no read was made
-pub kept-none : (w : Standing) (file : File) (at len : ℕ) (wait : Bool) → ReadLeft w w file at len wait (Err error.NoMemory)
+pub kept-none : (w : Standing) (file : File) (at len : ℕ) (wait : Bool) → AsyncReadLeft w w file at len wait (Err error.NoMemory)
 kept-none w file at len wait = record {
   pages = record {
     left = gives_up w.number (call.CopyRead file at len wait) error.NoMemory w.seen w.seen (begins w.number (call.CopyRead file at len wait) w.seen) (may-want-memory file at len wait) refl;

@@ -15,7 +15,7 @@ use Rattle.cc_queue.specs.Places.{PlaceState, PushLeft, PopLeft}
 use Rattle.cc_turns.specs.Standing.{Standing}
 use Rattle.cc_writes.specs.Hands.{Went}
 use Rattle.cc_async.specs.declared.queue.QueuedRead.{QueuedRead}
-use Rattle.cc_async.specs.Reads.{CompletionEnds, IsQueued, ReadLeft, StartEnds, read_of, taken_of}
+use Rattle.cc_async.specs.Reads.{CompletionEnds, ReadIsQueued, AsyncReadLeft, StartEnds, completed_read, taken_of}
 use Rattle.cc_async.proofs.Kept.{kept-none}
 
 -- a read that may not wait is never answered that the queue is full
@@ -25,13 +25,13 @@ never-full me file at len old new u (inr is) = absurd (cc (is.listed))
 
 module _ (w v : Standing) (file : File) (at len : ℕ) (was : PlaceState QueuedRead) where
   -- it took no turn of a disk
-  went-at-once : (answer : Result (List ℕ) CcError) → ReadLeft w v file at len false answer → Went w v
+  went-at-once : (answer : Result (List ℕ) CcError) → AsyncReadLeft w v file at len false answer → Went w v
   went-at-once answer left = record {
     same = left.pages.goes_on.same ∙ ap (λ (n : ℕ). record w { seen = v.seen; others = v.others; device_turns = n }) (left.no_wait refl);
   }
 
   -- its bytes are ready
-  pub starts-ready : (bytes : List ℕ) → ReadLeft w v file at len false (Ok bytes) → StartEnds w v file at len was was (Ok (start.Ready bytes))
+  pub starts-ready : (bytes : List ℕ) → AsyncReadLeft w v file at len false (Ok bytes) → StartEnds w v file at len was was (Ok (start.Ready bytes))
   starts-ready bytes left = record {
     left = left.pages.left;
     started = refl;
@@ -42,7 +42,7 @@ module _ (w v : Standing) (file : File) (at len : ℕ) (was : PlaceState QueuedR
   }
 
   -- a page was not resident, and it was queued, or found no place
-  pub starts-queued : (id : AsyncId) (now : PlaceState QueuedRead) (answer : Result AsyncStart CcError) → id ≡ record { pass = w.number; n = suc (length was.pushed) } → (page : ℕ) → ReadLeft w v file at len false (Err (error.NotResident page)) → IsQueued id file at len answer was now → StartEnds w v file at len was now answer
+  pub starts-queued : (id : AsyncId) (now : PlaceState QueuedRead) (answer : Result AsyncStart CcError) → id ≡ record { pass = w.number; n = suc (length was.pushed) } → (page : ℕ) → AsyncReadLeft w v file at len false (Err (error.NotResident page)) → ReadIsQueued id file at len answer was now → StartEnds w v file at len was now answer
   starts-queued id now (Ok (start.Queued told)) is page left queued = record {
     left = (page, left.pages.left);
     started = (
@@ -66,7 +66,7 @@ module _ (w v : Standing) (file : File) (at len : ℕ) (was : PlaceState QueuedR
   starts-queued id now (Err e) is page left queued = absurd queued
 
   -- it was refused for another reason
-  pub starts-refused : (e : CcError) → ((page : ℕ) → e ≡ error.NotResident page → ⊥) → ReadLeft w v file at len false (Err e) → StartEnds w v file at len was was (Err e)
+  pub starts-refused : (e : CcError) → ((page : ℕ) → e ≡ error.NotResident page → ⊥) → AsyncReadLeft w v file at len false (Err e) → StartEnds w v file at len was was (Err e)
   starts-refused (error.NotResident page) other left = absurd (other page refl)
   starts-refused error.QueueFull other left = absurd (never-full w.number file at len w.seen v.seen w.setup left.pages.left)
   starts-refused e other left = record {
@@ -83,7 +83,7 @@ pub starts-none : (w : Standing) (file : File) (at len : ℕ) (was : PlaceState 
 starts-none w file at len was = starts-refused w w file at len was error.NoMemory (λ page is. absurd (cc (is))) (kept-none w file at len false)
 
 -- a step completed what it took
-pub completes : (w v : Standing) (was now : PlaceState QueuedRead) (done : AsyncDone) → PopLeft (Some (read_of done)) was now → ReadLeft w v done.file done.at done.len true done.answer → CompletionEnds w v was now (Some done)
+pub completes : (w v : Standing) (was now : PlaceState QueuedRead) (done : AsyncDone) → PopLeft (Some (completed_read done)) was now → AsyncReadLeft w v done.file done.at done.len true done.answer → CompletionEnds w v was now (Some done)
 completes w v was now done popped left = record { taken = popped; left = left; goes_on = left.pages.goes_on; good = left.pages.good }
 
 -- it took nothing

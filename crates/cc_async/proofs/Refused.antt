@@ -39,7 +39,7 @@ use Rattle.cc_calls.specs.Answers.{IsFree}
 use Rattle.cc_calls.proofs.LogCalls.{idle-grows}
 use Rattle.cc_calls.proofs.Paging.{same-turns, went-on}
 use Rattle.cc_async.specs.declared.queue.QueuedRead.{QueuedRead}
-use Rattle.cc_async.specs.Reads.{IsRefusedIn, ReadLeft}
+use Rattle.cc_async.specs.Reads.{IsRefusedIn, AsyncReadLeft}
 
 -- ---- its entry
 
@@ -134,7 +134,7 @@ module _ {Q : Type 0} (posted : Q → Bool) (w v : Standing) (read : QueuedRead)
           (gives_up w.number (read_call read) error.NoMemory w.seen j.entries way refl refl)
 
   -- a read that was refused so leaves what explains that, whatever stopped it
-  refused-so : (e : CcError) → CallLeft w.setup w.number (read_call read) (outcome.Failed e) w.seen k.entries → IsFull {A = List ℕ} 1 (without_journal k v) (Err e) → Visited posted w v w.in_flight k → ReadLeft w (without_journal k v) read.file read.at read.len true (Err e)
+  refused-so : (e : CcError) → CallLeft w.setup w.number (read_call read) (outcome.Failed e) w.seen k.entries → IsFull {A = List ℕ} 1 (without_journal k v) (Err e) → Visited posted w v w.in_flight k → AsyncReadLeft w (without_journal k v) read.file read.at read.len true (Err e)
   refused-so e left full given = record {
     pages = record {
       left = left;
@@ -147,13 +147,13 @@ module _ {Q : Type 0} (posted : Q → Bool) (w v : Standing) (read : QueuedRead)
     no_wait = λ is. same-turns w (without_journal k v) given.went;
   }
 
-  stopped-so : (e : CcError) → IsStop 1 e j → k ≡ j → ReadLeft w (without_journal k v) read.file read.at read.len true (Err e)
+  stopped-so : (e : CcError) → IsStop 1 e j → k ≡ j → AsyncReadLeft w (without_journal k v) read.file read.at read.len true (Err e)
   stopped-so e stop same =
       let given = stopped-visited same in
       refused-so e (stopped-left e stop same)
       (full-stopped (List ℕ) posted 1 (without_journal k v) k e given.journal (subst (λ (x : JournalState Q). IsStop 1 e x) (sym same) stop)) given
 
-  refused-left : (e : CcError) → IsRefusedIn w.number read e j k → ReadLeft w (without_journal k v) read.file read.at read.len true (Err e)
+  refused-left : (e : CcError) → IsRefusedIn w.number read e j k → AsyncReadLeft w (without_journal k v) read.file read.at read.len true (Err e)
   refused-left error.NotCached left =
       refused-so error.NotCached
       (subst (λ (past : List Entry). CallLeft w.setup w.number (read_call read) (outcome.Failed error.NotCached) w.seen past) (sym (ap (λ x. x.entries) left.1))
@@ -174,5 +174,5 @@ module _ {Q : Type 0} (posted : Q → Bool) (w v : Standing) (read : QueuedRead)
   pub gives-refused : Visited posted w v w.in_flight k
   gives-refused = refused-visited posted w v read j k can beyond vis e mine
 
-  pub whole-refused : (z : Standing) → z ≡ without_journal k v → ReadLeft w z read.file read.at read.len true (Err e)
-  whole-refused z is = subst (λ (x : Standing). ReadLeft w x read.file read.at read.len true (Err e)) (sym is) (refused-left posted w v read j k can beyond vis e mine)
+  pub whole-refused : (z : Standing) → z ≡ without_journal k v → AsyncReadLeft w z read.file read.at read.len true (Err e)
+  whole-refused z is = subst (λ (x : Standing). AsyncReadLeft w x read.file read.at read.len true (Err e)) (sym is) (refused-left posted w v read j k can beyond vis e mine)

@@ -28,7 +28,7 @@ use Rattle.cc_queue.specs.Places.{PlaceState, PushLeft, PopLeft, FoundFull}
 use Rattle.cc_step.specs.Step.{AddsOwing, IsStop}
 use Rattle.cc_turns.specs.Standing.{Standing}
 use Rattle.cc_writes.specs.Hands.{Went}
-use Rattle.cc_calls.specs.Pages.{IsFullFor, PagesLeft, StaysGood, WentOn}
+use Rattle.cc_calls.specs.Pages.{IsFullFor, CallWithPagesLeft, StaysGood, WentOn}
 use Rattle.cc_async.specs.declared.queue.QueuedRead.{QueuedRead}
 
 -- ---- one read
@@ -40,7 +40,7 @@ bytes_outcome (Err e) = outcome.Failed e
 
 -- The pass placed the entry of a read between two moments, and what was answered is what the plain file has at the place of
 -- that entry: over a disk that does not tell its opening pages, as many bytes, with zeros from the valid data length on.
-pub record IsPlain (u : Setup) (me : ℕ) (file : File) (at len : ℕ) (wait : Bool) (bytes : List ℕ) (old new : List Entry)
+pub record ReadIsPlain (u : Setup) (me : ℕ) (file : File) (at len : ℕ) (wait : Bool) (bytes : List ℕ) (old new : List Entry)
     : Type 0 where
   pub nth : ℕ
   pub later : List Entry
@@ -52,12 +52,12 @@ pub record IsPlain (u : Setup) (me : ℕ) (file : File) (at len : ℕ) (wait : B
 
 -- A read was answered so: it left what explains that, a journal that is full is full, and the turn of a disk was taken only
 -- for a page that was not resident, and for none by a read that may not wait. Bytes that were answered are the plain file's.
-pub record ReadLeft (old new : Standing) (file : File) (at len : ℕ) (wait : Bool) (answer : Result (List ℕ) CcError)
+pub record AsyncReadLeft (old new : Standing) (file : File) (at len : ℕ) (wait : Bool) (answer : Result (List ℕ) CcError)
     : Type 0 where
-  pub pages : PagesLeft old new (call.CopyRead file at len wait) (bytes_outcome answer)
+  pub pages : CallWithPagesLeft old new (call.CopyRead file at len wait) (bytes_outcome answer)
   pub full : IsFullFor (call.CopyRead file at len wait) old new answer
   pub plain : IsGood old.setup old.seen →
-      IfOk answer (λ bytes. IsPlain old.setup old.number file at len wait bytes old.seen new.seen)
+      IfOk answer (λ bytes. ReadIsPlain old.setup old.number file at len wait bytes old.seen new.seen)
   pub no_wait : wait ≡ false → new.device_turns ≡ old.device_turns
 
 -- A queued read was refused with the journal in hand: its object is not open, and its entry says so; or there was no room or
@@ -76,12 +76,12 @@ abbrev pub HasNumber : PlaceState QueuedRead → Type 0
 HasNumber place = length place.pushed < 2 ^ 64 - 1
 
 -- A read was queued under its number, or there was no place for it.
-abbrev pub IsQueued : AsyncId → File → ℕ → ℕ → Result AsyncStart CcError → PlaceState QueuedRead → PlaceState QueuedRead → Type 0
-IsQueued id file at len (Ok (start.Queued told)) was now =
+abbrev pub ReadIsQueued : AsyncId → File → ℕ → ℕ → Result AsyncStart CcError → PlaceState QueuedRead → PlaceState QueuedRead → Type 0
+ReadIsQueued id file at len (Ok (start.Queued told)) was now =
     (told ≡ id) × PushLeft (record { id = id; file = file; at = at; len = len }) true was now
-IsQueued id file at len (Ok (start.Ready bytes)) was now = ⊥
-IsQueued id file at len (Err error.QueueFull) was now = FoundFull was now
-IsQueued id file at len (Err e) was now = ⊥
+ReadIsQueued id file at len (Ok (start.Ready bytes)) was now = ⊥
+ReadIsQueued id file at len (Err error.QueueFull) was now = FoundFull was now
+ReadIsQueued id file at len (Err e) was now = ⊥
 
 -- A read that may not wait left the entry of its refusal, since a page was not resident.
 abbrev pub WasMissing : Setup → ℕ → File → ℕ → ℕ → Between
@@ -110,7 +110,7 @@ StartedAt me file at len (Err e) was now = now ≡ was
 
 -- the bytes of a read that was not queued are the plain file's
 abbrev pub IsReadyPlain : Setup → ℕ → File → ℕ → ℕ → Result AsyncStart CcError → List Entry → List Entry → Type 0
-IsReadyPlain u me file at len (Ok (start.Ready bytes)) old new = IsPlain u me file at len false bytes old new
+IsReadyPlain u me file at len (Ok (start.Ready bytes)) old new = ReadIsPlain u me file at len false bytes old new
 IsReadyPlain u me file at len other old new = Unit {0}
 
 -- A read that may be queued was answered so: it left what explains that, at the queue too; a journal that is full is full; the
@@ -128,19 +128,19 @@ pub record StartEnds (old new : Standing) (file : File) (at len : ℕ) (was now 
 -- ---- the step
 
 -- the read that was completed, as it was queued
-abbrev pub read_of : AsyncDone → QueuedRead
-read_of done = record { id = done.id; file = done.file; at = done.at; len = done.len }
+abbrev pub completed_read : AsyncDone → QueuedRead
+completed_read done = record { id = done.id; file = done.file; at = done.at; len = done.len }
 
 -- the read that a step took, by its answer
 abbrev pub taken_of : Option AsyncDone → Option QueuedRead
 taken_of None = None
-taken_of (Some done) = Some (read_of done)
+taken_of (Some done) = Some (completed_read done)
 
 -- A step that took a read made it as one that waits, and has its answer. One that took none took no turn, and has seen nothing
 -- more.
 abbrev pub CompletionLeft : Standing → Standing → Option AsyncDone → Type 0
 CompletionLeft old new None = new ≡ old
-CompletionLeft old new (Some done) = ReadLeft old new done.file done.at done.len true done.answer
+CompletionLeft old new (Some done) = AsyncReadLeft old new done.file done.at done.len true done.answer
 
 -- A step was answered so: it took the first read of the queue, or found the queue empty; what it took it completed; the pass
 -- goes on as it stood and may call again, and what it has seen stays good.

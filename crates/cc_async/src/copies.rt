@@ -5,7 +5,7 @@ ghost use Rattle.cc_model.specs.Good.{IsGood};
 ghost use Rattle.cc_model.specs.Room.{reserved_in};
 ghost use Rattle.cc_model.specs.Setup.{Setup};
 ghost use Rattle.cc_calls.specs.Answers.{CanCall, IsFree};
-ghost use Rattle.cc_async.specs.Reads.{IsRefusedIn, ReadLeft};
+ghost use Rattle.cc_async.specs.Reads.{IsRefusedIn, AsyncReadLeft};
 
 use crate::queue::QueuedRead;
 use cc_calls::copy_read;
@@ -24,7 +24,7 @@ pub(crate) fn keep_read<T: Turns>(
     wait: bool,
 ) -> Result<Bytes, CcError>
     requires can { CanCall (T.standing turns.old) file.stream }
-    ensures left { ReadLeft (T.standing turns.old) (T.standing turns.new) file at len wait result }
+    ensures left { AsyncReadLeft (T.standing turns.old) (T.standing turns.new) file at len wait result }
 {
     let Ok(mut out) = vec![in alloc; 0; len as usize] else {
         return Err(CcError::NoMemory);
@@ -47,7 +47,7 @@ fn read_into<T: Turns>(
 ) -> Result<Bytes, CcError>
     requires can { CanCall (T.standing turns.old) file.stream }
     requires fits { length out.old ≤ room }
-    ensures left { ReadLeft (T.standing turns.old) (T.standing turns.new) file at (length out.old) wait result }
+    ensures left { AsyncReadLeft (T.standing turns.old) (T.standing turns.new) file at (length out.old) wait result }
 {
     match copy_read(alloc, turns, file, at, wait, out) {
         Ok(count) => Ok(room.keep(&out[..count])),
@@ -60,7 +60,7 @@ fn read_into<T: Turns>(
 pub(crate) fn refuse_read<T: Turns>(turns: &mut T, read: QueuedRead) -> CcError
     requires can { IsFree (T.standing turns.old) }
     requires unknown { (T.standing turns.old).streams ≤ read.file.stream }
-    ensures left { ReadLeft (T.standing turns.old) (T.standing turns.new) read.file read.at read.len true (Err result) }
+    ensures left { AsyncReadLeft (T.standing turns.old) (T.standing turns.new) read.file read.at read.len true (Err result) }
 {
     let mut journal = turns.take_journal();
     let pass = turns.me();

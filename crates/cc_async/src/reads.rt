@@ -2,7 +2,7 @@
 
 ghost use Rattle.std.specs.Prelude.{◌≡◌, suc, length};
 ghost use Rattle.cc_calls.specs.Answers.{CanCall};
-ghost use Rattle.cc_async.specs.Reads.{HasNumber, IsQueued, StartEnds};
+ghost use Rattle.cc_async.specs.Reads.{HasNumber, ReadIsQueued, StartEnds};
 
 use crate::copies::keep_read;
 use crate::queue::{AsyncPass, AsyncQueue, QueuedRead};
@@ -59,7 +59,7 @@ fn queue_read<R: Wait>(
     requires own { place.old.queue ≡ queue.now }
     requires more { HasNumber place.old }
     requires next { id.n ≡ suc (length place.old.pushed) }
-    ensures queued { IsQueued id file at len result place.old place.new }
+    ensures queued { ReadIsQueued id file at len result place.old place.new }
 {
     let AsyncId { pass, n } = id;
     let id = AsyncId { pass, n };

@@ -2,7 +2,7 @@
 
 ghost use Rattle.std.specs.Prelude.{◌≡◌, true};
 ghost use Rattle.cc_calls.specs.Answers.{IsFree};
-ghost use Rattle.cc_async.specs.Reads.{CompletionEnds, ReadLeft};
+ghost use Rattle.cc_async.specs.Reads.{CompletionEnds, AsyncReadLeft};
 
 use crate::copies::{keep_read, refuse_read};
 use crate::queue::{AsyncPass, AsyncQueue, QueuedRead};
@@ -45,7 +45,7 @@ pub fn async_step<R: Wait, T: Turns>(
 // Makes a read that was queued.
 fn complete<T: Turns>(alloc: Global, turns: &mut T, read: QueuedRead) -> Result<Bytes, CcError>
     requires can { IsFree (T.standing turns.old) }
-    ensures left { ReadLeft (T.standing turns.old) (T.standing turns.new) read.file read.at read.len true result }
+    ensures left { AsyncReadLeft (T.standing turns.old) (T.standing turns.new) read.file read.at read.len true result }
 {
     if read.file.stream().number() < turns.streams() {
         keep_read(alloc, turns, read.file, read.at, read.len, true)

@@ -14,10 +14,10 @@ use Rattle.cc_turns.specs.Standing.{nothing}
 use Rattle.cc_turns.specs.Desk.{Begun, Tells, DeskState}
 use Rattle.cc_turns.specs.Slots.{HasTurn, slot_of, AreInSlots, IsPutTogether}
 use Rattle.cc_board.specs.declared.rule.View.{View}
-use Rattle.cc_board.specs.View.{held_of}
-use Rattle.cc_board.specs.Plays.{Slot}
-use Rattle.cc_board.specs.Board.{BoardState, FirstState, IsAtRest, IsClosed}
-use Rattle.cc_board.specs.Rule.{IsBoard, IsAtHome, AreNumbered, under_way, given_numbers, word_of}
+use Rattle.cc_board.specs.View.{turns_held}
+use Rattle.cc_board.specs.Plays.{TurnSlot}
+use Rattle.cc_board.specs.Board.{BoardState, FirstState, PassIsAtRest, IsClosed}
+use Rattle.cc_board.specs.Rule.{IsBoard, IsAtHome, PassesAreNumbered, under_way, given_numbers, turn_word}
 use Rattle.cc_board.proofs.Views.{total-at, total-two}
 use Rattle.cc_board.proofs.UnderWay.{counts, lives, beside_first}
 use Rattle.cc_board.proofs.Resting.{none_held}
@@ -52,9 +52,9 @@ found_at (x ∷ xs) (suc i) a e = found_at xs i a e
 abbrev pub AllJoined : {D L : Type 0} → View D L → Type 0
 AllJoined v = suc (length v.ended) ≡ v.made
 
-module _ {D L Q : Type 0} (tells : Tells D L Q) (begun : Begun D L) (s : State (Slot D L Q) (View D L)) (r : IsBoard tells begun s)
-    (id : ℕ) (v : View D L) (there : get_elem? s.views id ≡ some v) (rest : IsAtRest v) (zero_is : v.number ≡ 0) where
-  numbers : AreNumbered r.past s.words s.views v
+module _ {D L Q : Type 0} (tells : Tells D L Q) (begun : Begun D L) (s : State (TurnSlot D L Q) (View D L)) (r : IsBoard tells begun s)
+    (id : ℕ) (v : View D L) (there : get_elem? s.views id ≡ some v) (rest : PassIsAtRest v) (zero_is : v.number ≡ 0) where
+  numbers : PassesAreNumbered r.past s.words s.views v
   numbers = (numbers_of tells begun s r id v there rest.is_live zero_is).1
 
   given : given_numbers v ≡ v.made
@@ -67,15 +67,15 @@ module _ {D L Q : Type 0} (tells : Tells D L Q) (begun : Begun D L) (s : State (
         (λ (ne : j ≢ 0). let a = total-two counts s.views j 0 u v at numbers.there ne in let b = lives u is_live in let c = lives v rest.is_live in let d = numbers.counted in let e = given in absurd (omega arith))
 
     -- so each holds nothing
-    at_rest : (j : ℕ) (u : View D L) → get_elem? s.views j ≡ some u → (live : Bool) → u.live ≡ live → held_of u ≡ nothing
+    at_rest : (j : ℕ) (u : View D L) → get_elem? s.views j ≡ some u → (live : Bool) → u.live ≡ live → turns_held u ≡ nothing
     at_rest j u at true is = let first : j ≡ 0 = one_lives j u at is in
-        ap (λ (x : View D L). held_of x) (some-injective u v (sym at ∙ subst (λ (k : ℕ). get_elem? s.views k ≡ some v) (sym first) numbers.there)) ∙ rest.held_is
+        ap (λ (x : View D L). turns_held x) (some-injective u v (sym at ∙ subst (λ (k : ℕ). get_elem? s.views k ≡ some v) (sym first) numbers.there)) ∙ rest.held_is
     at_rest j u at false is = (r.views j u at).spent is
 
     -- and each turn is free
     all_home : (turn : Turn) → HasTurn begun turn → IsAtHome tells begun r.past (under_way s.views) s.homes turn
-    all_home turn has = dite (ℕ_discrete (get_or s.words (word_of begun turn) 0) 0) (λ free. r.home turn has free)
-        (λ taken. let h = r.out turn has taken in absurd (none_held (held_of h.view) turn (at_rest h.id h.view h.there h.view.live refl) h.held))
+    all_home turn has = dite (ℕ_discrete (get_or s.words (turn_word begun turn) 0) 0) (λ free. r.home turn has free)
+        (λ taken. let h = r.out turn has taken in absurd (none_held (turns_held h.view) turn (at_rest h.id h.view h.there h.view.live refl) h.held))
 
     -- and none but the first has anything under way
     all_under_way : under_way s.views ≡ v.in_flight
@@ -84,8 +84,8 @@ module _ {D L Q : Type 0} (tells : Tells D L Q) (begun : Begun D L) (s : State (
         let d = numbers.counted in let e = given in omega arith
 
     -- what all turns are of is in the slots
-    pub closed_slots : (slots : List (Slot D L Q)) → length s.homes ≡ length slots
-        → ((k : ℕ) (y : Slot D L Q) → get_elem? s.homes k ≡ some (some y) → get_elem? slots k ≡ some y)
+    pub closed_slots : (slots : List (TurnSlot D L Q)) → length s.homes ≡ length slots
+        → ((k : ℕ) (y : TurnSlot D L Q) → get_elem? s.homes k ≡ some (some y) → get_elem? slots k ≡ some y)
         → AreInSlots tells begun r.past (under_way s.views) slots
     closed_slots slots long same = record {
       counted = sym long ∙ r.sized.1;
@@ -97,8 +97,8 @@ module _ {D L Q : Type 0} (tells : Tells D L Q) (begun : Begun D L) (s : State (
     }
 
 -- the desk that is put together of them
-closed_desk : {D L Q : Type 0} (tells : Tells D L Q) (board : BoardState D L) (first : FirstState D L) (desk : DeskState D L Q) (s : State (Slot D L Q) (View D L)) (r : IsBoard tells board.begun s)
-    (id : ℕ) → get_elem? s.views id ≡ some first.knows → IsAtRest first.knows → first.knows.number ≡ 0 → AllJoined first.knows → IsPutTogether board.begun r.past (under_way s.views) desk → IsClosed board first desk
+closed_desk : {D L Q : Type 0} (tells : Tells D L Q) (board : BoardState D L) (first : FirstState D L) (desk : DeskState D L Q) (s : State (TurnSlot D L Q) (View D L)) (r : IsBoard tells board.begun s)
+    (id : ℕ) → get_elem? s.views id ≡ some first.knows → PassIsAtRest first.knows → first.knows.number ≡ 0 → AllJoined first.knows → IsPutTogether board.begun r.past (under_way s.views) desk → IsClosed board first desk
 closed_desk tells board first desk s r id there rest zero_is all made = let n = numbers tells board.begun s r id first.knows there rest zero_is in let g = (r.views id first.knows there).grows rest.is_live in
     let e : given_numbers first.knows ≡ first.knows.made = given_at_rest first.knows rest.none_drawn in
     record {
@@ -112,16 +112,16 @@ closed_desk tells board first desk s r id there rest zero_is all made = let n = 
     }
 
 -- What was taken out of a board whose passes were all joined, and what a desk that is put together of it is.
-pub record Ended {D L Q : Type 0} (tells : Tells D L Q) (begun emptied : Begun D L) (v : View D L) (room : List (Slot D L Q)) : Type 0 where
+pub record Ended {D L Q : Type 0} (tells : Tells D L Q) (begun emptied : Begun D L) (v : View D L) (room : List (TurnSlot D L Q)) : Type 0 where
   pub past : List Entry
   pub reserved : ℕ
   pub are : AreInSlots tells emptied past reserved room
   pub closes : (board : BoardState D L) (first : FirstState D L) (desk : DeskState D L Q) → board.begun ≡ begun → first.knows ≡ v → IsPutTogether emptied past reserved desk → IsClosed board first desk
 
-pub ended : {D L Q : Type 0} (tells : Tells D L Q) (begun emptied : Begun D L) (id : ℕ) (v : View D L) (words : List ℕ) (slots room : List (Slot D L Q))
-    → Final (Seen (IsBoard tells begun) id v) words slots → IsAtRest v → v.number ≡ 0 → AllJoined v → emptied ≡ begun → room ≡ slots → Ended tells begun emptied v room
+pub ended : {D L Q : Type 0} (tells : Tells D L Q) (begun emptied : Begun D L) (id : ℕ) (v : View D L) (words : List ℕ) (slots room : List (TurnSlot D L Q))
+    → Final (Seen (IsBoard tells begun) id v) words slots → PassIsAtRest v → v.number ≡ 0 → AllJoined v → emptied ≡ begun → room ≡ slots → Ended tells begun emptied v room
 ended {D = D} {L = L} {Q = Q} tells begun emptied id v words slots room final rest zero_is all same_run same_slots =
-    let s : State (Slot D L Q) (View D L) = final.0 in let r : IsBoard tells begun s = final.1.0 in let there : get_elem? s.views id ≡ some v = final.1.1 in
+    let s : State (TurnSlot D L Q) (View D L) = final.0 in let r : IsBoard tells begun s = final.1.0 in let there : get_elem? s.views id ≡ some v = final.1.1 in
     record {
       past = r.past;
       reserved = under_way s.views;

@@ -15,9 +15,9 @@ use Rattle.cc_turns.specs.Desk.{Begun, Tells}
 use Rattle.cc_turns.specs.Slots.{slot_of, slots_of, HasTurn, Fits}
 use Rattle.cc_turns.specs.declared.slots.Place.{Place}
 use Rattle.cc_board.specs.declared.rule.View.{View}
-use Rattle.cc_board.specs.View.{run_of, held_of, without_turn}
-use Rattle.cc_board.specs.Plays.{Slot, GivesTurn}
-use Rattle.cc_board.specs.Rule.{under_way, word_of, IsAtHome, IsTaken, IsHeld, IsView, AreNumbered, IsBoard}
+use Rattle.cc_board.specs.View.{run_of, turns_held, without_turn}
+use Rattle.cc_board.specs.Plays.{TurnSlot, GivesTurn}
+use Rattle.cc_board.specs.Rule.{under_way, turn_word, IsAtHome, IsTaken, IsHeld, IsView, PassesAreNumbered, IsBoard}
 use Rattle.cc_board.proofs.Standing.{slot-apart, slot-within, fits_grows, fits_any}
 use Rattle.cc_board.proofs.Parts.{word-here, word-else, word-first, home-else, held-kept, view-else, apart-set, under_way-kept, reserved-set, SameNumber, numbers-kept}
 
@@ -29,14 +29,14 @@ one-of None a b h k = absurd (cc)
 one-of (Some n) a b h k = sym (eqb-true n a h) ∙ eqb-true n b k
 
 -- it does not hold the turn
-without-gone : {D L Q : Type 0} (t : Turn) (given : Place D L Q) (v : View D L) → is_journal t ≡ false → holds (held_of (without_turn t given v)) t ≡ false
+without-gone : {D L Q : Type 0} (t : Turn) (given : Place D L Q) (v : View D L) → is_journal t ≡ false → holds (turns_held (without_turn t given v)) t ≡ false
 without-gone (Device s) given v other = refl
 without-gone (Book s) given v other = refl
 without-gone (Log h) given v other = refl
 without-gone Journal given v other = absurd (cc)
 
 -- what it holds, it held
-without-held : {D L Q : Type 0} (t : Turn) (given : Place D L Q) (v : View D L) (u : Turn) → is_journal t ≡ false → holds (held_of (without_turn t given v)) u ≡ true → holds (held_of v) u ≡ true
+without-held : {D L Q : Type 0} (t : Turn) (given : Place D L Q) (v : View D L) (u : Turn) → is_journal t ≡ false → holds (turns_held (without_turn t given v)) u ≡ true → holds (turns_held v) u ≡ true
 without-held (Device s) given v (Device r) other held = absurd (cc)
 without-held (Device s) given v u other held = held
 without-held (Book s) given v (Book r) other held = absurd (cc)
@@ -46,7 +46,7 @@ without-held (Log s) given v u other held = held
 without-held Journal given v u other held = absurd (cc)
 
 -- and each other that it held, it holds
-without-old : {D L Q : Type 0} (t : Turn) (given : Place D L Q) (v : View D L) (u : Turn) → is_journal t ≡ false → holds (held_of v) t ≡ true → u ≢ t → holds (held_of v) u ≡ true → holds (held_of (without_turn t given v)) u ≡ true
+without-old : {D L Q : Type 0} (t : Turn) (given : Place D L Q) (v : View D L) (u : Turn) → is_journal t ≡ false → holds (turns_held v) t ≡ true → u ≢ t → holds (turns_held v) u ≡ true → holds (turns_held (without_turn t given v)) u ≡ true
 without-old (Device s) given v (Device r) other has apart held = absurd (apart (ap Device (one-of v.device r s held has)))
 without-old (Device s) given v u other has apart held = held
 without-old (Book s) given v (Book r) other has apart held = absurd (apart (ap Book (one-of v.book r s held has)))
@@ -73,18 +73,18 @@ same-but Journal given v other = absurd (cc)
 -- ---- the parts of the rule after a turn was given
 
 module _ {D L Q : Type 0} (tells : Tells D L Q) (run : Begun D L) (t : Turn) (place : Place D L Q) (n : ℕ) (id : ℕ) (v : View D L) (run_is : run_of v ≡ run) (live : v.live ≡ true) (known : HasTurn run t)
-    (other : is_journal t ≡ false) (has : holds (held_of v) t ≡ true) (fits : Fits tells run v.seen n t place)
-    (s : State (Slot D L Q) (View D L)) (r : IsBoard tells run s) (at : get_elem? s.views id ≡ some v) where
+    (other : is_journal t ≡ false) (has : holds (turns_held v) t ≡ true) (fits : Fits tells run v.seen n t place)
+    (s : State (TurnSlot D L Q) (View D L)) (r : IsBoard tells run s) (at : get_elem? s.views id ≡ some v) where
   abbrev now : View D L
   now = without_turn t place v
 
   abbrev words : List ℕ
-  words = slice_set s.words (word_of run t) 0
+  words = slice_set s.words (turn_word run t) 0
 
   abbrev views : List (View D L)
   views = slice_set s.views id now
 
-  abbrev homes : List (Maybe (Slot D L Q))
+  abbrev homes : List (Maybe (TurnSlot D L Q))
   homes = slice_set s.homes (slot_of run t) (some (Some place))
 
   same : SameBut v now
@@ -94,17 +94,17 @@ module _ {D L Q : Type 0} (tells : Tells D L Q) (run : Begun D L) (t : Turn) (pl
   as_much = under_way-kept s.views id v now at same.in_flight
 
   -- a turn that another pass holds, or that this one still does, has another slot
-  slot-held : (a : ℕ) (x : View D L) (u : Turn) → a ≢ id → get_elem? s.views a ≡ some x → holds (held_of x) u ≡ true → u ≢ t
-  slot-held a x u apart there held is = apart (r.apart a id x v t there at (subst (λ y. holds (held_of x) y ≡ true) is held) has)
+  slot-held : (a : ℕ) (x : View D L) (u : Turn) → a ≢ id → get_elem? s.views a ≡ some x → holds (turns_held x) u ≡ true → u ≢ t
+  slot-held a x u apart there held is = apart (r.apart a id x v t there at (subst (λ y. holds (turns_held x) y ≡ true) is held) has)
 
-  now-held : (u : Turn) → holds (held_of now) u ≡ true → u ≢ t
-  now-held u held is = let gone = without-gone t place v other in let still = subst (λ y. holds (held_of now) y ≡ true) is held in absurd (cc)
+  now-held : (u : Turn) → holds (turns_held now) u ≡ true → u ≢ t
+  now-held u held is = let gone = without-gone t place v other in let still = subst (λ y. holds (turns_held now) y ≡ true) is held in absurd (cc)
 
   -- the word of another turn that is taken stays
   taken-on : (u : Turn) → u ≢ t → IsTaken run s.words u → IsTaken run words u
   taken-on u apart taken = record {
     known = taken.known;
-    word = word-else run s.words t u 0 (λ same. apart (slot-apart run u t taken.known known same)) ∙ taken.word;
+    word = λ free. taken.word (sym (word-else run s.words t u 0 (λ same. apart (slot-apart run u t taken.known known same))) ∙ free);
   }
 
   -- what the turn is of is at home, as what each free turn is of
@@ -121,14 +121,14 @@ module _ {D L Q : Type 0} (tells : Tells D L Q) (run : Begun D L) (t : Turn) (pl
             (fits_grows tells run grows.later v.seen n t place (grows.quiet t has) fits));
       }
 
-  home : (u : Turn) → HasTurn run u → slice_index words (word_of run u) ≡ 0 → IsAtHome tells run r.past (under_way views) homes u
+  home : (u : Turn) → HasTurn run u → slice_index words (turn_word run u) ≡ 0 → IsAtHome tells run r.past (under_way views) homes u
   home u had none_there = dite (ℕ_discrete (slot_of run u) (slot_of run t))
       (λ is. subst (λ y. IsAtHome tells run r.past (under_way views) homes y) (sym (slot-apart run u t had known is)) home-given)
       (λ apart. home-else tells run r.past (under_way s.views) (under_way views) s.homes t u (some (Some place)) apart (sym as_much)
       (r.home u had (sym (word-else run s.words t u 0 apart) ∙ none_there)))
 
   -- a turn that is not free is held
-  out : (u : Turn) → HasTurn run u → slice_index words (word_of run u) ≢ 0 → IsHeld views u
+  out : (u : Turn) → HasTurn run u → slice_index words (turn_word run u) ≢ 0 → IsHeld views u
   out u had some_there = dite (ℕ_discrete (slot_of run u) (slot_of run t))
       (λ is. let none_there = word-here run s.words t 0 r.sized.0 known in absurd (some_there (rw is none_there)))
       (λ apart. held-kept s.views id v now u at (without-old t place v u other has (λ is. apart (ap (λ y. slot_of run y) is)))
@@ -160,7 +160,7 @@ module _ {D L Q : Type 0} (tells : Tells D L Q) (run : Begun D L) (t : Turn) (pl
       (at_set s.views id a now x there)
 
   -- no turn is held twice
-  alone : (b : ℕ) (x : View D L) (u : Turn) → b ≢ id → get_elem? s.views b ≡ some x → holds (held_of now) u ≡ true → holds (held_of x) u ≡ true → ⊥
+  alone : (b : ℕ) (x : View D L) (u : Turn) → b ≢ id → get_elem? s.views b ≡ some x → holds (turns_held now) u ≡ true → holds (turns_held x) u ≡ true → ⊥
   alone b x u apart there held held_there = apart (sym (r.apart id b v x u at there (without-held t place v u other held) held_there))
 
   -- it knows what the others have under way, where it holds the journal
@@ -171,18 +171,18 @@ module _ {D L Q : Type 0} (tells : Tells D L Q) (run : Begun D L) (t : Turn) (pl
       let sum = r.reserved id v at (sym same.journal ∙ held) in
       omega arith
 
-  numbers : (first : View D L) × AreNumbered r.past words views first
+  numbers : (first : View D L) × PassesAreNumbered r.past words views first
   numbers = numbers-kept r.past s.words words s.views id v now r.first at same.number (word-first run s.words t 0)
       (λ number idle. rw same.seen idle) r.numbers
 
   -- the rule after a turn was given
-  after : (c : List (ℕ × Slot D L Q)) → IsBoard tells run (stepped s (word_of run t) 0 id ((slot_of run t, Some place) ∷ c) now gives)
+  after : (c : List (ℕ × TurnSlot D L Q)) → IsBoard tells run (stepped s (turn_word run t) 0 id ((slot_of run t, Some place) ∷ c) now gives)
   after c = record {
     past = r.past;
     good = r.good;
     within = r.within;
     few = r.few;
-    sized = (length-set s.words (word_of run t) 0 ∙ r.sized.0, length-set s.homes (slot_of run t) (some (Some place)) ∙ r.sized.1);
+    sized = (length-set s.words (turn_word run t) 0 ∙ r.sized.0, length-set s.homes (slot_of run t) (some (Some place)) ∙ r.sized.1);
     home = home;
     out = out;
     views = each;
@@ -195,13 +195,13 @@ module _ {D L Q : Type 0} (tells : Tells D L Q) (run : Begun D L) (t : Turn) (pl
 -- ---- the step
 
 -- a pass may give a turn that it holds and took last, where what the turn is of stands for all that it has seen
-pub gives_turn : {D L Q : Type 0} (tells : Tells D L Q) (run : Begun D L) (turn_at : Begun D L → ℕ → Turn) (t : Turn) (place : Place D L Q) (n id : ℕ) (v : View D L) (c : List (ℕ × Slot D L Q)) → run_of v ≡ run → v.live ≡ true → HasTurn run t → is_journal t ≡ false → holds (held_of v) t ≡ true → Fits tells run v.seen n t place → turn_at run (word_of run t) ≡ t →
-    Allows (IsBoard tells run) (slots_of run) id (v, (slot_of run t, Some place) ∷ c) (word_of run t) (λ _. 0)
-    (λ _. GivesTurn turn_at (step (slots_of run) (word_of run t) 0 0 none) (v, (slot_of run t, Some place) ∷ c) 0)
-gives_turn {D} {L} {Q} tells run turn_at t place n id v c run_is live known other has fits at_is s r sized at small = let there : Me (Slot D L Q) (View D L) = (without_turn t place v, c) in (
+pub gives_turn : {D L Q : Type 0} (tells : Tells D L Q) (run : Begun D L) (turn_at : Begun D L → ℕ → Turn) (t : Turn) (place : Place D L Q) (n id : ℕ) (v : View D L) (c : List (ℕ × TurnSlot D L Q)) → run_of v ≡ run → v.live ≡ true → HasTurn run t → is_journal t ≡ false → holds (turns_held v) t ≡ true → Fits tells run v.seen n t place → turn_at run (turn_word run t) ≡ t →
+    Allows (IsBoard tells run) (slots_of run) id (v, (slot_of run t, Some place) ∷ c) (turn_word run t) (λ _. 0)
+    (GivesTurn turn_at (step (slots_of run) (turn_word run t) 0 0 none) (v, (slot_of run t, Some place) ∷ c))
+gives_turn {D} {L} {Q} tells run turn_at t place n id v c run_is live known other has fits at_is s r sized at small = let there : Me (TurnSlot D L Q) (View D L) = (without_turn t place v, c) in (
   without_turn t place v,
   gives,
   tt,
   after tells run t place n id v run_is live known other has fits s r at c,
-  subst (λ (u : Turn). let back : Me (Slot D L Q) (View D L) = (without_turn u place v, c) in there ≡ back) (sym (ap (λ (b : Begun D L). turn_at b (word_of run t)) run_is ∙ at_is)) refl,
+  subst (λ (u : Turn). let back : Me (TurnSlot D L Q) (View D L) = (without_turn u place v, c) in there ≡ back) (sym (ap (λ (b : Begun D L). turn_at b (turn_word run t)) run_is ∙ at_is)) refl,
 )

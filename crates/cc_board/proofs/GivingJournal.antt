@@ -24,14 +24,14 @@ use Rattle.cc_turns.specs.Standing.{holds}
 use Rattle.cc_turns.specs.Desk.{Begun, Tells}
 use Rattle.cc_turns.specs.Journal.{JournalStands}
 use Rattle.cc_turns.specs.Slots.{slot_of, slots_of, HasTurn, setup_in, Fits}
-use Rattle.cc_turns.specs.Takes.{Adds, IsThere, may_be_of, without_journal}
+use Rattle.cc_turns.specs.Takes.{AddsEvent, IsThere, may_be_of, without_journal}
 use Rattle.cc_turns.specs.declared.slots.Place.{Place}
 use Rattle.cc_turns.specs.declared.slots.Place.TheVariants as place
 use Rattle.cc_turns.proofs.Capacity.{journal_within}
 use Rattle.cc_board.specs.declared.rule.View.{View}
-use Rattle.cc_board.specs.View.{run_of, held_of, standing_of, without_turn, standing_at}
+use Rattle.cc_board.specs.View.{run_of, turns_held, view_standing, without_turn, standing_at}
 use Rattle.cc_board.specs.Plays.{GivesTurn, journal_at}
-use Rattle.cc_board.specs.Rule.{under_way, word_of, IsAtHome, IsTaken, IsHeld, IsView, AreNumbered, IsBoard}
+use Rattle.cc_board.specs.Rule.{under_way, turn_word, IsAtHome, IsTaken, IsHeld, IsView, PassesAreNumbered, IsBoard}
 use Rattle.cc_board.proofs.Views.{total-set}
 use Rattle.cc_board.proofs.Standing.{fits_grows, fits_any, none_later, grows_more, slot-apart, slot-within}
 use Rattle.cc_board.proofs.Parts.{word-here, word-else, word-first, held-kept, apart-set, numbers-set}
@@ -81,13 +81,13 @@ slot-else begun t known other same = let is = ap is_journal (slot-apart begun t 
 
 -- A pass of the board, not the first, holds the journal, and gives it with what it added; it has one entry under way at
 -- most then.
-module _ {D L Q : Type 0} (tells : Tells D L Q) (begun : Begun D L) (s : State (Option (Place D L Q)) (View D L)) (id : ℕ) (v : View D L) (turns : ℕ) (j : JournalState Q) (rule : IsBoard tells begun s) (at : get_elem? s.views id ≡ some v) (live : v.live ≡ true) (journal : v.journal ≡ true) (other : v.number ≢ 0) (few : j.reserved - (reserved_in j.entries + v.others) ≤ 1) (room : length j.entries + j.reserved ≤ j.capacity) (adds : Adds (standing_of tells v turns) j.entries) where
+module _ {D L Q : Type 0} (tells : Tells D L Q) (begun : Begun D L) (s : State (Option (Place D L Q)) (View D L)) (id : ℕ) (v : View D L) (turns : ℕ) (j : JournalState Q) (rule : IsBoard tells begun s) (at : get_elem? s.views id ≡ some v) (live : v.live ≡ true) (journal : v.journal ≡ true) (other : v.number ≢ 0) (few : j.reserved - (reserved_in j.entries + v.others) ≤ 1) (room : length j.entries + j.reserved ≤ j.capacity) (adds : AddsEvent (view_standing tells v turns) j.entries) where
   -- what the pass knows then, and the words, the slots and the views
   abbrev after : View D L
   after = without_turn Journal (place.Journal j) v
 
   abbrev words : List ℕ
-  words = slice_set s.words (word_of begun Journal) 0
+  words = slice_set s.words (turn_word begun Journal) 0
 
   abbrev homes : List (Maybe (Option (Place D L Q)))
   homes = slice_set s.homes (slot_of begun Journal) (some (Some (place.Journal j)))
@@ -113,18 +113,18 @@ module _ {D L Q : Type 0} (tells : Tells D L Q) (begun : Begun D L) (s : State (
   is-there Journal known = tt
 
   -- what another pass holds, this one does not
-  apart-held : (a : ℕ) (x : View D L) (t : Turn) → a ≢ id → get_elem? s.views a ≡ some x → holds (held_of x) t ≡ true → holds (held_of v) t ≡ false
+  apart-held : (a : ℕ) (x : View D L) (t : Turn) → a ≢ id → get_elem? s.views a ≡ some x → holds (turns_held x) t ≡ true → holds (turns_held v) t ≡ false
   apart-held a x t apart there held =
-      not-true (holds (held_of v) t) (λ mine. apart (rule.apart a id x v t there at held mine))
+      not-true (holds (turns_held v) t) (λ mine. apart (rule.apart a id x v t there at held mine))
 
   -- so it added nothing that needs it
-  quiet-held : (a : ℕ) (x : View D L) (t : Turn) → a ≢ id → get_elem? s.views a ≡ some x → holds (held_of x) t ≡ true → is_quiet t adds.added ≡ true
+  quiet-held : (a : ℕ) (x : View D L) (t : Turn) → a ≢ id → get_elem? s.views a ≡ some x → holds (turns_held x) t ≡ true → is_quiet t adds.added ≡ true
   quiet-held a x t apart there held = adds.held t (is-there t ((rule.views a x there).taken t held).known) (apart-held a x t apart there held)
 
   -- nor anything that needs a free turn
-  quiet-free : (t : Turn) → HasTurn begun t → slice_index s.words (word_of begun t) ≡ 0 → is_quiet t adds.added ≡ true
+  quiet-free : (t : Turn) → HasTurn begun t → slice_index s.words (turn_word begun t) ≡ 0 → is_quiet t adds.added ≡ true
   quiet-free t known free =
-      adds.held t (is-there t known) (not-true (holds (held_of v) t) (λ mine. let taken = ((rule.views id v at).taken t mine).word in absurd (omega (arith, free, taken))))
+      adds.held t (is-there t known) (not-true (holds (turns_held v) t) (λ mine. ((rule.views id v at).taken t mine).word free))
 
   -- to a pass of another number all that it added is others'
   others-of : (number : ℕ) → number ≢ v.number → Others number adds.added
@@ -143,17 +143,17 @@ module _ {D L Q : Type 0} (tells : Tells D L Q) (begun : Begun D L) (s : State (
       omega (arith, sum, was)
 
   -- the word of another turn stays
-  word-other : (t : Turn) → HasTurn begun t → is_journal t ≡ false → slice_index words (word_of begun t) ≡ slice_index s.words (word_of begun t)
+  word-other : (t : Turn) → HasTurn begun t → is_journal t ≡ false → slice_index words (turn_word begun t) ≡ slice_index s.words (turn_word begun t)
   word-other t known other = word-else begun s.words Journal t 0 (slot-else begun t known other)
 
   -- the journal's is 0
-  word-journal : slice_index words (word_of begun Journal) ≡ 0
+  word-journal : slice_index words (turn_word begun Journal) ≡ 0
   word-journal = word-here begun s.words Journal 0 rule.sized.0 tt
 
   -- ---- what is at home
 
   -- the journal comes home, with all that is reserved
-  journal-home : run_of v ≡ begun → JournalStands tells.posted (without_journal j (standing_of tells v turns)) j → IsAtHome tells begun j.entries (under_way views) homes Journal
+  journal-home : run_of v ≡ begun → JournalStands tells.posted (without_journal j (view_standing tells v turns)) j → IsAtHome tells begun j.entries (under_way views) homes Journal
   journal-home run stands = record {
     place = place.Journal j;
     there = let within = slot-within begun Journal tt in set_here s.homes (slot_of begun Journal) (some (Some (place.Journal j))) (omega (arith, within, rule.sized.1));
@@ -168,7 +168,7 @@ module _ {D L Q : Type 0} (tells : Tells D L Q) (begun : Begun D L) (s : State (
   }
 
   -- what another free turn is of stays at home
-  other-home : (t : Turn) → is_journal t ≡ false → HasTurn begun t → slice_index words (word_of begun t) ≡ 0 → IsAtHome tells begun j.entries (under_way views) homes t
+  other-home : (t : Turn) → is_journal t ≡ false → HasTurn begun t → slice_index words (turn_word begun t) ≡ 0 → IsAtHome tells begun j.entries (under_way views) homes t
   other-home t other known free =
       let was = sym (word-other t known other) ∙ free in
       let home = rule.home t known was in
@@ -179,7 +179,7 @@ module _ {D L Q : Type 0} (tells : Tells D L Q) (begun : Begun D L) (s : State (
             (fits_grows tells begun adds.added rule.past (under_way s.views) t home.place (quiet-free t known was) home.fits));
       }
 
-  home-after : run_of v ≡ begun → JournalStands tells.posted (without_journal j (standing_of tells v turns)) j → (t : Turn) → HasTurn begun t → slice_index words (word_of begun t) ≡ 0 → IsAtHome tells begun j.entries (under_way views) homes t
+  home-after : run_of v ≡ begun → JournalStands tells.posted (without_journal j (view_standing tells v turns)) j → (t : Turn) → HasTurn begun t → slice_index words (turn_word begun t) ≡ 0 → IsAtHome tells begun j.entries (under_way views) homes t
   home-after run stands (Device stream) known free = other-home (Device stream) refl known free
   home-after run stands (Book stream) known free = other-home (Book stream) refl known free
   home-after run stands (Log handle) known free = other-home (Log handle) refl known free
@@ -188,18 +188,18 @@ module _ {D L Q : Type 0} (tells : Tells D L Q) (begun : Begun D L) (s : State (
   -- ---- what is out
 
   -- the pass holds its other turns on
-  kept-other : (t : Turn) → is_journal t ≡ false → holds (held_of v) t ≡ true → holds (held_of after) t ≡ true
+  kept-other : (t : Turn) → is_journal t ≡ false → holds (turns_held v) t ≡ true → holds (turns_held after) t ≡ true
   kept-other (Device stream) other held = held
   kept-other (Book stream) other held = held
   kept-other (Log handle) other held = held
   kept-other Journal other held = absurd (cc)
 
   -- another turn that is out is held on
-  other-out : (t : Turn) → is_journal t ≡ false → HasTurn begun t → slice_index words (word_of begun t) ≢ 0 → IsHeld views t
+  other-out : (t : Turn) → is_journal t ≡ false → HasTurn begun t → slice_index words (turn_word begun t) ≢ 0 → IsHeld views t
   other-out t other known out =
       held-kept s.views id v after t at (kept-other t other) (rule.out t known (λ free. out (word-other t known other ∙ free)))
 
-  out-after : (t : Turn) → HasTurn begun t → slice_index words (word_of begun t) ≢ 0 → IsHeld views t
+  out-after : (t : Turn) → HasTurn begun t → slice_index words (turn_word begun t) ≢ 0 → IsHeld views t
   out-after (Device stream) known out = other-out (Device stream) refl known out
   out-after (Book stream) known out = other-out (Book stream) refl known out
   out-after (Log handle) known out = other-out (Log handle) refl known out
@@ -209,17 +209,17 @@ module _ {D L Q : Type 0} (tells : Tells D L Q) (begun : Begun D L) (s : State (
 
   -- another turn is taken on
   other-taken : (t : Turn) → is_journal t ≡ false → IsTaken begun s.words t → IsTaken begun words t
-  other-taken t other taken = record { known = taken.known; word = word-other t taken.known other ∙ taken.word }
+  other-taken t other taken = record { known = taken.known; word = λ free. taken.word (sym (word-other t taken.known other) ∙ free) }
 
   -- a turn that the pass holds on was held, and is not the journal
-  held-before : (t : Turn) → holds (held_of after) t ≡ true → (holds (held_of v) t ≡ true) × (is_journal t ≡ false)
+  held-before : (t : Turn) → holds (turns_held after) t ≡ true → (holds (turns_held v) t ≡ true) × (is_journal t ≡ false)
   held-before (Device stream) held = (held, refl)
   held-before (Book stream) held = (held, refl)
   held-before (Log handle) held = (held, refl)
   held-before Journal held = absurd (cc)
 
   -- nobody else holds the journal
-  no-journal : (a : ℕ) (x : View D L) (t : Turn) → a ≢ id → get_elem? s.views a ≡ some x → holds (held_of x) t ≡ true → is_journal t ≡ false
+  no-journal : (a : ℕ) (x : View D L) (t : Turn) → a ≢ id → get_elem? s.views a ≡ some x → holds (turns_held x) t ≡ true → is_journal t ≡ false
   no-journal a x (Device stream) apart there held = refl
   no-journal a x (Book stream) apart there held = refl
   no-journal a x (Log handle) apart there held = refl
@@ -242,7 +242,7 @@ module _ {D L Q : Type 0} (tells : Tells D L Q) (begun : Begun D L) (s : State (
       let is = rule.views a x there in
       record {
         of_run = is.of_run;
-        grows = λ lives. rw now-is (grows_more (standing_of tells x 0) adds.added rule.past (is.grows lives)
+        grows = λ lives. rw now-is (grows_more (view_standing tells x 0) adds.added rule.past (is.grows lives)
             (others-of x.number (λ same. apart (rule.numbers.apart a id x v there at lives live same)))
             (λ t held. quiet-held a x t apart there held));
         spent = is.spent;
@@ -259,7 +259,7 @@ module _ {D L Q : Type 0} (tells : Tells D L Q) (begun : Begun D L) (s : State (
 
   -- ---- no turn is held twice
 
-  apart-after : (a b : ℕ) (x y : View D L) (t : Turn) → get_elem? views a ≡ some x → get_elem? views b ≡ some y → holds (held_of x) t ≡ true → holds (held_of y) t ≡ true → a ≡ b
+  apart-after : (a b : ℕ) (x y : View D L) (t : Turn) → get_elem? views a ≡ some x → get_elem? views b ≡ some y → holds (turns_held x) t ≡ true → holds (turns_held y) t ≡ true → a ≡ b
   apart-after = apart-set s.views id after
       (λ b x t other there mine held. other (rule.apart b id x v t there at held (held-before t mine).0))
       rule.apart
@@ -275,7 +275,7 @@ module _ {D L Q : Type 0} (tells : Tells D L Q) (begun : Begun D L) (s : State (
 
   -- ---- the numbers of passes
 
-  numbers-after : (first : View D L) × AreNumbered j.entries words views first
+  numbers-after : (first : View D L) × PassesAreNumbered j.entries words views first
   numbers-after = numbers-set rule.past j.entries s.words words s.views id v after rule.first at
       (record { live = refl; number = refl; made = refl; drawn = refl; ended = refl; passes = refl; before = refl; in_flight = λ first. absurd (other first) })
       (word-first begun s.words Journal 0)
@@ -291,13 +291,13 @@ module _ {D L Q : Type 0} (tells : Tells D L Q) (begun : Begun D L) (s : State (
 
   -- ---- the rule
 
-  kept : run_of v ≡ begun → JournalStands tells.posted (without_journal j (standing_of tells v turns)) j → IsBoard tells begun (record { words = words; homes = homes; views = views })
+  kept : run_of v ≡ begun → JournalStands tells.posted (without_journal j (view_standing tells v turns)) j → IsBoard tells begun (record { words = words; homes = homes; views = views })
   kept run stands = let numbers = numbers-after in record {
     past = j.entries;
     good = subst (λ (b : Begun D L). IsGood (setup_in tells b) j.entries) run stands.good;
     within = journal_within j begun.capacity adds.added rule.past now-is adds.event (stands.capacity_is ∙ ap (λ (b : Begun D L). b.capacity) run) (let is = stands.reserved_is in omega (arith, is)) room rule.within;
     few = rule.few;
-    sized = (length-set s.words (word_of begun Journal) 0 ∙ rule.sized.0, length-set s.homes (slot_of begun Journal) (some (Some (place.Journal j))) ∙ rule.sized.1);
+    sized = (length-set s.words (turn_word begun Journal) 0 ∙ rule.sized.0, length-set s.homes (slot_of begun Journal) (some (Some (place.Journal j))) ∙ rule.sized.1);
     home = home-after run stands;
     out = out-after;
     views = views-after run;
@@ -309,12 +309,12 @@ module _ {D L Q : Type 0} (tells : Tells D L Q) (begun : Begun D L) (s : State (
 
 -- A pass may give the journal back with what it added.
 pub gives_journal : {D L Q : Type 0} (tells : Tells D L Q) (begun : Begun D L) (id : ℕ) (v : View D L) (carried : List (ℕ × Option (Place D L Q))) (turns : ℕ) (j : JournalState Q) (slot : ℕ) → slot ≡ slot_of begun Journal → v.live ≡ true → run_of v ≡ begun → v.journal ≡ true → v.number ≢ 0 → j.reserved - (reserved_in j.entries + v.others) ≤ 1 → length j.entries + j.reserved ≤ j.capacity →
-    Adds (standing_of tells v turns) j.entries → JournalStands tells.posted (without_journal j (standing_of tells v turns)) j →
+    AddsEvent (view_standing tells v turns) j.entries → JournalStands tells.posted (without_journal j (view_standing tells v turns)) j →
     Allows (IsBoard tells begun) (slots_of begun) id (v, (slot, Some (place.Journal j)) ∷ carried) (suc slot) (λ _. 0)
-    (λ _. GivesTurn journal_at (step (slots_of begun) (suc slot) 0 0 none) (v, (slot, Some (place.Journal j)) ∷ carried) 0)
+    (GivesTurn journal_at (step (slots_of begun) (suc slot) 0 0 none) (v, (slot, Some (place.Journal j)) ∷ carried))
 gives_journal {D} {L} {Q} tells begun id v carried turns j slot is live run journal other few room adds stands =
     subst (λ (n : ℕ). Allows (IsBoard tells begun) (slots_of begun) id (v, (n, Some (place.Journal j)) ∷ carried) (suc n) (λ _. 0)
-    (λ _. GivesTurn journal_at (step (slots_of begun) (suc n) 0 0 none) (v, (n, Some (place.Journal j)) ∷ carried) 0)) (sym is)
+    (GivesTurn journal_at (step (slots_of begun) (suc n) 0 0 none) (v, (n, Some (place.Journal j)) ∷ carried))) (sym is)
     (λ s rule sized at small. (
       without_turn Journal (place.Journal j) v,
       gives,
@@ -325,9 +325,9 @@ gives_journal {D} {L} {Q} tells begun id v carried turns j slot is live run jour
 
 -- the same, of a pass whose standing names its board
 pub gives_journal_at : {D L Q : Type 0} (tells : Tells D L Q) (begun : Begun D L) (at : TableId) (id : ℕ) (v : View D L) (carried : List (ℕ × Option (Place D L Q))) (turns : ℕ) (j : JournalState Q) (slot : ℕ) → slot ≡ slot_of begun Journal → v.live ≡ true → run_of v ≡ begun → v.journal ≡ true → v.number ≢ 0 → j.reserved - (reserved_in j.entries + v.others) ≤ 1 → length j.entries + j.reserved ≤ j.capacity →
-    Adds (standing_at tells at v turns) j.entries → JournalStands tells.posted (without_journal j (standing_at tells at v turns)) j →
+    AddsEvent (standing_at tells at v turns) j.entries → JournalStands tells.posted (without_journal j (standing_at tells at v turns)) j →
     Allows (IsBoard tells begun) (slots_of begun) id (v, (slot, Some (place.Journal j)) ∷ carried) (suc slot) (λ _. 0)
-    (λ _. GivesTurn journal_at (step (slots_of begun) (suc slot) 0 0 none) (v, (slot, Some (place.Journal j)) ∷ carried) 0)
+    (GivesTurn journal_at (step (slots_of begun) (suc slot) 0 0 none) (v, (slot, Some (place.Journal j)) ∷ carried))
 gives_journal_at tells begun at id v carried turns j slot is live run journal other few room adds stands =
     gives_journal tells begun id v carried turns j slot is live run journal other few room
     (record { added = adds.added; grew = adds.grew; event = adds.event; held = adds.held; own = adds.own })

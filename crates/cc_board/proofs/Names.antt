@@ -2,10 +2,10 @@
 use Rattle.std.specs.Prelude.{◌≡◌, drop}
 use Rattle.std.proofs.Common.{get_or}
 use Rattle.atomic_table.specs.Seated.{TableId}
-use Rattle.cc_board.specs.View.{name_of}
+use Rattle.cc_board.specs.View.{board_name}
 
 -- two boards of one name are one
-pub same_board : (a b : TableId) → name_of a ≡ name_of b → a ≡ b
+pub same_board : (a b : TableId) → board_name a ≡ board_name b → a ≡ b
 same_board a b e = λ i. record {
   words = get_or (e i) 0 0;
   slots = get_or (e i) 1 0;

@@ -16,8 +16,8 @@ use Rattle.cc_turns.specs.Slots.{HasTurn, slot_of, slots_of, AreInSlots, Fits, u
 use Rattle.cc_board.specs.declared.rule.View.{View}
 use Rattle.cc_board.specs.declared.rule.Key.{Key}
 use Rattle.cc_board.specs.View.{run_in, first_view}
-use Rattle.cc_board.specs.Plays.{Slot}
-use Rattle.cc_board.specs.Rule.{IsBoard, IsView, IsAtHome, AreNumbered, under_way}
+use Rattle.cc_board.specs.Plays.{TurnSlot}
+use Rattle.cc_board.specs.Rule.{IsBoard, IsView, IsAtHome, PassesAreNumbered, under_way}
 use Rattle.cc_board.proofs.Resting.{none_held}
 use Rattle.cc_board.proofs.Passes.{contains_none}
 
@@ -38,7 +38,7 @@ one_there : {A : Type 0} (x a : A) (i : ℕ) → get_elem? (x ∷ []) i ≡ some
 one_there x a zero e = (refl, some-injective x a e)
 one_there x a (suc i) e = absurd (some-ne-none a (sym e))
 
-module _ {D L Q : Type 0} (tells : Tells D L Q) (key : Key D L Q) (turns : ℕ) (slots : List (Slot D L Q)) where
+module _ {D L Q : Type 0} (tells : Tells D L Q) (key : Key D L Q) (turns : ℕ) (slots : List (TurnSlot D L Q)) where
   abbrev begun : Begun D L
   begun = run_in key
 
@@ -51,7 +51,7 @@ module _ {D L Q : Type 0} (tells : Tells D L Q) (key : Key D L Q) (turns : ℕ) 
   abbrev past : List Entry
   past = key.journal.value.entries
 
-  first_numbers : AreNumbered past words (first ∷ []) first
+  first_numbers : PassesAreNumbered past words (first ∷ []) first
   first_numbers = record {
     there = refl;
     is_live = refl;
@@ -105,7 +105,7 @@ module _ {D L Q : Type 0} (tells : Tells D L Q) (key : Key D L Q) (turns : ℕ) 
     }
 
 -- the rule of a board that was just made of a desk
-pub opens : {D L Q : Type 0} (tells : Tells D L Q) (key : Key D L Q) (words : List ℕ) (slots : List (Slot D L Q)) (turns : ℕ) (desk : DeskState D L Q)
+pub opens : {D L Q : Type 0} (tells : Tells D L Q) (key : Key D L Q) (words : List ℕ) (slots : List (TurnSlot D L Q)) (turns : ℕ) (desk : DeskState D L Q)
     → AreInSlots tells desk.begun desk.last.entries (under_way_in desk) slots → run_in key ≡ desk.begun → key.journal.value ≡ desk.last
     → words ≡ 1 ∷ replicate turns 0 → turns ≡ slots_of desk.begun → IsBoard tells (run_in key) (opening words slots (first_view key))
 opens {D = D} {L = L} {Q = Q} tells key words slots turns desk are run journal words_are counted = rw words_are (opened tells key turns slots
@@ -113,6 +113,6 @@ opens {D = D} {L = L} {Q = Q} tells key words slots turns desk are run journal w
     (counted ∙ ap (λ (b : Begun D L). slots_of b) (sym run)))
 
 -- what was taken apart is there still, where the board was not made
-pub refused : {D L Q : Type 0} (tells : Tells D L Q) (begun emptied : Begun D L) (past : List Entry) (reserved : ℕ) (slots room : List (Slot D L Q)) → AreInSlots tells begun past reserved slots
+pub refused : {D L Q : Type 0} (tells : Tells D L Q) (begun emptied : Begun D L) (past : List Entry) (reserved : ℕ) (slots room : List (TurnSlot D L Q)) → AreInSlots tells begun past reserved slots
     → emptied ≡ begun → room ≡ slots → AreInSlots tells emptied past reserved room
 refused tells begun emptied past reserved slots room are same_run same_slots = rw (same_run, same_slots) are

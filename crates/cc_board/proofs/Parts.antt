@@ -14,8 +14,8 @@ use Rattle.cc_turns.specs.Desk.{Begun, Tells}
 use Rattle.cc_turns.specs.Slots.{slot_of, slots_of, HasTurn, Fits}
 use Rattle.cc_turns.specs.declared.slots.Place.{Place}
 use Rattle.cc_board.specs.declared.rule.View.{View}
-use Rattle.cc_board.specs.View.{held_of}
-use Rattle.cc_board.specs.Rule.{under_way, living, word_of, given_numbers, IsAtHome, IsTaken, IsHeld, IsView, AreNumbered}
+use Rattle.cc_board.specs.View.{turns_held}
+use Rattle.cc_board.specs.Rule.{under_way, living, turn_word, given_numbers, IsAtHome, IsTaken, IsHeld, IsView, PassesAreNumbered}
 use Rattle.cc_board.proofs.Views.{total-at, total-set}
 use Rattle.cc_board.proofs.Standing.{slot-within}
 
@@ -28,19 +28,19 @@ set-there (x ∷ xs) (suc i) a b e = set-there xs i a b e
 -- ---- the word of a turn
 
 -- the word of a turn that was taken, or given
-pub word-here : {D L : Type 0} (begun : Begun D L) (words : List ℕ) (t : Turn) (n : ℕ) → length words ≡ suc (slots_of begun) → HasTurn begun t → slice_index (slice_set words (word_of begun t) n) (word_of begun t) ≡ n
+pub word-here : {D L : Type 0} (begun : Begun D L) (words : List ℕ) (t : Turn) (n : ℕ) → length words ≡ suc (slots_of begun) → HasTurn begun t → slice_index (slice_set words (turn_word begun t) n) (turn_word begun t) ≡ n
 word-here begun words t n sized known =
     let within = slot-within begun t known in
-    get_or-set_same words (word_of begun t) n 0 (omega arith)
+    get_or-set_same words (turn_word begun t) n 0 (omega arith)
 
 -- the word of another stays
-pub word-else : {D L : Type 0} (begun : Begun D L) (words : List ℕ) (t u : Turn) (n : ℕ) → slot_of begun u ≢ slot_of begun t → slice_index (slice_set words (word_of begun t) n) (word_of begun u) ≡ slice_index words (word_of begun u)
+pub word-else : {D L : Type 0} (begun : Begun D L) (words : List ℕ) (t u : Turn) (n : ℕ) → slot_of begun u ≢ slot_of begun t → slice_index (slice_set words (turn_word begun t) n) (turn_word begun u) ≡ slice_index words (turn_word begun u)
 word-else begun words t u n apart =
-    get_or-set_other words (word_of begun t) (word_of begun u) n 0 (λ same. apart (omega arith))
+    get_or-set_other words (turn_word begun t) (turn_word begun u) n 0 (λ same. apart (omega arith))
 
 -- so does the count of the passes
-pub word-first : {D L : Type 0} (begun : Begun D L) (words : List ℕ) (t : Turn) (n : ℕ) → slice_index (slice_set words (word_of begun t) n) 0 ≡ slice_index words 0
-word-first begun words t n = get_or-set_other words (word_of begun t) 0 n 0 (λ same. omega arith)
+pub word-first : {D L : Type 0} (begun : Begun D L) (words : List ℕ) (t : Turn) (n : ℕ) → slice_index (slice_set words (turn_word begun t) n) 0 ≡ slice_index words 0
+word-first begun words t n = get_or-set_other words (turn_word begun t) 0 n 0 (λ same. omega arith)
 
 -- ---- what is at home
 
@@ -55,13 +55,13 @@ home-else tells begun past n m homes t u x apart same home = record {
 -- ---- what is out
 
 -- a turn that a pass holds, it holds on
-pub held-kept : {D L : Type 0} (views : List (View D L)) (id : ℕ) (v w : View D L) (u : Turn) → get_elem? views id ≡ some v → (holds (held_of v) u ≡ true → holds (held_of w) u ≡ true) → IsHeld views u → IsHeld (slice_set views id w) u
+pub held-kept : {D L : Type 0} (views : List (View D L)) (id : ℕ) (v w : View D L) (u : Turn) → get_elem? views id ≡ some v → (holds (turns_held v) u ≡ true → holds (turns_held w) u ≡ true) → IsHeld views u → IsHeld (slice_set views id w) u
 held-kept views id v w u at kept held = dite (ℕ_discrete held.id id)
     (λ same. let is : held.view ≡ v = some-injective held.view v (sym held.there ∙ ap (λ i. get_elem? views i) same ∙ at) in record {
       id = id;
       view = w;
       there = set-there views id v w at;
-      held = kept (subst (λ x. holds (held_of x) u ≡ true) is held.held);
+      held = kept (subst (λ x. holds (turns_held x) u ≡ true) is held.held);
     })
     (λ apart. record {
       id = held.id;
@@ -73,7 +73,7 @@ held-kept views id v w u at kept held = dite (ℕ_discrete held.id id)
 -- ---- each view
 
 -- where the words of what a pass holds stay, so does what is true of its view
-pub view-else : {D L Q : Type 0} (tells : Tells D L Q) (begun : Begun D L) (past : List Entry) (words changed : List ℕ) (v : View D L) → ((u : Turn) → holds (held_of v) u ≡ true → IsTaken begun words u → IsTaken begun changed u) → IsView tells begun past words v → IsView tells begun past changed v
+pub view-else : {D L Q : Type 0} (tells : Tells D L Q) (begun : Begun D L) (past : List Entry) (words changed : List ℕ) (v : View D L) → ((u : Turn) → holds (turns_held v) u ≡ true → IsTaken begun words u → IsTaken begun changed u) → IsView tells begun past words v → IsView tells begun past changed v
 view-else tells begun past words changed v kept is = record {
   of_run = is.of_run;
   grows = is.grows;
@@ -87,15 +87,15 @@ view-else tells begun past words changed v kept is = record {
 
 abbrev pub AreApart : {D L : Type 0} → List (View D L) → Type 0
 AreApart {D} {L} views = (a b : ℕ) (u v : View D L) (turn : Turn) → get_elem? views a ≡ some u → get_elem? views b ≡ some v →
-    holds (held_of u) turn ≡ true → holds (held_of v) turn ≡ true → a ≡ b
+    holds (turns_held u) turn ≡ true → holds (turns_held v) turn ≡ true → a ≡ b
 
 -- nor after a view has changed, where no other pass holds a turn of it
-pub apart-set : {D L : Type 0} (views : List (View D L)) (id : ℕ) (w : View D L) → ((b : ℕ) (x : View D L) (turn : Turn) → b ≢ id → get_elem? views b ≡ some x → holds (held_of w) turn ≡ true → holds (held_of x) turn ≡ true → ⊥) → AreApart views → AreApart (slice_set views id w)
+pub apart-set : {D L : Type 0} (views : List (View D L)) (id : ℕ) (w : View D L) → ((b : ℕ) (x : View D L) (turn : Turn) → b ≢ id → get_elem? views b ≡ some x → holds (turns_held w) turn ≡ true → holds (turns_held x) turn ≡ true → ⊥) → AreApart views → AreApart (slice_set views id w)
 apart-set {D} {L} views id w alone apart a b u v turn at_a at_b held_a held_b = ⊎_elim
     (λ here_a. ⊎_elim (λ here_b. here_a.0 ∙ sym here_b.0)
-    (λ else_b. absurd (alone b v turn else_b.0 else_b.1 (subst (λ x. holds (held_of x) turn ≡ true) (sym here_a.1) held_a) held_b))
+    (λ else_b. absurd (alone b v turn else_b.0 else_b.1 (subst (λ x. holds (turns_held x) turn ≡ true) (sym here_a.1) held_a) held_b))
     (at_set views id b w v at_b))
-    (λ else_a. ⊎_elim (λ here_b. absurd (alone a u turn else_a.0 else_a.1 (subst (λ x. holds (held_of x) turn ≡ true) (sym here_b.1) held_b) held_a))
+    (λ else_a. ⊎_elim (λ here_b. absurd (alone a u turn else_a.0 else_a.1 (subst (λ x. holds (turns_held x) turn ≡ true) (sym here_b.1) held_b) held_a))
     (λ else_b. apart a b u v turn else_a.1 else_b.1 held_a held_b)
     (at_set views id b w v at_b))
     (at_set views id a w u at_a)
@@ -134,7 +134,7 @@ pub record SameNumber {D L : Type 0} (v w : View D L) : Type 0 where
   pub before : w.before ≡ v.before
   pub in_flight : v.number ≡ 0 → w.in_flight ≡ v.in_flight
 
-same-itself : {D L : Type 0} (v : View D L) → SameNumber v v
+pub same-itself : {D L : Type 0} (v : View D L) → SameNumber v v
 same-itself v = record { live = refl; number = refl; made = refl; drawn = refl; ended = refl; passes = refl; before = refl; in_flight = λ first. refl }
 
 -- it gave away as many numbers
@@ -182,7 +182,7 @@ living-same {D} {L} views id v w at same =
 pub numbers-set : {D L : Type 0} (past later : List Entry) (words changed : List ℕ) (views : List (View D L)) (id : ℕ) (v w first : View D L) → get_elem? views id ≡ some v → SameNumber v w → slice_index changed 0 ≡ slice_index words 0 →
     ((number : ℕ) (seen : List Entry) → Contains first.ended (number, seen) → IsIdle number seen later) →
     ((u : View D L) → get_elem? (slice_set views id w) 0 ≡ some u → (number : ℕ) → given_numbers first ≤ number → IsIdle number u.seen later) →
-    AreNumbered past words views first → (now : View D L) × AreNumbered later changed (slice_set views id w) now
+    PassesAreNumbered past words views first → (now : View D L) × PassesAreNumbered later changed (slice_set views id w) now
 numbers-set {D} {L} past later words changed views id v w first at same word ended idle are =
     let head = first-set views id v w first at are.there same in
     let given = given-same first head.now head.same in
@@ -221,7 +221,7 @@ numbers-set {D} {L} past later words changed views id v w first at same word end
     )
 
 -- The same where the past stays, and the view sees no less.
-pub numbers-kept : {D L : Type 0} (past : List Entry) (words changed : List ℕ) (views : List (View D L)) (id : ℕ) (v w first : View D L) → get_elem? views id ≡ some v → SameNumber v w → slice_index changed 0 ≡ slice_index words 0 → ((number : ℕ) → IsIdle number v.seen past → IsIdle number w.seen past) → AreNumbered past words views first → (now : View D L) × AreNumbered past changed (slice_set views id w) now
+pub numbers-kept : {D L : Type 0} (past : List Entry) (words changed : List ℕ) (views : List (View D L)) (id : ℕ) (v w first : View D L) → get_elem? views id ≡ some v → SameNumber v w → slice_index changed 0 ≡ slice_index words 0 → ((number : ℕ) → IsIdle number v.seen past → IsIdle number w.seen past) → PassesAreNumbered past words views first → (now : View D L) × PassesAreNumbered past changed (slice_set views id w) now
 numbers-kept {D} {L} past words changed views id v w first at same word sees are = numbers-set past past words changed views id v w first at same word are.ended
     (λ u there number free. ⊎_elim
     (λ here. let is : v ≡ first = some-injective v first (sym at ∙ ap (λ i. get_elem? views i) (sym here.0) ∙ are.there) in

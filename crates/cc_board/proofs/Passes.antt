@@ -13,10 +13,10 @@ use Rattle.cc_effects.specs.Moments.{IsIdle}
 use Rattle.cc_turns.specs.Standing.{nothing}
 use Rattle.cc_turns.specs.Desk.{Begun, Tells}
 use Rattle.cc_board.specs.declared.rule.View.{View}
-use Rattle.cc_board.specs.View.{held_of, with_number, split_left, split_right, joined, spent}
-use Rattle.cc_board.specs.Plays.{Slot, CountsPasses, LearnsRun, DrawsNumber}
-use Rattle.cc_board.specs.Board.{IsAtRest}
-use Rattle.cc_board.specs.Rule.{IsBoard, IsView, AreNumbered, living, given_numbers}
+use Rattle.cc_board.specs.View.{turns_held, with_number, split_left, split_right, joined_view, spent}
+use Rattle.cc_board.specs.Plays.{TurnSlot, CountsPasses, LearnsRun, DrawsNumber}
+use Rattle.cc_board.specs.Board.{PassIsAtRest}
+use Rattle.cc_board.specs.Rule.{IsBoard, IsView, PassesAreNumbered, living, given_numbers}
 use Rattle.cc_board.proofs.Views.{total-at, total-set, total-snoc}
 use Rattle.cc_board.proofs.UnderWay.{counts, lives}
 use Rattle.cc_board.proofs.Resting.{SameTurns, same_words, first_word, view_still, board_still, none_held}
@@ -56,7 +56,7 @@ limits v = (v.passes, v.before)
 
 module _ {D L : Type 0} where
   -- the pass whose number is 0 is the first
-  pub first_is : (past : List Entry) (words : List ℕ) (views : List (View D L)) (first : View D L) → AreNumbered past words views first
+  pub first_is : (past : List Entry) (words : List ℕ) (views : List (View D L)) (first : View D L) → PassesAreNumbered past words views first
       → (id : ℕ) (v : View D L) → get_elem? views id ≡ some v → v.live ≡ true → v.number ≡ 0 → (id ≡ 0) × (first ≡ v)
   first_is past words views first n id v there live zero_is = let at : id ≡ 0 = n.apart id 0 v first there n.there live n.is_live (zero_is ∙ sym n.is_first) in
       (at, some-injective first v (sym n.there ∙ subst (λ (k : ℕ). get_elem? views k ≡ some v) at there))
@@ -68,23 +68,23 @@ module _ {D L : Type 0} where
         → (w : View D L) × (get_elem? views id ≡ some w) × (w.live ≡ true) × (u.number ≡ w.number) × (limits u ≡ limits w)
 
   -- the number of a pass that was not joined is not that of another
-  pub apart_still : (past : List Entry) (words : List ℕ) (views ws : List (View D L)) (first : View D L) → AreNumbered past words views first → SameNumbers views ws
+  pub apart_still : (past : List Entry) (words : List ℕ) (views ws : List (View D L)) (first : View D L) → PassesAreNumbered past words views first → SameNumbers views ws
       → (a b : ℕ) (u v : View D L) → get_elem? ws a ≡ some u → get_elem? ws b ≡ some v → u.live ≡ true → v.live ≡ true → u.number ≡ v.number → a ≡ b
   apart_still past words views ws first n same a b u v at bt lu lv e = let x = same.was a u at lu in let y = same.was b v bt lv in
       n.apart a b x.0 y.0 x.1 y.1 x.2 y.2 (sym x.3 ∙ e ∙ y.3)
 
   -- and is below those that were given away
-  pub below_still : (past : List Entry) (words : List ℕ) (views ws : List (View D L)) (first : View D L) → AreNumbered past words views first → SameNumbers views ws
+  pub below_still : (past : List Entry) (words : List ℕ) (views ws : List (View D L)) (first : View D L) → PassesAreNumbered past words views first → SameNumbers views ws
       → (id : ℕ) (v : View D L) → get_elem? ws id ≡ some v → v.live ≡ true → v.number < given_numbers first
   below_still past words views ws first n same id v at lv = let x = same.was id v at lv in let is = x.3 in let r = n.below id x.0 x.1 x.2 in rw is r
 
   -- and is that of no pass that was joined
-  pub ended_still : (past : List Entry) (words : List ℕ) (views ws : List (View D L)) (first : View D L) → AreNumbered past words views first → SameNumbers views ws
+  pub ended_still : (past : List Entry) (words : List ℕ) (views ws : List (View D L)) (first : View D L) → PassesAreNumbered past words views first → SameNumbers views ws
       → (number : ℕ) (seen : List Entry) (id : ℕ) (v : View D L) → Contains first.ended (number, seen) → get_elem? ws id ≡ some v → v.live ≡ true → v.number ≢ number
   ended_still past words views ws first n same number seen id v has at lv e = let x = same.was id v at lv in n.ended_apart number seen id x.0 has x.1 x.2 (sym x.3 ∙ e)
 
   -- and knows what all do of the whole board
-  alike_still : (past : List Entry) (words : List ℕ) (views ws : List (View D L)) (first : View D L) → AreNumbered past words views first → SameNumbers views ws
+  alike_still : (past : List Entry) (words : List ℕ) (views ws : List (View D L)) (first : View D L) → PassesAreNumbered past words views first → SameNumbers views ws
       → (id : ℕ) (v : View D L) → get_elem? ws id ≡ some v → v.live ≡ true → (v.passes ≡ first.passes) × (v.before ≡ first.before)
   alike_still past words views ws first n same id v at lv = let x = same.was id v at lv in let is = n.alike id x.0 x.1 x.2 in
       (ap (λ (l : ℕ × ℕ). l.0) x.4 ∙ is.0, ap (λ (l : ℕ × ℕ). l.1) x.4 ∙ is.1)
@@ -98,8 +98,8 @@ module _ {D L : Type 0} where
   }
 
   -- the first pass has drawn a number
-  pub numbers_drawn : (past : List Entry) (words : List ℕ) (views : List (View D L)) (v : View D L) (new : ℕ) → AreNumbered past words views v → v.drawn ≡ false → v.made ≤ v.passes
-      → 0 < length words → new ≡ v.made + 1 → AreNumbered past (set words 0 new) (set views 0 (with_number v)) (with_number v)
+  pub numbers_drawn : (past : List Entry) (words : List ℕ) (views : List (View D L)) (v : View D L) (new : ℕ) → PassesAreNumbered past words views v → v.drawn ≡ false → v.made ≤ v.passes
+      → 0 < length words → new ≡ v.made + 1 → PassesAreNumbered past (set words 0 new) (set views 0 (with_number v)) (with_number v)
   numbers_drawn past words views v new n none_drawn few long is =
       let same : SameNumbers views (set views 0 (with_number v)) = one_changed views 0 v (with_number v) n.there n.is_live refl refl in
       let given : given_numbers v ≡ v.made = given_at_rest v none_drawn in
@@ -121,7 +121,7 @@ module _ {D L : Type 0} where
         counted = let r = total-set (λ (x : View D L). if x.live then 1 else 0) views 0 v (with_number v) n.there in let c = n.counted in omega arith;
       }
 
-  module _ (past : List Entry) (words : List ℕ) (views : List (View D L)) (v : View D L) (n : AreNumbered past words views v) (drawn : v.drawn ≡ true) where
+  module _ (past : List Entry) (words : List ℕ) (views : List (View D L)) (v : View D L) (n : PassesAreNumbered past words views v) (drawn : v.drawn ≡ true) where
     abbrev lefts : List (View D L)
     lefts = set views 0 (split_left v)
 
@@ -166,7 +166,7 @@ module _ {D L : Type 0} where
         let one : counts v ≡ 1 = lives v n.is_live in let m = two_made in omega arith
 
     -- the pass of the number that was drawn is made
-    pub numbers_split : AreNumbered past words parts (split_left v)
+    pub numbers_split : PassesAreNumbered past words parts (split_left v)
     numbers_split = record {
       there = at_longer lefts (split_right v ∷ []) 0 (split_left v) (set_here views 0 (split_left v) (at_within views 0 v n.there));
       is_live = n.is_live;
@@ -184,10 +184,10 @@ module _ {D L : Type 0} where
       counted = split_counted;
     }
 
-  module _ (past : List Entry) (words : List ℕ) (views : List (View D L)) (v w : View D L) (other : ℕ) (n : AreNumbered past words views v) (idle : IsIdle w.number w.seen past)
+  module _ (past : List Entry) (words : List ℕ) (views : List (View D L)) (v w : View D L) (other : ℕ) (n : PassesAreNumbered past words views v) (idle : IsIdle w.number w.seen past)
       (one : w.in_flight ≤ 1) (elsewhere : other ≢ 0) (there : get_elem? views other ≡ some w) (is_live : w.live ≡ true) where
     abbrev both : List (View D L)
-    both = set views 0 (joined v w)
+    both = set views 0 (joined_view v w)
 
     abbrev after : List (View D L)
     after = set both other spent
@@ -197,7 +197,7 @@ module _ {D L : Type 0} where
     still_else id u at lu = ⊎_elim (λ (h : (id ≡ other) × (spent ≡ u)). let dead : false ≡ u.live = ap (λ (x : View D L). x.live) h.1 in absurd (cc)) (λ h. h) (at_set both other id spent u at)
 
     join_same : SameNumbers views after
-    join_same = record { was = λ id u at lu. (one_changed views 0 v (joined v w) n.there n.is_live refl refl).was id u (still_else id u at lu).1 lu }
+    join_same = record { was = λ id u at lu. (one_changed views 0 v (joined_view v w) n.there n.is_live refl refl).was id u (still_else id u at lu).1 lu }
 
     join_ended : (number : ℕ) (seen : List Entry) → Contains ((w.number, w.seen) ∷ v.ended) (number, seen) → IsIdle number seen past
     join_ended number seen has = ⊎_elim (λ (e : (w.number, w.seen) ≡ (number, seen)). subst (λ (x : ℕ × List Entry). IsIdle x.0 x.1 past) e idle) (λ h. n.ended number seen h) (contains_rest (w.number, w.seen) (number, seen) v.ended has)
@@ -213,13 +213,13 @@ module _ {D L : Type 0} where
         (λ h. ended_still past words views after v n join_same number seen id u h at lu is) (contains_rest (w.number, w.seen) (number, seen) v.ended has)
 
     join_counted : living after + suc (length v.ended) ≡ given_numbers v
-    join_counted = let a = total-set counts both other w spent (set_else views 0 other (joined v w) elsewhere ∙ there) in let b = total-set counts views 0 v (joined v w) n.there in let c = n.counted in
+    join_counted = let a = total-set counts both other w spent (set_else views 0 other (joined_view v w) elsewhere ∙ there) in let b = total-set counts views 0 v (joined_view v w) n.there in let c = n.counted in
         let one : counts w ≡ 1 = lives w is_live in omega arith
 
     -- the first pass has taken another back
-    pub numbers_joined : AreNumbered past words after (joined v w)
+    pub numbers_joined : PassesAreNumbered past words after (joined_view v w)
     numbers_joined = record {
-      there = set_else both other 0 spent (λ e. elsewhere (sym e)) ∙ set_here views 0 (joined v w) (at_within views 0 v n.there);
+      there = set_else both other 0 spent (λ e. elsewhere (sym e)) ∙ set_here views 0 (joined_view v w) (at_within views 0 v n.there);
       is_live = n.is_live;
       is_first = n.is_first;
       word = n.word;
@@ -236,21 +236,21 @@ module _ {D L : Type 0} where
     }
 
   -- The views of the first pass, which holds nothing, and of another that holds nothing have changed: no turn has.
-  rest_changed : (views : List (View D L)) (i : ℕ) (v w : View D L) → get_elem? views i ≡ some v → held_of v ≡ nothing → held_of w ≡ nothing
-      → (id : ℕ) (u : View D L) → get_elem? views id ≡ some u → (held_of u ≡ nothing) ⊎ (get_elem? (set views i w) id ≡ some u)
+  rest_changed : (views : List (View D L)) (i : ℕ) (v w : View D L) → get_elem? views i ≡ some v → turns_held v ≡ nothing → turns_held w ≡ nothing
+      → (id : ℕ) (u : View D L) → get_elem? views id ≡ some u → (turns_held u ≡ nothing) ⊎ (get_elem? (set views i w) id ≡ some u)
   rest_changed views i v w there none_v none_w id u at = dite (ℕ_discrete id i)
-      (λ (e : id ≡ i). inl (ap (λ (x : View D L). held_of x) (some-injective u v (sym at ∙ subst (λ (k : ℕ). get_elem? views k ≡ some v) (sym e) there)) ∙ none_v))
+      (λ (e : id ≡ i). inl (ap (λ (x : View D L). turns_held x) (some-injective u v (sym at ∙ subst (λ (k : ℕ). get_elem? views k ≡ some v) (sym e) there)) ∙ none_v))
       (λ (ne : id ≢ i). inr (set_else views i id w ne ∙ at))
 
-  rest_came : (views : List (View D L)) (i : ℕ) (w : View D L) → held_of w ≡ nothing
-      → (id : ℕ) (u : View D L) → get_elem? (set views i w) id ≡ some u → (held_of u ≡ nothing) ⊎ (get_elem? views id ≡ some u)
-  rest_came views i w none_w id u at = ⊎_elim (λ (h : (id ≡ i) × (w ≡ u)). inl (ap (λ (x : View D L). held_of x) (sym h.1) ∙ none_w)) (λ h. inr h.1) (at_set views i id w u at)
+  rest_came : (views : List (View D L)) (i : ℕ) (w : View D L) → turns_held w ≡ nothing
+      → (id : ℕ) (u : View D L) → get_elem? (set views i w) id ≡ some u → (turns_held u ≡ nothing) ⊎ (get_elem? views id ≡ some u)
+  rest_came views i w none_w id u at = ⊎_elim (λ (h : (id ≡ i) × (w ≡ u)). inl (ap (λ (x : View D L). turns_held x) (sym h.1) ∙ none_w)) (λ h. inr h.1) (at_set views i id w u at)
 
   abbrev reserves : View D L → ℕ
   reserves v = v.in_flight
 
   -- one view changed
-  pub same_one : (views : List (View D L)) (i : ℕ) (v w : View D L) → get_elem? views i ≡ some v → held_of v ≡ nothing → held_of w ≡ nothing → w.in_flight ≡ v.in_flight
+  pub same_one : (views : List (View D L)) (i : ℕ) (v w : View D L) → get_elem? views i ≡ some v → turns_held v ≡ nothing → turns_held w ≡ nothing → w.in_flight ≡ v.in_flight
       → SameTurns views (set views i w)
   same_one views i v w there none_v none_w same = record {
     reserved = let a = total-set reserves views i v w there in omega arith;
@@ -259,29 +259,29 @@ module _ {D L : Type 0} where
   }
 
   -- one view changed, and one was added
-  pub same_split : (views : List (View D L)) (i : ℕ) (v w new : View D L) → get_elem? views i ≡ some v → held_of v ≡ nothing → held_of w ≡ nothing → held_of new ≡ nothing
+  pub same_split : (views : List (View D L)) (i : ℕ) (v w new : View D L) → get_elem? views i ≡ some v → turns_held v ≡ nothing → turns_held w ≡ nothing → turns_held new ≡ nothing
       → w.in_flight ≡ v.in_flight → new.in_flight ≡ 0 → SameTurns views (set views i w ++ new ∷ [])
   same_split views i v w new there none_v none_w none_new same none_reserved = record {
     reserved = let a = total-set reserves views i v w there in let b = total-snoc reserves (set views i w) new in omega arith;
     came = λ id u at. ⊎_elim (λ (h : get_elem? (set views i w) id ≡ some u). rest_came views i w none_w id u h)
-        (λ (h : (id ≡ length (set views i w)) × (new ≡ u)). inl (ap (λ (x : View D L). held_of x) (sym h.1) ∙ none_new)) (at_end (set views i w) new u id at);
-    stayed = λ id u at. ⊎_elim (λ (h : held_of u ≡ nothing). inl h) (λ (h : get_elem? (set views i w) id ≡ some u). inr (at_longer (set views i w) (new ∷ []) id u h))
+        (λ (h : (id ≡ length (set views i w)) × (new ≡ u)). inl (ap (λ (x : View D L). turns_held x) (sym h.1) ∙ none_new)) (at_end (set views i w) new u id at);
+    stayed = λ id u at. ⊎_elim (λ (h : turns_held u ≡ nothing). inl h) (λ (h : get_elem? (set views i w) id ≡ some u). inr (at_longer (set views i w) (new ∷ []) id u h))
         (rest_changed views i v w there none_v none_w id u at);
   }
 
   -- two views changed
-  pub same_two : (views : List (View D L)) (i j : ℕ) (v w v' w' : View D L) → j ≢ i → get_elem? views i ≡ some v → get_elem? views j ≡ some w → held_of v ≡ nothing → held_of w ≡ nothing
-      → held_of v' ≡ nothing → held_of w' ≡ nothing → v'.in_flight + w'.in_flight ≡ v.in_flight + w.in_flight → SameTurns views (set (set views i v') j w')
+  pub same_two : (views : List (View D L)) (i j : ℕ) (v w v' w' : View D L) → j ≢ i → get_elem? views i ≡ some v → get_elem? views j ≡ some w → turns_held v ≡ nothing → turns_held w ≡ nothing
+      → turns_held v' ≡ nothing → turns_held w' ≡ nothing → v'.in_flight + w'.in_flight ≡ v.in_flight + w.in_flight → SameTurns views (set (set views i v') j w')
   same_two views i j v w v' w' ne at bt none_v none_w none_v' none_w' same = let bt' : get_elem? (set views i v') j ≡ some w = set_else views i j v' ne ∙ bt in record {
     reserved = let a = total-set reserves views i v v' at in let b = total-set reserves (set views i v') j w w' bt' in omega arith;
-    came = λ id u h. ⊎_elim (λ (k : held_of u ≡ nothing). inl k) (λ (k : get_elem? (set views i v') id ≡ some u). rest_came views i v' none_v' id u k) (rest_came (set views i v') j w' none_w' id u h);
-    stayed = λ id u h. ⊎_elim (λ (k : held_of u ≡ nothing). inl k) (λ (k : get_elem? (set views i v') id ≡ some u). rest_changed (set views i v') j w w' bt' none_w none_w' id u k)
+    came = λ id u h. ⊎_elim (λ (k : turns_held u ≡ nothing). inl k) (λ (k : get_elem? (set views i v') id ≡ some u). rest_came views i v' none_v' id u k) (rest_came (set views i v') j w' none_w' id u h);
+    stayed = λ id u h. ⊎_elim (λ (k : turns_held u ≡ nothing). inl k) (λ (k : get_elem? (set views i v') id ≡ some u). rest_changed (set views i v') j w w' bt' none_w none_w' id u k)
         (rest_changed views i v v' at none_v none_v' id u h);
   }
 
 module _ {D L Q : Type 0} (tells : Tells D L Q) (begun : Begun D L) where
   abbrev St : Type 0
-  St = State (Slot D L Q) (View D L)
+  St = State (TurnSlot D L Q) (View D L)
 
   abbrev V : Type 0
   V = View D L
@@ -293,12 +293,12 @@ module _ {D L Q : Type 0} (tells : Tells D L Q) (begun : Begun D L) where
 
   -- the rule's first pass is the one that the step is of
   pub numbers_of : (s : St) (r : IsBoard tells begun s) (id : ℕ) (v : V) → get_elem? s.views id ≡ some v → v.live ≡ true → v.number ≡ 0
-      → (id ≡ 0) × AreNumbered r.past s.words s.views v
+      → (id ≡ 0) × PassesAreNumbered r.past s.words s.views v
   numbers_of s r id v there is_live zero_is = let f = first_is r.past s.words s.views r.first r.numbers id v there is_live zero_is in
-      (f.0, subst (λ (x : V). AreNumbered r.past s.words s.views x) f.1 r.numbers)
+      (f.0, subst (λ (x : V). PassesAreNumbered r.past s.words s.views x) f.1 r.numbers)
 
   -- a pass that was not joined is of the board's run, by the rule
-  pub learns_run : (slots id : ℕ) (me : Me (Slot D L Q) V) (run : Begun D L) → begun ≡ run → me.0.live ≡ true
+  pub learns_run : (slots id : ℕ) (me : Me (TurnSlot D L Q) V) (run : Begun D L) → begun ≡ run → me.0.live ≡ true
       → Allows (IsBoard tells begun) slots id me 0 (λ n. n) (LearnsRun run (step slots 0 0 0 none) me)
   learns_run slots id me run is live s r counted there small = (
     me.0,
@@ -310,7 +310,7 @@ module _ {D L Q : Type 0} (tells : Tells D L Q) (begun : Begun D L) where
   )
 
   -- counting passes changes nothing
-  pub counts_passes : (slots id : ℕ) (me : Me (Slot D L Q) V) → IsAtRest me.0 → me.0.number ≡ 0
+  pub counts_passes : (slots id : ℕ) (me : Me (TurnSlot D L Q) V) → PassIsAtRest me.0 → me.0.number ≡ 0
       → Allows (IsBoard tells begun) slots id me 0 (λ n. n) (CountsPasses (step slots 0 0 0 none) me)
   counts_passes slots id me rest zero_is s r counted there small = let n = (numbers_of s r id me.0 there rest.is_live zero_is).1 in (
     me.0,
@@ -329,7 +329,7 @@ module _ {D L Q : Type 0} (tells : Tells D L Q) (begun : Begun D L) where
   )
 
   -- drawing a number keeps the rule
-  pub draws_number : (slots id new : ℕ) (me : Me (Slot D L Q) V) → IsAtRest me.0 → me.0.number ≡ 0 → me.0.made ≤ me.0.passes → new ≡ me.0.made + 1
+  pub draws_number : (slots id new : ℕ) (me : Me (TurnSlot D L Q) V) → PassIsAtRest me.0 → me.0.number ≡ 0 → me.0.made ≤ me.0.passes → new ≡ me.0.made + 1
       → Allows (IsBoard tells begun) slots id me 0 (λ _. new) (λ _. DrawsNumber (step slots 0 new 0 none) me new)
   draws_number slots id new me rest zero_is few is s r counted there small = let m = numbers_of s r id me.0 there rest.is_live zero_is in let v : V = me.0 in (
     with_number v,
@@ -360,7 +360,7 @@ module _ {D L Q : Type 0} (tells : Tells D L Q) (begun : Begun D L) where
   }
 
   -- splitting the pass whose number was drawn keeps the rule
-  pub splits : (id : ℕ) (v : V) → v.live ≡ true → held_of v ≡ nothing → v.drawn ≡ true → v.number ≡ 0
+  pub splits : (id : ℕ) (v : V) → v.live ≡ true → turns_held v ≡ nothing → v.drawn ≡ true → v.number ≡ 0
       → Splits (IsBoard tells begun) id v (split_left v) (split_right v)
   splits id v is_live no_turn drawn zero_is s r there = let m = numbers_of s r id v there is_live zero_is in let n = m.1 in let i = r.views 0 v n.there in let lefts : List V = set s.views 0 (split_left v) in
       subst (λ (k : ℕ). IsBoard tells begun record { words = s.words; homes = s.homes; views = set s.views k (split_left v) ++ split_right v ∷ [] }) (sym m.0)
@@ -374,18 +374,18 @@ module _ {D L Q : Type 0} (tells : Tells D L Q) (begun : Begun D L) where
       (split_left v) (numbers_split r.past s.words s.views v n drawn))
 
   -- joining a pass keeps the rule
-  pub joins : (id : ℕ) (v : V) (other : ℕ) (w : V) → IsAtRest v → v.number ≡ 0 → IsAtRest w
-      → Joins (IsBoard tells begun) id v other w (joined v w) spent
+  pub joins : (id : ℕ) (v : V) (other : ℕ) (w : V) → PassIsAtRest v → v.number ≡ 0 → PassIsAtRest w
+      → Joins (IsBoard tells begun) id v other w (joined_view v w) spent
   joins id v other w rest zero_is other_rest s r there elsewhere other_there = let m = numbers_of s r id v there rest.is_live zero_is in let n = m.1 in let i = r.views 0 v n.there in
       let apart : other ≢ 0 = λ e. elsewhere (e ∙ sym m.0) in
-      let at : get_elem? s.views other ≡ some w = sym (set_else s.views id other (joined v w) elsewhere) ∙ other_there in
+      let at : get_elem? s.views other ≡ some w = sym (set_else s.views id other (joined_view v w) elsewhere) ∙ other_there in
       let g = (r.views other w at).grows other_rest.is_live in let f = i.grows rest.is_live in
       let one = (r.views other w at).one (λ e. apart (numbers_of s r other w at other_rest.is_live e).0) in
-      subst (λ (k : ℕ). IsBoard tells begun record { words = s.words; homes = s.homes; views = set (set s.views k (joined v w)) other spent }) (sym m.0)
-      (board_still tells begun s r s.words (set (set s.views 0 (joined v w)) other spent) (same_words s.words)
-      (same_two s.views 0 other v w (joined v w) spent apart n.there at rest.held_is other_rest.held_is rest.held_is refl (omega arith))
-      (views_set r.past s.words (set s.views 0 (joined v w)) other spent
-      (views_set r.past s.words s.views 0 (joined v w) r.views record {
+      subst (λ (k : ℕ). IsBoard tells begun record { words = s.words; homes = s.homes; views = set (set s.views k (joined_view v w)) other spent }) (sym m.0)
+      (board_still tells begun s r s.words (set (set s.views 0 (joined_view v w)) other spent) (same_words s.words)
+      (same_two s.views 0 other v w (joined_view v w) spent apart n.there at rest.held_is other_rest.held_is rest.held_is refl (omega arith))
+      (views_set r.past s.words (set s.views 0 (joined_view v w)) other spent
+      (views_set r.past s.words s.views 0 (joined_view v w) r.views record {
         of_run = i.of_run;
         grows = λ h. record { later = f.later; grew = f.grew; quiet = f.quiet; others = f.others };
         spent = i.spent;
@@ -394,4 +394,4 @@ module _ {D L Q : Type 0} (tells : Tells D L Q) (begun : Begun D L) where
         taken = i.taken;
       })
       (spent_view r.past s.words))
-      (joined v w) (numbers_joined r.past s.words s.views v w other n record { during = g.later; grew = g.grew; others = g.others } one apart at other_rest.is_live))
+      (joined_view v w) (numbers_joined r.past s.words s.views v w other n record { during = g.later; grew = g.grew; others = g.others } one apart at other_rest.is_live))

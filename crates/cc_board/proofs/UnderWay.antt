@@ -6,7 +6,7 @@ use lib.ListN.{get_elem?}
 use Rattle.cc_entry.specs.declared.entry.Entry.{Entry}
 use Rattle.cc_turns.specs.Desk.{Begun, Tells}
 use Rattle.cc_board.specs.declared.rule.View.{View}
-use Rattle.cc_board.specs.Rule.{under_way, living, given_numbers, IsView, AreNumbered}
+use Rattle.cc_board.specs.Rule.{under_way, living, given_numbers, IsView, PassesAreNumbered}
 use Rattle.cc_board.proofs.Views.{total-within}
 
 -- a pass that was not joined counts once
@@ -22,7 +22,7 @@ given_most v true is = rw is (omega arith)
 given_most v false is = rw is (omega arith)
 
 module _ {D L Q : Type 0} (tells : Tells D L Q) (begun : Begun D L) (past : List Entry) (words : List ℕ) (views : List (View D L)) (first : View D L)
-    (n : AreNumbered past words views first) (are : (id : ℕ) (v : View D L) → get_elem? views id ≡ some v → IsView tells begun past words v) where
+    (n : PassesAreNumbered past words views first) (are : (id : ℕ) (v : View D L) → get_elem? views id ≡ some v → IsView tells begun past words v) where
   -- each other pass has one entry under way at most, and none once it was joined
   one_each : (id : ℕ) (v : View D L) → id ≢ 0 → get_elem? views id ≡ some v → (live : Bool) → v.live ≡ live → v.in_flight ≤ counts v
   one_each id v apart at true is =

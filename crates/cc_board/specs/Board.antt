@@ -6,12 +6,12 @@ use Rattle.atomic_table.specs.Seated.{TableId}
 use Rattle.cc_entry.specs.declared.entry.Entry.{Entry}
 use Rattle.cc_effects.specs.Moments.{IsIdle}
 use Rattle.cc_model.specs.Turns.{Turn, Device, Book, Log, Journal}
-use Rattle.cc_turns.specs.Standing.{Standing, Held, nothing}
+use Rattle.cc_turns.specs.Standing.{Standing, TurnsHeld, nothing}
 use Rattle.cc_turns.specs.Desk.{Begun, Tells, DeskState}
 use Rattle.cc_turns.specs.Slots.{slot_of, under_way_in}
 use Rattle.cc_turns.specs.declared.slots.Place.{Place}
 use Rattle.cc_board.specs.declared.rule.View.{View}
-use Rattle.cc_board.specs.View.{run_of, held_of, standing_at, split_left, split_right, with_number, joined}
+use Rattle.cc_board.specs.View.{run_of, turns_held, standing_at, split_left, split_right, with_number, joined_view}
 
 -- which board it is, and the run that it is of
 pub record BoardState (D L : Type 0) : Type 0 where
@@ -25,12 +25,12 @@ pub record PassState (D L : Type 0) : Type 0 where
   pub device_turns : ℕ
 
 -- a pass is of a board
-abbrev pub IsOf : {D L : Type 0} → BoardState D L → PassState D L → Type 0
-IsOf board pass = pass.board ≡ board.id
+abbrev pub IsOfBoard : {D L : Type 0} → BoardState D L → PassState D L → Type 0
+IsOfBoard board pass = pass.board ≡ board.id
 
 -- What is true of each pass but the first: it has one entry under way at most, and the others had, as it last looked,
 -- no more than was under way at first, and one for each pass.
-pub record IsWithin {D L : Type 0} (v : View D L) : Type 0 where
+pub record PassIsWithin {D L : Type 0} (v : View D L) : Type 0 where
   pub is_other : v.number ≢ 0
   pub one : v.in_flight ≤ 1
   pub few : v.others ≤ v.before + v.passes
@@ -44,13 +44,13 @@ abbrev pub IsFirstOf : {D L : Type 0} → BoardState D L → FirstState D L → 
 IsFirstOf board first = first.board ≡ board.id
 
 -- What is true of each pass that holds no turn.
-pub record IsAtRest {D L : Type 0} (v : View D L) : Type 0 where
+pub record PassIsAtRest {D L : Type 0} (v : View D L) : Type 0 where
   pub is_live : v.live ≡ true
-  pub held_is : held_of v ≡ nothing
+  pub held_is : turns_held v ≡ nothing
   pub none_drawn : v.drawn ≡ false
 
 -- The board of a desk, and its first pass: both are of the desk's run, and the pass has seen the desk's whole journal.
-pub record IsOpened {D L Q : Type 0} (desk : DeskState D L Q) (passes : ℕ) (board : BoardState D L) (first : FirstState D L) : Type 0 where
+pub record BoardIsOpened {D L Q : Type 0} (desk : DeskState D L Q) (passes : ℕ) (board : BoardState D L) (first : FirstState D L) : Type 0 where
   pub run_is : board.begun ≡ desk.begun
   pub is_of : IsFirstOf board first
   pub first_run : run_of first.knows ≡ board.begun
@@ -75,7 +75,7 @@ pub record IsSplit {D L : Type 0} (old new : FirstState D L) (made : PassState D
 
 -- A pass was joined to pass 0, which keeps its number and what it had seen.
 abbrev pub after_join : {D L : Type 0} → FirstState D L → PassState D L → FirstState D L
-after_join first other = record first { knows = joined first.knows other.knows }
+after_join first other = record first { knows = joined_view first.knows other.knows }
 
 -- The desk that a board closed into. It has the whole journal: all that pass 0 and each pass that was joined had seen,
 -- and no entry of theirs that they had not; and none of a number that was not given to a pass. What they had under way
@@ -98,12 +98,12 @@ abbrev pub journal_slot : {D L Q : Type 0} → Begun D L → Bool → List (ℕ 
 journal_slot begun false = []
 journal_slot begun true = (slot_of begun Journal, None) ∷ []
 
-abbrev pub carried_of : {D L Q : Type 0} → Begun D L → Held → List (ℕ × Option (Place D L Q))
+abbrev pub carried_of : {D L Q : Type 0} → Begun D L → TurnsHeld → List (ℕ × Option (Place D L Q))
 carried_of begun held =
     journal_slot begun held.journal ++ (one_slot begun Log held.log ++ (one_slot begun Book held.book ++ one_slot begun Device held.device))
 
 -- The turns that a pass holds are of its board's run.
-pub record HoldsOwn {D L : Type 0} (begun : Begun D L) (held : Held) : Type 0 where
+pub record HoldsOwn {D L : Type 0} (begun : Begun D L) (held : TurnsHeld) : Type 0 where
   pub device : (stream : ℕ) → held.device ≡ Some stream → stream < length begun.disks
   pub book : (stream : ℕ) → held.book ≡ Some stream → stream < length begun.disks
   pub log : (handle : ℕ) → held.log ≡ Some handle → handle < length begun.logs
@@ -118,5 +118,5 @@ pub record SeatedState (D L : Type 0) : Type 0 where
 abbrev pub seated_standing : {D L Q : Type 0} → Tells D L Q → SeatedState D L → Standing
 seated_standing tells s = standing_at tells s.board.id s.knows s.device_turns
 
-abbrev pub pass_of : {D L : Type 0} → SeatedState D L → PassState D L
-pass_of s = record { board = s.board.id; knows = s.knows; device_turns = s.device_turns }
+abbrev pub seated_pass : {D L : Type 0} → SeatedState D L → PassState D L
+seated_pass s = record { board = s.board.id; knows = s.knows; device_turns = s.device_turns }

@@ -16,7 +16,7 @@ use Rattle.cc_turns.specs.Slots.{slots_of, slot_of, HasTurn, setup_in, Fits}
 use Rattle.cc_turns.specs.Takes.{Grows}
 use Rattle.cc_turns.specs.declared.slots.Place.{Place}
 use Rattle.cc_board.specs.declared.rule.View.{View}
-use Rattle.cc_board.specs.View.{run_of, held_of, standing_of}
+use Rattle.cc_board.specs.View.{run_of, turns_held, view_standing}
 
 -- the sum of a number of each view
 abbrev pub total : {V : Type 0} → (V → ℕ) → List V → ℕ
@@ -32,8 +32,8 @@ abbrev pub living : {D L : Type 0} → List (View D L) → ℕ
 living views = total (λ v. if v.live then 1 else 0) views
 
 -- the word of a turn: 0 where it is free
-abbrev pub word_of : {D L : Type 0} → Begun D L → Turn → ℕ
-word_of begun turn = suc (slot_of begun turn)
+abbrev pub turn_word : {D L : Type 0} → Begun D L → Turn → ℕ
+turn_word begun turn = suc (slot_of begun turn)
 
 -- What a turn is of is in its slot, and stands for the past.
 pub record IsAtHome {D L Q : Type 0} (tells : Tells D L Q) (begun : Begun D L) (past : List Entry) (reserved : ℕ)
@@ -45,14 +45,14 @@ pub record IsAtHome {D L Q : Type 0} (tells : Tells D L Q) (begun : Begun D L) (
 -- a turn of this run is taken
 pub record IsTaken {D L : Type 0} (begun : Begun D L) (words : List ℕ) (turn : Turn) : Type 0 where
   pub known : HasTurn begun turn
-  pub word : slice_index words (word_of begun turn) ≡ 1
+  pub word : slice_index words (turn_word begun turn) ≢ 0
 
 -- a pass holds a turn
 pub record IsHeld {D L : Type 0} (views : List (View D L)) (turn : Turn) : Type 0 where
   pub id : ℕ
   pub view : View D L
   pub there : get_elem? views id ≡ some view
-  pub held : holds (held_of view) turn ≡ true
+  pub held : holds (turns_held view) turn ≡ true
 
 -- What is true of each view. A pass that was not joined is of this run; the others went on since it looked, but
 -- nowhere that it holds a turn, and placed nothing under its number; the words of what it holds say so. A pass that
@@ -60,11 +60,11 @@ pub record IsHeld {D L : Type 0} (views : List (View D L)) (turn : Turn) : Type 
 pub record IsView {D L Q : Type 0} (tells : Tells D L Q) (begun : Begun D L) (past : List Entry) (words : List ℕ)
     (v : View D L) : Type 0 where
   pub of_run : v.live ≡ true → run_of v ≡ begun
-  pub grows : v.live ≡ true → Grows (standing_of tells v 0) past
-  pub spent : v.live ≡ false → held_of v ≡ nothing
+  pub grows : v.live ≡ true → Grows (view_standing tells v 0) past
+  pub spent : v.live ≡ false → turns_held v ≡ nothing
   pub none : v.live ≡ false → v.in_flight ≡ 0
   pub one : v.number ≢ 0 → v.in_flight ≤ 1
-  pub taken : (turn : Turn) → holds (held_of v) turn ≡ true → IsTaken begun words turn
+  pub taken : (turn : Turn) → holds (turns_held v) turn ≡ true → IsTaken begun words turn
 
 -- how many numbers were given away: one may be drawn whose pass is not made yet
 abbrev pub given_numbers : {D L : Type 0} → View D L → ℕ
@@ -75,7 +75,7 @@ given_numbers first = if first.drawn then first.made - 1 else first.made
 -- of the past still. No entry that pass 0 has not seen has a number that was not given away. Each pass knows how many
 -- are made at most, and what was under way at first; pass 0 has that under way, and one entry for each pass that was
 -- joined, at most.
-pub record AreNumbered {D L : Type 0} (past : List Entry) (words : List ℕ) (views : List (View D L)) (first : View D L) : Type 0 where
+pub record PassesAreNumbered {D L : Type 0} (past : List Entry) (words : List ℕ) (views : List (View D L)) (first : View D L) : Type 0 where
   pub there : get_elem? views 0 ≡ some first
   pub is_live : first.live ≡ true
   pub is_first : first.number ≡ 0
@@ -103,12 +103,12 @@ pub record IsBoard {D L Q : Type 0} (tells : Tells D L Q) (begun : Begun D L) (s
   pub within : IsWithinCapacity begun.capacity past
   pub few : (length begun.disks ≤ 16) × (length begun.logs ≤ 4)
   pub sized : (length s.words ≡ suc (slots_of begun)) × (length s.homes ≡ slots_of begun)
-  pub home : (turn : Turn) → HasTurn begun turn → slice_index s.words (word_of begun turn) ≡ 0 →
+  pub home : (turn : Turn) → HasTurn begun turn → slice_index s.words (turn_word begun turn) ≡ 0 →
       IsAtHome tells begun past (under_way s.views) s.homes turn
-  pub out : (turn : Turn) → HasTurn begun turn → slice_index s.words (word_of begun turn) ≢ 0 → IsHeld s.views turn
+  pub out : (turn : Turn) → HasTurn begun turn → slice_index s.words (turn_word begun turn) ≢ 0 → IsHeld s.views turn
   pub views : (id : ℕ) (v : View D L) → get_elem? s.views id ≡ some v → IsView tells begun past s.words v
   pub apart : (a b : ℕ) (u v : View D L) (turn : Turn) → get_elem? s.views a ≡ some u → get_elem? s.views b ≡ some v →
-      holds (held_of u) turn ≡ true → holds (held_of v) turn ≡ true → a ≡ b
+      holds (turns_held u) turn ≡ true → holds (turns_held v) turn ≡ true → a ≡ b
   pub reserved : (id : ℕ) (v : View D L) → get_elem? s.views id ≡ some v → v.journal ≡ true → under_way s.views ≡ v.in_flight + v.others
   pub first : View D L
-  pub numbers : AreNumbered past s.words s.views first
+  pub numbers : PassesAreNumbered past s.words s.views first

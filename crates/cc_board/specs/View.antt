@@ -3,8 +3,9 @@ use Rattle.std.specs.Prelude.{ℕ, ◌-◌, ◌+◌, true, false, List, [], ◌�
 use Rattle.std.specs.declared.option.Option.TheVariants.{Some, None}
 use Rattle.atomic_table.specs.Seated.{TableId}
 use Rattle.cc_model.specs.Room.{reserved_in}
+use Rattle.cc_traits.specs.Setup.{capacity_of}
 use Rattle.cc_model.specs.Turns.{Turn, Device, Book, Log, Journal}
-use Rattle.cc_turns.specs.Standing.{Standing, Held}
+use Rattle.cc_turns.specs.Standing.{Standing, TurnsHeld}
 use Rattle.cc_turns.specs.Desk.{Begun, Tells, disk_at_first, log_at_first, made_from}
 use Rattle.cc_turns.specs.Slots.{setup_in}
 use Rattle.cc_turns.specs.declared.slots.Place.{Place}
@@ -21,12 +22,12 @@ abbrev pub no_run : {D L : Type 0} → Begun D L
 no_run = record { disks = []; logs = []; capacity = 0; threshold = 0 }
 
 -- the turns that it holds
-abbrev pub held_of : {D L : Type 0} → View D L → Held
-held_of v = record { device = v.device; book = v.book; log = v.log; journal = v.journal }
+abbrev pub turns_held : {D L : Type 0} → View D L → TurnsHeld
+turns_held v = record { device = v.device; book = v.book; log = v.log; journal = v.journal }
 
 -- what it knows, as its turns tell it; how often it took the turn of a disk, its place keeps
-abbrev pub standing_of : {D L Q : Type 0} → Tells D L Q → View D L → ℕ → Standing
-standing_of tells v device_turns = record {
+abbrev pub view_standing : {D L Q : Type 0} → Tells D L Q → View D L → ℕ → Standing
+view_standing tells v device_turns = record {
   shared = [];
   setup = setup_in tells (run_of v);
   streams = length v.disks;
@@ -35,7 +36,7 @@ standing_of tells v device_turns = record {
   number = v.number;
   seen = v.seen;
   since = [];
-  held = held_of v;
+  held = turns_held v;
   in_flight = v.in_flight;
   others = v.others;
   most_others = v.before + v.passes;
@@ -43,12 +44,12 @@ standing_of tells v device_turns = record {
 }
 
 -- the numbers that name a board, from what its table is
-abbrev pub name_of : TableId → List ℕ
-name_of id = id.words ∷ id.slots ∷ id.views_name ∷ id.atom ∷ id.block ∷ id.offset ∷ id.slot_names
+abbrev pub board_name : TableId → List ℕ
+board_name id = id.words ∷ id.slots ∷ id.views_name ∷ id.atom ∷ id.block ∷ id.offset ∷ id.slot_names
 
 -- what a pass of a board knows, which names the board
 abbrev pub standing_at : {D L Q : Type 0} → Tells D L Q → TableId → View D L → ℕ → Standing
-standing_at tells id v device_turns = record (standing_of tells v device_turns) { shared = name_of id }
+standing_at tells id v device_turns = record (view_standing tells v device_turns) { shared = board_name id }
 
 -- the run that a board is of
 abbrev pub run_in : {D L Q : Type 0} → Key D L Q → Begun D L
@@ -59,7 +60,7 @@ abbrev pub first_view : {D L Q : Type 0} → Key D L Q → View D L
 first_view key = record {
   disks = key.begun.value.value.disks.items;
   logs = key.begun.value.value.logs.items;
-  capacity = key.begun.value.value.journal;
+  capacity = capacity_of key.begun.value.value.journal;
   threshold = key.begun.value.value.threshold;
   live = true;
   number = 0;
@@ -120,8 +121,8 @@ split_right v = record v {
 }
 
 -- a pass took another back: it keeps its number and what it had seen, and what it has under way
-abbrev pub joined : {D L : Type 0} → View D L → View D L → View D L
-joined v other = record v { in_flight = v.in_flight + other.in_flight; ended = (other.number, other.seen) ∷ v.ended }
+abbrev pub joined_view : {D L : Type 0} → View D L → View D L → View D L
+joined_view v other = record v { in_flight = v.in_flight + other.in_flight; ended = (other.number, other.seen) ∷ v.ended }
 
 -- of the other nothing is left
 abbrev pub spent : {D L : Type 0} → View D L

@@ -7,7 +7,7 @@ ghost use Rattle.cc_turns.specs.Standing.{nothing};
 ghost use Rattle.cc_turns.specs.Places.{IsRoomFor};
 ghost use Rattle.cc_turns.specs.Desk.{tells_of};
 ghost use Rattle.cc_turns.specs.Crash.{IsCrashSafe};
-ghost use Rattle.cc_board.specs.Board.{IsOf, IsFirstOf, IsOpened, IsHandedBack, IsSplit, IsClosed, after_join};
+ghost use Rattle.cc_board.specs.Board.{IsOfBoard, IsFirstOf, BoardIsOpened, IsHandedBack, IsSplit, IsClosed, after_join};
 
 use crate::rule::{BoardRule, CountsPasses, DrawsNumber, Key, Parting, Slot, View};
 use atomic_table::{Closed, Refused, Seat, Table};
@@ -77,7 +77,7 @@ impl<D: Told, L: LogFile, Q: PostRoutine> Model for Board<D, L, Q> {
 
 impl<D: Told, L: LogFile, Q: PostRoutine> Model for FirstPass<D, L, Q> {
     ghost use Rattle.std.specs.Prelude.{◌≡◌, [], length};
-    ghost use Rattle.cc_board.specs.Board.{FirstState, IsAtRest};
+    ghost use Rattle.cc_board.specs.Board.{FirstState, PassIsAtRest};
     ghost use Rattle.cc_board.specs.Rest.{IsRestOf};
 
     ghost Value = { FirstState D L };
@@ -85,22 +85,22 @@ impl<D: Told, L: LogFile, Q: PostRoutine> Model for FirstPass<D, L, Q> {
     ghost view = { λ f. record { board = f.seat.table_id; knows = f.seat.me.0 } };
 
     ghost invariant = { λ f.
-        (f.seat.me.1 ≡ []) × IsAtRest f.seat.me.0
+        (f.seat.me.1 ≡ []) × PassIsAtRest f.seat.me.0
         × (f.seat.me.0.number ≡ 0) × (f.joined ≡ length f.seat.me.0.ended) × (f.passes ≡ f.seat.me.0.passes)
         × IsRestOf f.seat.me.0 f.rest };
 }
 
 impl<D: Told, L: LogFile, Q: PostRoutine> Model for Pass<D, L, Q> {
     ghost use Rattle.std.specs.Prelude.{◌≡◌, ◌≢◌, []};
-    ghost use Rattle.cc_board.specs.Board.{PassState, IsAtRest, IsWithin};
+    ghost use Rattle.cc_board.specs.Board.{PassState, PassIsAtRest, PassIsWithin};
 
     ghost Value = { PassState D L };
 
     ghost view = { λ p. record { board = p.seat.table_id; knows = p.seat.me.0; device_turns = p.device_turns } };
 
     ghost invariant = { λ p.
-        (p.seat.me.1 ≡ []) × IsAtRest p.seat.me.0
-        × (p.number ≡ p.seat.me.0.number) × IsWithin p.seat.me.0 };
+        (p.seat.me.1 ≡ []) × PassIsAtRest p.seat.me.0
+        × (p.number ≡ p.seat.me.0.number) × PassIsWithin p.seat.me.0 };
 }
 
 // The words of a board with so many turns, each of them free, of which one pass was made.
@@ -137,7 +137,7 @@ impl<D: PageDisk, L: LogFile, Q: PostRoutine> Board<D, L, Q> {
         passes: u16,
     ) -> Result<(Board<D, L, Q>, FirstPass<D, L, Q>), (Desk<D, L, Q>, CcError)>
         requires free { desk.held ≡ nothing }
-        ensures opened { IfOk result (λ made. IsOpened desk passes made.0 made.1) }
+        ensures opened { IfOk result (λ made. BoardIsOpened desk passes made.0 made.1) }
         ensures err { IfErr result (λ back. IsHandedBack desk back.0 × (back.1 ≡ error.NoMemory)) }
     {
         let streams = desk.streams();
@@ -261,7 +261,7 @@ impl<D: Told, L: LogFile, Q: PostRoutine> Board<D, L, Q> {
     /// Takes a pass back.
     pub fn join(&self, first: &mut FirstPass<D, L, Q>, other: Pass<D, L, Q>)
         requires here { IsFirstOf self.now first.old }
-        requires other_here { IsOf self.now other }
+        requires other_here { IsOfBoard self.now other }
         ensures { first.new ≡ after_join first.old other }
     {
         let Pass {

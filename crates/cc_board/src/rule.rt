@@ -174,9 +174,9 @@ impl<D, L> Split<View<D, L>> for Parting {
 }
 
 impl<D, L> Join<View<D, L>> for Parting {
-    ghost use Rattle.cc_board.specs.View.{joined, spent};
+    ghost use Rattle.cc_board.specs.View.{joined_view, spent};
 
-    ghost both = { joined };
+    ghost both = { joined_view };
 
     ghost spent = { spent };
 }

@@ -9,9 +9,9 @@ ghost use Rattle.cc_turns.specs.Desk.{tells_of};
 ghost use Rattle.cc_turns.specs.Disk.{DiskStands, opening_of};
 ghost use Rattle.cc_turns.specs.Log.{LogStands};
 ghost use Rattle.cc_turns.specs.Journal.{JournalStands};
-ghost use Rattle.cc_turns.specs.Takes.{Takes, Adds, with_device, with_book, with_log, with_journal, without_device, without_book, without_log, without_journal};
-ghost use Rattle.cc_board.specs.View.{held_of, standing_of};
-ghost use Rattle.cc_board.specs.Board.{IsOf, pass_of, seated_standing};
+ghost use Rattle.cc_turns.specs.Takes.{Takes, AddsEvent, with_device, with_book, with_log, with_journal, without_device, without_book, without_log, without_journal};
+ghost use Rattle.cc_board.specs.View.{turns_held, view_standing};
+ghost use Rattle.cc_board.specs.Board.{IsOfBoard, seated_pass, seated_standing};
 
 use crate::board::{Board, Pass};
 use crate::rule::{
@@ -46,8 +46,8 @@ pub struct SeatAtTake<D: Told, L: LogFile, Q: PostRoutine> {
 
 impl<'b, R: Wait, D: Told, L: LogFile, Q: PostRoutine> Model for Seated<'b, R, D, L, Q> {
     ghost use Rattle.std.specs.Prelude.{◌≡◌, true, false};
-    ghost use Rattle.cc_board.specs.View.{run_of, held_of};
-    ghost use Rattle.cc_board.specs.Board.{SeatedState, HoldsOwn, IsWithin, carried_of};
+    ghost use Rattle.cc_board.specs.View.{run_of, turns_held};
+    ghost use Rattle.cc_board.specs.Board.{SeatedState, HoldsOwn, PassIsWithin, carried_of};
 
     ghost Value = { SeatedState D L };
 
@@ -55,19 +55,19 @@ impl<'b, R: Wait, D: Told, L: LogFile, Q: PostRoutine> Model for Seated<'b, R, D
 
     ghost invariant = { λ s.
         (s.seat.table_id ≡ s.board.now.id) × (run_of s.seat.me.0 ≡ s.board.now.begun)
-        × (s.seat.me.1 ≡ carried_of s.board.now.begun (held_of s.seat.me.0))
+        × (s.seat.me.1 ≡ carried_of s.board.now.begun (turns_held s.seat.me.0))
         × (s.seat.me.0.live ≡ true) × (s.seat.me.0.drawn ≡ false)
-        × (s.number ≡ s.seat.me.0.number) × IsWithin s.seat.me.0
-        × HoldsOwn s.board.now.begun (held_of s.seat.me.0) };
+        × (s.number ≡ s.seat.me.0.number) × PassIsWithin s.seat.me.0
+        × HoldsOwn s.board.now.begun (turns_held s.seat.me.0) };
 }
 
 impl<'b, R: Wait, D: Told, L: LogFile, Q: PostRoutine> Seated<'b, R, D, L, Q> {
     /// Seats a pass at its board.
     pub fn new(rt: &'b R, board: &'b Board<D, L, Q>, pass: Pass<D, L, Q>) -> Seated<'b, R, D, L, Q>
-        requires here { IsOf board.now pass }
+        requires here { IsOfBoard board.now pass }
         ensures board { result.board ≡ board.now }
-        ensures pass { pass_of result ≡ pass }
-        ensures free { held_of result.knows ≡ nothing }
+        ensures pass { seated_pass result ≡ pass }
+        ensures free { turns_held result.knows ≡ nothing }
     {
         let Pass {
             mut seat,
@@ -86,9 +86,9 @@ impl<'b, R: Wait, D: Told, L: LogFile, Q: PostRoutine> Seated<'b, R, D, L, Q> {
 
     /// Gives the pass back.
     pub fn into_pass(self) -> Pass<D, L, Q>
-        requires free { held_of self.knows ≡ nothing }
-        ensures pass { result ≡ pass_of self.entry }
-        ensures here { IsOf self.entry.board result }
+        requires free { turns_held self.knows ≡ nothing }
+        ensures pass { result ≡ seated_pass self.entry }
+        ensures here { IsOfBoard self.entry.board result }
     {
         let Seated {
             rt: _,
@@ -117,7 +117,7 @@ fn at_take_of<D: Told, L: LogFile, Q: PostRoutine>(
 }
 
 impl<D: Told, L: LogFile, Q: PostRoutine> AtTake for SeatAtTake<D, L, Q> {
-    ghost knew = { λ at_take. standing_of (tells_of D.told D.faults L.told L.faults Q.posted) at_take.seat.value.me.0 0 };
+    ghost knew = { λ at_take. view_standing (tells_of D.told D.faults L.told L.faults Q.posted) at_take.seat.value.me.0 0 };
 }
 
 impl<'b, R: Wait, D: PageDisk, L: LogFile, Q: PostRoutine> Turns for Seated<'b, R, D, L, Q> {
@@ -193,8 +193,8 @@ impl<'b, R: Wait, D: PageDisk, L: LogFile, Q: PostRoutine> Turns for Seated<'b, 
     }
 
     fn give_log(&mut self, handle: u8, log: LogTurn<L>)
-        requires held { (held_of self.old.knows).log ≡ Some handle }
-        requires no_journal { (held_of self.old.knows).journal ≡ false }
+        requires held { (turns_held self.old.knows).log ≡ Some handle }
+        requires no_journal { (turns_held self.old.knows).journal ≡ false }
         requires handle { log.handle ≡ handle }
         requires stands { LogStands L.told L.faults
             ((seated_standing (tells_of D.told D.faults L.told L.faults Q.posted) self.old).logs handle) self.old.knows.seen log }
@@ -218,8 +218,8 @@ impl<'b, R: Wait, D: PageDisk, L: LogFile, Q: PostRoutine> Turns for Seated<'b, 
     }
 
     fn give_journal(&mut self, journal: Journal<Q>)
-        requires held { (held_of self.old.knows).journal ≡ true }
-        requires adds { Adds (seated_standing (tells_of D.told D.faults L.told L.faults Q.posted) self.old) journal.entries }
+        requires held { (turns_held self.old.knows).journal ≡ true }
+        requires adds { AddsEvent (seated_standing (tells_of D.told D.faults L.told L.faults Q.posted) self.old) journal.entries }
         requires stands { JournalStands Q.posted
             (without_journal journal (seated_standing (tells_of D.told D.faults L.told L.faults Q.posted) self.old)) journal }
         requires few { (without_journal journal

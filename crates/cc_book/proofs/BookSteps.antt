@@ -24,11 +24,11 @@ use Rattle.cc_model.specs.Conditions.{MayComeIn}
 use Rattle.cc_model.specs.Good.{IsGoodSoFar}
 use Rattle.cc_model.specs.Setup.{Setup}
 use Rattle.cc_book.specs.Book.{BookState, BookStands, StandsFor, book_of}
-use Rattle.cc_book.specs.declared.book.Parts.{Parts}
+use Rattle.cc_book.specs.declared.book.BookParts.{BookParts}
 
 -- what is kept beside the images in a book that stands for a past stands for its stream's history: its parts, as the box
 -- gives them
-pub parts-stand : (opening : Option (ℕ → List ℕ)) (past : List Entry) (stream : ℕ) {parts here : Parts} {b : BookState} → parts ≡ here → book_of stream here ≡ b → BookStands opening past b → StandsFor opening (history past b.stream) (book_of stream parts)
+pub parts-stand : (opening : Option (ℕ → List ℕ)) (past : List Entry) (stream : ℕ) {parts here : BookParts} {b : BookState} → parts ≡ here → book_of stream here ≡ b → BookStands opening past b → StandsFor opening (history past b.stream) (book_of stream parts)
 parts-stand opening past stream {parts} {here} {b} given same stands =
     subst (StandsFor opening (history past b.stream)) (sym (ap (book_of stream) given ∙ same))
     (record { state_is = stands.state_is; maps_are = stands.maps_are; holds_are = stands.holds_are; contents_are = stands.contents_are })

@@ -13,7 +13,7 @@ use Rattle.cc_model.specs.Holds.{holds_of, id_of}
 use Rattle.cc_model.specs.Passes.{calls_of}
 use Rattle.cc_model.specs.Setup.{Setup}
 use Rattle.cc_model.specs.Touches.{size_of, is_mapped}
-use Rattle.cc_holds.specs.declared.holds.Hold.{Hold}
+use Rattle.cc_holds.specs.declared.holds.KeptHold.{KeptHold}
 use Rattle.cc_holds.specs.Done.{MakesAbove, written_end}
 use Rattle.cc_holds.specs.Makes.{zeroed_end}
 use Rattle.cc_holds.specs.Stands.{HoldsStand}
@@ -21,10 +21,10 @@ use Rattle.cc_holds.proofs.RowsMade.{makes-above}
 use Rattle.cc_stream.specs.Stream.{StreamStands}
 use Rattle.cc_ahead.specs.Kept.{PrivateStands}
 use Rattle.cc_content.specs.Contents.{Contents, ContentsStand}
-use Rattle.cc_content.specs.Following.{MayFollow, IsFollowing, IsFollowingWrite, truncated_by}
+use Rattle.cc_content.specs.Following.{MayFollowContents, IsFollowingContents, IsFollowingWrite, truncated_by}
 use Rattle.cc_content.proofs.DoneFacts.{IsDone, IsDone-good, history-called, written-fits, zeroed-fits, map-resizes, map-writes, map-zeroes, map-stores, map-stamps, map-discards, map-looks}
 use Rattle.cc_images.specs.Images.{ImagesStand}
-use Rattle.cc_book.specs.Book.{BookState, BookStands, StandsFor, MayDo, IsDoing, done}
+use Rattle.cc_book.specs.Book.{BookState, BookStands, StandsFor, MayDoOnBook, IsDoing, done}
 
 below : (n : ℕ) → n ≤ 2 ^ 63 → n < 2 ^ 64
 below n within = omega arith
@@ -59,7 +59,7 @@ module _ (past : List Entry) (h : List Effect) (pass : ℕ) (reply : Reply) wher
   mapped-kept other done opens closes = sym (map-looks past h pass other reply done refl)
 
 -- what is known of a done call that may be placed on the past
-pub done-may : {u : Setup} {past : List Entry} {pass : ℕ} {call : Call} {reply : Reply} {b : BookState} → MayDo u past pass call reply b → IsDone past (history past b.stream) pass call reply
+pub done-may : {u : Setup} {past : List Entry} {pass : ℕ} {call : Call} {reply : Reply} {b : BookState} → MayDoOnBook u past pass call reply b → IsDone past (history past b.stream) pass call reply
 done-may {u} {past} {pass} {call} {reply} {b} may = IsDone-good u past pass (suc (calls_of past pass)) b.stream call reply may.good
 
 -- a book that stands for the history with the call, and whose images followed, stands for the journal with it
@@ -77,7 +77,7 @@ stands-called opening past pass s call reply b new same here stands images =
     })
 
 -- an uninitialise is filed under the stream of its file
-pub closes-here : {u : Setup} {past : List Entry} {pass : ℕ} {file : File} {truncate : Option ℕ} {reply : Reply} {b : BookState} → MayDo u past pass (call.Uninitialise file truncate) reply b → file.stream ≡ b.stream
+pub closes-here : {u : Setup} {past : List Entry} {pass : ℕ} {file : File} {truncate : Option ℕ} {reply : Reply} {b : BookState} → MayDoOnBook u past pass (call.Uninitialise file truncate) reply b → file.stream ≡ b.stream
 unfolding IsAllowedSoFar
 closes-here may = same (may.good.allowed.1.filed)
   where
@@ -86,11 +86,11 @@ closes-here may = same (may.good.allowed.1.filed)
 
 -- A done call that a book follows, and the book's parts before it.
 module _ {it : Call} {reply : Reply} {old : BookState} (b : BookState) (same : b ≡ old) where
-  parted : (u : Setup) (past : List Entry) (pass : ℕ) → MayDo u past pass it reply old → MayDo u past pass it reply b
-  parted u past pass may = subst (λ (x : BookState). MayDo u past pass it reply x) (sym same) may
+  parted : (u : Setup) (past : List Entry) (pass : ℕ) → MayDoOnBook u past pass it reply old → MayDoOnBook u past pass it reply b
+  parted u past pass may = subst (λ (x : BookState). MayDoOnBook u past pass it reply x) (sym same) may
 
   -- the contents may follow it
-  pub may-follow : {mapped : Bool} (size : ℕ) (cut : Option ℕ) → ((h : List Effect) → StreamStands h b.state → size ≡ size_of h) → ((h : List Effect) → StreamStands h b.state → cut ≡ truncated_by h it) → (u : Setup) (past : List Entry) (pass : ℕ) → MayDo u past pass it reply old → mapped ≡ is_mapped (Did pass it reply ∷ history past old.stream) → MayFollow u past pass (suc (calls_of past pass)) b.stream it reply b.contents size cut mapped
+  pub may-follow : {mapped : Bool} (size : ℕ) (cut : Option ℕ) → ((h : List Effect) → StreamStands h b.state → size ≡ size_of h) → ((h : List Effect) → StreamStands h b.state → cut ≡ truncated_by h it) → (u : Setup) (past : List Entry) (pass : ℕ) → MayDoOnBook u past pass it reply old → mapped ≡ is_mapped (Did pass it reply ∷ history past old.stream) → MayFollowContents u past pass (suc (calls_of past pass)) b.stream it reply b.contents size cut mapped
   may-follow {mapped} size cut sized cuts u past pass given mapped_is =
       let may = parted u past pass given in
       record {
@@ -103,7 +103,7 @@ module _ {it : Call} {reply : Reply} {old : BookState} (b : BookState) (same : b
             ∙ sym (ap is_mapped (history-called past pass (suc (calls_of past pass)) b.stream it reply));
       }
 
-  pub is-following : {mapped : Bool} (size : ℕ) (cut : Option ℕ) → ((h : List Effect) → StreamStands h b.state → size ≡ size_of h) → ((h : List Effect) → StreamStands h b.state → cut ≡ truncated_by h it) → IsDoing it reply mapped old → IsFollowing it reply b.contents size cut mapped
+  pub is-following : {mapped : Bool} (size : ℕ) (cut : Option ℕ) → ((h : List Effect) → StreamStands h b.state → size ≡ size_of h) → ((h : List Effect) → StreamStands h b.state → cut ≡ truncated_by h it) → IsDoing it reply mapped old → IsFollowingContents it reply b.contents size cut mapped
   is-following size cut sized cuts d =
       record { u = d.u; past = d.past; pass = d.pass; nth = suc (calls_of d.past d.pass); s = b.stream; may = may-follow size cut sized cuts d.u d.past d.pass d.may d.mapped_is }
 
@@ -114,13 +114,13 @@ module _ {it : Call} {reply : Reply} {old : BookState} (b : BookState) (same : b
       (zeroed-below d.past (history d.past b.stream) d.pass reply it (done-may may), written-below d.past (history d.past b.stream) d.pass reply it (done-may may))
 
   -- the book stands for it where its holds and its contents do, and the rest was set
-  pub stands-done : (new : BookState) (holds : List Hold) (contents : Contents) (was_mapped : Bool)
+  pub stands-done : (new : BookState) (holds : List KeptHold) (contents : Contents) (was_mapped : Bool)
       → new ≡ record { stream = b.stream; state = new.state; maps = new.maps; holds = holds; contents = contents; images = b.images }
       → ((h : List Effect) (pass : ℕ) → StreamStands h b.state → was_mapped ≡ is_mapped h → StreamStands (Did pass it reply ∷ h) new.state)
       → ((h : List Effect) (pass : ℕ) → StreamStands h b.state → PrivateStands h b.maps → PrivateStands (Did pass it reply ∷ h) new.maps)
       → ((opening : Option (ℕ → List ℕ)) (h : List Effect) → ContentsStand opening h b.contents → was_mapped ≡ is_mapped h)
-      → (u : Setup) (past : List Entry) (pass : ℕ) → MayDo u past pass it reply old
-      → (MayDo u past pass it reply b → HoldsStand (history past b.stream) b.holds → HoldsStand (Did pass it reply ∷ history past b.stream) holds)
+      → (u : Setup) (past : List Entry) (pass : ℕ) → MayDoOnBook u past pass it reply old
+      → (MayDoOnBook u past pass it reply b → HoldsStand (history past b.stream) b.holds → HoldsStand (Did pass it reply ∷ history past b.stream) holds)
       → ContentsStand (u.opening b.stream) (history (done pass past b.stream it reply ∷ past) b.stream) contents
       → StandsFor (u.opening old.stream) (Did pass it reply ∷ history past old.stream) new
   stands-done new holds contents was_mapped is state maps was u past pass given held told =
@@ -138,19 +138,19 @@ module _ {it : Call} {reply : Reply} {old : BookState} (b : BookState) (same : b
       })
 
   -- the holds that a call makes have greater ids than each open one
-  pub made-above : (u : Setup) (past : List Entry) (pass id : ℕ) → MayDo u past pass it reply b → id ≡ id_of reply → MakesAbove it id (holds_of (history past b.stream))
+  pub made-above : (u : Setup) (past : List Entry) (pass id : ℕ) → MayDoOnBook u past pass it reply b → id ≡ id_of reply → MakesAbove it id (holds_of (history past b.stream))
   made-above u past pass id may is =
       subst (λ (n : ℕ). MakesAbove it n (holds_of (history past b.stream))) (sym is) (makes-above u past pass (suc (calls_of past pass)) b.stream it reply may.good.legal)
 
 -- the contents may follow a pinned write
-pub may-write : {u : Setup} {past : List Entry} {pass : ℕ} {hold at : ℕ} {bytes : List ℕ} {reply : Reply} {b : BookState} → MayDo u past pass (call.PinnedWrite hold at bytes) reply b → MayFollow u past pass (suc (calls_of past pass)) b.stream (call.PinnedWrite hold at bytes) reply b.contents (size_of (history past b.stream)) None (is_mapped (history (done pass past b.stream (call.PinnedWrite hold at bytes) reply ∷ past) b.stream))
+pub may-write : {u : Setup} {past : List Entry} {pass : ℕ} {hold at : ℕ} {bytes : List ℕ} {reply : Reply} {b : BookState} → MayDoOnBook u past pass (call.PinnedWrite hold at bytes) reply b → MayFollowContents u past pass (suc (calls_of past pass)) b.stream (call.PinnedWrite hold at bytes) reply b.contents (size_of (history past b.stream)) None (is_mapped (history (done pass past b.stream (call.PinnedWrite hold at bytes) reply ∷ past) b.stream))
 may-write may = record { good = may.good; stands = may.stands.contents_are; size_is = refl; truncation_is = refl; mapped_is = refl }
 
 -- a pinned write of these bytes may be followed
 pub is-writing : {it : Call} {reply : Reply} {mapped : Bool} {old : BookState} (b : BookState) → b ≡ old → (hold at : ℕ) (bytes : List ℕ) → it ≡ call.PinnedWrite hold at bytes → IsDoing it reply mapped old → IsFollowingWrite at bytes b.contents
 is-writing {it} {reply} {mapped} {old} b same hold at bytes is d =
-    let may : MayDo d.u d.past d.pass it reply b = subst (λ (x : BookState). MayDo d.u d.past d.pass it reply x) (sym same) d.may in
-    let writes : MayDo d.u d.past d.pass (call.PinnedWrite hold at bytes) reply b = subst (λ (k : Call). MayDo d.u d.past d.pass k reply b) is may in
+    let may : MayDoOnBook d.u d.past d.pass it reply b = subst (λ (x : BookState). MayDoOnBook d.u d.past d.pass it reply x) (sym same) d.may in
+    let writes : MayDoOnBook d.u d.past d.pass (call.PinnedWrite hold at bytes) reply b = subst (λ (k : Call). MayDoOnBook d.u d.past d.pass k reply b) is may in
     record {
       hold = hold;
       reply = reply;

@@ -16,16 +16,16 @@ use Rattle.cc_model.specs.Passes.{calls_of}
 use Rattle.cc_model.specs.Good.{IsGoodSoFar}
 use Rattle.cc_model.specs.Setup.{Setup}
 use Rattle.cc_model.specs.Touches.{valid_of}
-use Rattle.cc_book.specs.Book.{BookState, StandsFor, MayDo, IsRoomFor, ImagesMayFollow, done}
+use Rattle.cc_book.specs.Book.{BookState, StandsFor, MayDoOnBook, IsMapRoomFor, ImagesMayFollow, done}
 
 -- they may follow it where the rest of the book has
-pub images-may : (u : Setup) (past : List Entry) (pass : ℕ) (it : Call) (reply : Reply) (room : Option ℕ) (was : ℕ) (old b : BookState) → MayDo u past pass it reply old → b.stream ≡ old.stream → b.images ≡ old.images → StandsFor (u.opening old.stream) (Did pass it reply ∷ history past old.stream) b → IsRoomFor (history past old.stream) it room → was ≡ valid_of (history past old.stream) → ImagesMayFollow u past pass it reply room was b
+pub images-may : (u : Setup) (past : List Entry) (pass : ℕ) (it : Call) (reply : Reply) (room : Option ℕ) (was : ℕ) (old b : BookState) → MayDoOnBook u past pass it reply old → b.stream ≡ old.stream → b.images ≡ old.images → StandsFor (u.opening old.stream) (Did pass it reply ∷ history past old.stream) b → IsMapRoomFor (history past old.stream) it room → was ≡ valid_of (history past old.stream) → ImagesMayFollow u past pass it reply room was b
 images-may u past pass it reply room was old b may stream images stands room_is was_is =
     let back = sym stream in
     record {
       good = subst (λ s. IsGoodSoFar u (done pass past s it reply ∷ past)) back may.good;
       stands = subst (λ s. ImagesStand (history past s) b.images) back (subst (λ i. ImagesStand (history past old.stream) i) (sym images) may.stands.images_are);
-      room_is = subst (λ s. IsRoomFor (history past s) it room) back room_is;
+      room_is = subst (λ s. IsMapRoomFor (history past s) it room) back room_is;
       was_is = subst (λ s. was ≡ valid_of (history past s)) back was_is;
       now_is = subst (λ s. b.contents.valid ≡ valid_of (Did pass it reply ∷ history past s)) back stands.contents_are.valid_is;
     }

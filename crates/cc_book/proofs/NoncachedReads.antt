@@ -7,7 +7,7 @@ use Rattle.std.proofs.lemmas.Bool.{lt-ltb}
 use Rattle.std.proofs.lemmas.List.{get_or-take}
 use Rattle.cc_entry.specs.Pages.{pages_of}
 use Rattle.cc_entry.specs.declared.reply.Reply.TheVariants as reply
-use Rattle.cc_content.specs.Contents.{IsByteOf}
+use Rattle.cc_content.specs.Contents.{IsByteOfContents}
 use Rattle.cc_content.specs.Filling.{IsReadFrom, IsClearedFrom}
 use Rattle.cc_content.proofs.ContentSteps.{IsByteOf-filled}
 use Rattle.cc_model.specs.History.{Effect}
@@ -54,7 +54,7 @@ pub reads-disk : (opening : Option (ℕ → List ℕ)) (h : List Effect) (page e
 reads-disk opening h page end raw bytes part below read cleared long ends same =
     reads-part opening h (4096 * page) 4096 part (count (size_of h) (length part) below long ends)
     (λ k inside.
-    subst (λ (byte : ℕ). IsByteOf opening h (4096 * page + k) byte) (sym (same k (omega (arith, inside, long))))
+    subst (λ (byte : ℕ). IsByteOfContents opening h (4096 * page + k) byte) (sym (same k (omega (arith, inside, long))))
     (IsByteOf-filled opening h page k raw bytes (omega (arith, inside, long, ends)) read cleared))
   where
     count : (size n : ℕ) → 4096 * page < size → n ≡ end → end ≡ min (size - 4096 * page) 4096 → n ≡ min (4096 * page + 4096) size - 4096 * page

@@ -17,10 +17,10 @@ use Rattle.cc_model.specs.Residency.{is_resident}
 use Rattle.cc_model.specs.Setup.{Setup}
 use Rattle.cc_model.specs.Touches.{size_of, is_mapped}
 use Rattle.cc_stream.specs.Stream.{StreamStands}
-use Rattle.cc_content.specs.Contents.{Contents, ContentsStand, IsByteOf}
+use Rattle.cc_content.specs.Contents.{Contents, ContentsStand, IsByteOfContents}
 use Rattle.cc_content.specs.Following.{IsFollowable, truncated_by}
 use Rattle.cc_content.specs.Owned.{OwnsChanged, changed_range, SameContents}
-use Rattle.cc_book.specs.Book.{BookState, BookStands, StandsAsBefore, IsSnapshot, MayDo, IsDoing, OwnsFor, done, takes_memory}
+use Rattle.cc_book.specs.Book.{BookState, BookStands, StandsAsBefore, IsSnapshot, MayDoOnBook, IsDoing, OwnsFor, done, takes_memory}
 
 -- contents that stand for the same histories
 pub StandsAsBefore-contents : (b : BookState) (c : Contents) → SameContents b.contents c → StandsAsBefore b (record b { contents = c })
@@ -37,7 +37,7 @@ StandsAsBefore-contents b c same =
     }
 
 -- the same calls may be done
-pub may-still : (old mid : BookState) → StandsAsBefore old mid → (u : Setup) (past : List Entry) (pass : ℕ) (it : Call) (answer : Reply) → MayDo u past pass it answer old → MayDo u past pass it answer mid
+pub may-still : (old mid : BookState) → StandsAsBefore old mid → (u : Setup) (past : List Entry) (pass : ℕ) (it : Call) (answer : Reply) → MayDoOnBook u past pass it answer old → MayDoOnBook u past pass it answer mid
 may-still old mid w u past pass it answer may =
     record {
       good = subst (λ s. IsGoodSoFar u (done pass past s it answer ∷ past)) (sym w.stream) may.good;
@@ -46,8 +46,8 @@ may-still old mid w u past pass it answer may =
 
 -- What a done call finds owned, by the book's parts.
 module _ {it : Call} {reply : Reply} {mapped : Bool} {old : BookState} (b : BookState) (same : b ≡ old) (cut : Option ℕ) (cuts : (h : List Effect) → StreamStands h b.state → cut ≡ truncated_by h it) (d : IsDoing it reply mapped old) where
-  parted : MayDo d.u d.past d.pass it reply b
-  parted = subst (λ (x : BookState). MayDo d.u d.past d.pass it reply x) (sym same) d.may
+  parted : MayDoOnBook d.u d.past d.pass it reply b
+  parted = subst (λ (x : BookState). MayDoOnBook d.u d.past d.pass it reply x) (sym same) d.may
 
   pub followable : IsFollowable it cut b.contents
   followable =
@@ -106,7 +106,7 @@ begun-resident u past pass page good = let may = good.allowed.1 in may.resident
 
 -- a snapshot of the contents is one of the book
 pub IsSnapshot-of : (b : BookState) (page : ℕ) (made : Option Frame) (frame : Frame) → made ≡ Some frame
-    → ((opening : Option (ℕ → List ℕ)) (h : List Effect) → ContentsStand opening h b.contents → IfSome made (λ bytes. (i : ℕ) → i < 4096 → IsByteOf opening h (4096 * page + i) (slice_index bytes i)))
+    → ((opening : Option (ℕ → List ℕ)) (h : List Effect) → ContentsStand opening h b.contents → IfSome made (λ bytes. (i : ℕ) → i < 4096 → IsByteOfContents opening h (4096 * page + i) (slice_index bytes i)))
     → IfSome made (λ bytes. length bytes ≡ 4096) → IsSnapshot b page frame
 IsSnapshot-of b page None frame is bytes whole = absurd (cc)
 IsSnapshot-of b page (Some other) frame is bytes whole =

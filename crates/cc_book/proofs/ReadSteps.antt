@@ -15,7 +15,7 @@ use Rattle.cc_model.specs.History.{Effect}
 use Rattle.cc_model.specs.Replies.{Reads}
 use Rattle.cc_model.specs.Residency.{all_resident, is_resident}
 use Rattle.cc_laws.proofs.Lists1.{among-all, among-pages}
-use Rattle.cc_content.specs.Contents.{IsByteOf}
+use Rattle.cc_content.specs.Contents.{IsByteOfContents}
 use Rattle.cc_book.specs.Read.{IsPartOf}
 
 -- where a read ends
@@ -31,26 +31,26 @@ resident-at h r i all from to =
 
 module _ (opening : Option (ℕ → List ℕ)) (h : List Effect) where
   -- bytes of a page that is found, from a place in it on
-  pub part-found : (at from to : ℕ) (found : Option (Bor (List ℕ))) (other frame : Bor (List ℕ)) → at ≡ 4096 * (at / 4096) + from → to ≤ 4096 → is_some found ≡ true → frame ≡ unwrap_or found other → IfSome found (λ bytes. (i : ℕ) → i < 4096 → IsByteOf opening h (4096 * (at / 4096) + i) (slice_index bytes.now i)) → IsPartOf opening h at (slice_range frame.now from to)
+  pub part-found : (at from to : ℕ) (found : Option (Bor (List ℕ))) (other frame : Bor (List ℕ)) → at ≡ 4096 * (at / 4096) + from → to ≤ 4096 → is_some found ≡ true → frame ≡ unwrap_or found other → IfSome found (λ bytes. (i : ℕ) → i < 4096 → IsByteOfContents opening h (4096 * (at / 4096) + i) (slice_index bytes.now i)) → IsPartOf opening h at (slice_range frame.now from to)
   part-found at from to None other frame place within some is bytes = absurd (true≢false (sym some))
   part-found at from to (Some found) other frame place within some is bytes = λ k below.
       let short = length-take (to - from) (drop from frame.now) in
       let there : from + k < to = omega (arith, short, below) in
       let where_it_is : 4096 * (at / 4096) + (from + k) ≡ at + k = omega (arith, place) in
       let byte : slice_index found.now (from + k) ≡ slice_index (slice_range frame.now from to) k = ap (λ (f : Bor (List ℕ)). slice_index f.now (from + k)) (sym is) ∙ sym (get_or-between frame.now from to k 0 there) in
-      subst (λ i. IsByteOf opening h i (slice_index (slice_range frame.now from to) k)) where_it_is
-      (subst (λ b. IsByteOf opening h (4096 * (at / 4096) + (from + k)) b) byte (bytes (from + k) (omega arith)))
+      subst (λ i. IsByteOfContents opening h i (slice_index (slice_range frame.now from to) k)) where_it_is
+      (subst (λ b. IsByteOfContents opening h (4096 * (at / 4096) + (from + k)) b) byte (bytes (from + k) (omega arith)))
 
   -- bytes that follow one another
   pub part-more : (at next : ℕ) (front part : List ℕ) → at + length front ≡ next → IsPartOf opening h at front → IsPartOf opening h next part → IsPartOf opening h at (front ++ part)
   part-more at next front part on first then = λ k below. go k below (cases_lt k (length front))
     where
-      go : (k : ℕ) → k < length (front ++ part) → (k < length front) ⊎ (length front ≤ k) → IsByteOf opening h (at + k) (slice_index (front ++ part) k)
-      go k below (inl low) = subst (IsByteOf opening h (at + k)) (sym (get_or_append_left front part 0 k low)) (first k low)
+      go : (k : ℕ) → k < length (front ++ part) → (k < length front) ⊎ (length front ≤ k) → IsByteOfContents opening h (at + k) (slice_index (front ++ part) k)
+      go k below (inl low) = subst (IsByteOfContents opening h (at + k)) (sym (get_or_append_left front part 0 k low)) (first k low)
       go k below (inr high) =
           let place : next + (k - length front) ≡ at + k = omega (arith, on, high) in
-          subst (IsByteOf opening h (at + k)) (sym (get_or-append_right front part (length front) k 0 refl high))
-          (subst (λ i. IsByteOf opening h i (slice_index part (k - length front))) place (then (k - length front) (omega (arith, below, high, length-append front part))))
+          subst (IsByteOfContents opening h (at + k)) (sym (get_or-append_right front part (length front) k 0 refl high))
+          (subst (λ i. IsByteOfContents opening h i (slice_index part (k - length front))) place (then (k - length front) (omega (arith, below, high, length-append front part))))
 
 -- as many bytes of the stream as a read answers are what it answers
 pub reads-part : (opening : Option (ℕ → List ℕ)) (h : List Effect) (at n : ℕ) (bytes : List ℕ) → length bytes ≡ answer_length h at n → IsPartOf opening h at bytes → Reads opening h at n (reply.Read bytes)

@@ -14,7 +14,7 @@ use Rattle.cc_model.specs.Good.{IsGoodSoFar}
 use Rattle.cc_model.specs.History.{Effect, history}
 use Rattle.cc_model.specs.Legal.{IsLegal}
 use Rattle.cc_model.specs.Setup.{Setup}
-use Rattle.cc_book.specs.Book.{BookState, BookStands, Gains, MayDo, StandsAsBefore, done}
+use Rattle.cc_book.specs.Book.{BookState, BookStands, Gains, MayDoOnBook, StandsAsBefore, done}
 use Rattle.cc_book.specs.Stored.{MayStoreAndBegin, store_done}
 
 -- a book whose images stand for the same histories
@@ -43,7 +43,7 @@ unfolding IsLegal IsAllowedSoFar IsCovered
 before-begin u pass page past good = record { legal = good.legal.1; allowed = good.allowed.2; covered = good.covered.1 }
 
 -- the store may be done
-pub may-store : (u : Setup) (past : List Entry) (pass : ℕ) (file : File) (page : Page) (number : ℕ) (bytes : List ℕ) (old mid : BookState) → StandsAsBefore old mid → page.stream ≡ old.stream → number ≡ page.page → MayStoreAndBegin u past pass file page bytes old → MayDo u past pass (call.NcStore file number bytes) reply.Unit mid
+pub may-store : (u : Setup) (past : List Entry) (pass : ℕ) (file : File) (page : Page) (number : ℕ) (bytes : List ℕ) (old mid : BookState) → StandsAsBefore old mid → page.stream ≡ old.stream → number ≡ page.page → MayStoreAndBegin u past pass file page bytes old → MayDoOnBook u past pass (call.NcStore file number bytes) reply.Unit mid
 may-store u past pass file page number bytes old mid kept here same may = record {
   good = subst (λ (n : ℕ). IsGoodSoFar u (done pass past mid.stream (call.NcStore file n bytes) reply.Unit ∷ past)) (sym same)
       (subst (λ (s : ℕ). IsGoodSoFar u (done pass past s (call.NcStore file page.page bytes) reply.Unit ∷ past)) (here ∙ sym kept.stream)

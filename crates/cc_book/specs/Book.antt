@@ -9,10 +9,10 @@ use Rattle.cc_entry.specs.declared.entry.Entry.TheVariants as entry
 use Rattle.cc_entry.specs.declared.reply.Outcome.TheVariants as outcome
 use Rattle.cc_model.specs.Passes.{calls_of}
 use Rattle.cc_entry.specs.declared.entry.Entry.{Entry}
-use Rattle.cc_book.specs.declared.book.Parts.{Parts}
-use Rattle.cc_ahead.specs.Kept.{Kept, PrivateStands}
-use Rattle.cc_holds.specs.declared.holds.Hold.{Hold}
-use Rattle.cc_content.specs.Contents.{Contents, ContentsStand, IsByteOf}
+use Rattle.cc_book.specs.declared.book.BookParts.{BookParts}
+use Rattle.cc_ahead.specs.Kept.{ObjectReads, PrivateStands}
+use Rattle.cc_holds.specs.declared.holds.KeptHold.{KeptHold}
+use Rattle.cc_content.specs.Contents.{Contents, ContentsStand, IsByteOfContents}
 use Rattle.cc_content.specs.Following.{truncated_by}
 use Rattle.cc_content.specs.Owned.{OwnsChanged}
 use Rattle.cc_holds.specs.Stands.{HoldsStand}
@@ -30,13 +30,13 @@ use Rattle.cc_stream.specs.Stream.{Stream, StreamStands}
 pub record BookState : Type 0 where
   pub stream : ℕ
   pub state : Stream
-  pub maps : List Kept
-  pub holds : List Hold
+  pub maps : List ObjectReads
+  pub holds : List KeptHold
   pub contents : Contents
   pub images : Images
 
 -- a book of this stream and these parts
-abbrev pub book_of : ℕ → Parts → BookState
+abbrev pub book_of : ℕ → BookParts → BookState
 book_of stream parts = record {
   stream = stream;
   state = parts.state;
@@ -55,8 +55,8 @@ pub record BookStands (opening : Option (ℕ → List ℕ)) (past : List Entry) 
   pub images_are : ImagesStand (history past b.stream) b.images
 
 -- An entry may be placed on the past for which the book stands: over some setup the journal is good with it.
-abbrev pub MayPlace : List Entry → Entry → BookState → Type 0
-MayPlace past e b = (u : Setup) × IsGoodSoFar u (e ∷ past) × BookStands (u.opening b.stream) past b
+abbrev pub MayPlaceOnBook : List Entry → Entry → BookState → Type 0
+MayPlaceOnBook past e b = (u : Setup) × IsGoodSoFar u (e ∷ past) × BookStands (u.opening b.stream) past b
 
 -- the journal gained one entry, for which a place was reserved
 abbrev pub Gains : {Q : Type 0} → Entry → JournalState Q → JournalState Q → Type 0
@@ -81,11 +81,11 @@ Stays journal now old new = (now ≡ journal) × StandsAsBefore old new
 pub record IsSnapshot (b : BookState) (page : ℕ) (bytes : List ℕ) : Type 0 where
   pub whole : length bytes ≡ 4096
   pub bytes_are : (opening : Option (ℕ → List ℕ)) (past : List Entry) → BookStands opening past b → (i : ℕ) → i < 4096
-      → IsByteOf opening (history past b.stream) (4096 * page + i) (slice_index bytes i)
+      → IsByteOfContents opening (history past b.stream) (4096 * page + i) (slice_index bytes i)
 
 -- the entry of a page that comes in: from the disk where it has a byte below the valid data length
-abbrev pub page_in : ℕ → Page → BookState → Entry
-page_in pass page b = entry.PageIn pass page (nat_lt (4096 * page.page) b.contents.valid)
+abbrev pub book_page_in : ℕ → Page → BookState → Entry
+book_page_in pass page b = entry.PageIn pass page (nat_lt (4096 * page.page) b.contents.valid)
 
 -- the entry of a pass's next call, on this stream, that failed
 abbrev pub failed : ℕ → List Entry → ℕ → Call → CcError → Entry
@@ -96,7 +96,7 @@ abbrev pub done : ℕ → List Entry → ℕ → Call → Reply → Entry
 done pass past stream call reply = entry.Call pass (suc (calls_of past pass)) (Some stream) call (outcome.Done reply)
 
 -- A call may be done: over this setup the journal is good with it, and the book stands for the past.
-pub record MayDo (u : Setup) (past : List Entry) (pass : ℕ) (call : Call) (reply : Reply) (b : BookState) : Type 0 where
+pub record MayDoOnBook (u : Setup) (past : List Entry) (pass : ℕ) (call : Call) (reply : Reply) (b : BookState) : Type 0 where
   pub good : IsGoodSoFar u (done pass past b.stream call reply ∷ past)
   pub stands : BookStands (u.opening b.stream) past b
 
@@ -105,7 +105,7 @@ pub record IsDoing (call : Call) (reply : Reply) (mapped : Bool) (b : BookState)
   pub u : Setup
   pub past : List Entry
   pub pass : ℕ
-  pub may : MayDo u past pass call reply b
+  pub may : MayDoOnBook u past pass call reply b
   pub mapped_is : mapped ≡ is_mapped (Did pass call reply ∷ history past b.stream)
 
 -- what is kept of a stream beside its images stands for this history
@@ -119,7 +119,7 @@ pub record StandsFor (opening : Option (ℕ → List ℕ)) (h : List Effect) (b 
 -- done and the flag says whether there is a map after it
 abbrev pub GoesOnBy : ℕ → Call → Reply → Bool → BookState → BookState → Type 0
 GoesOnBy pass call reply mapped old new =
-    (u : Setup) (past : List Entry) → MayDo u past pass call reply old →
+    (u : Setup) (past : List Entry) → MayDoOnBook u past pass call reply old →
     mapped ≡ is_mapped (Did pass call reply ∷ history past old.stream) →
     StandsFor (u.opening old.stream) (Did pass call reply ∷ history past old.stream) new
 
@@ -147,10 +147,10 @@ takes_memory (call.MdlWrite file at len) = true
 takes_memory other = false
 
 -- the room is for the pages of the map that a call makes, and there is none where it makes none
-abbrev pub IsRoomFor : List Effect → Call → Option ℕ → Type 0
-IsRoomFor h call None = makes_map h call ≡ false
-IsRoomFor h (call.Initialise file sizes quota temporary) (Some pages) = (is_mapped h ≡ false) × (64 * quota ≤ pages)
-IsRoomFor h other (Some pages) = ⊥
+abbrev pub IsMapRoomFor : List Effect → Call → Option ℕ → Type 0
+IsMapRoomFor h call None = makes_map h call ≡ false
+IsMapRoomFor h (call.Initialise file sizes quota temporary) (Some pages) = (is_mapped h ≡ false) × (64 * quota ≤ pages)
+IsMapRoomFor h other (Some pages) = ⊥
 
 -- The images of a book may follow a done call, as the last of it: the journal with it is good, they stand for the
 -- past, the room is for the map that the call makes, and these are the valid data lengths before and after it.
@@ -158,7 +158,7 @@ pub record ImagesMayFollow (u : Setup) (past : List Entry) (pass : ℕ) (call : 
     (was : ℕ) (b : BookState) : Type 0 where
   pub good : IsGoodSoFar u (done pass past b.stream call reply ∷ past)
   pub stands : ImagesStand (history past b.stream) b.images
-  pub room_is : IsRoomFor (history past b.stream) call room
+  pub room_is : IsMapRoomFor (history past b.stream) call room
   pub was_is : was ≡ valid_of (history past b.stream)
   pub now_is : b.contents.valid ≡ valid_of (Did pass call reply ∷ history past b.stream)
 

@@ -4,14 +4,14 @@ ghost use Rattle.std.specs.Prelude.{◌≡◌, ℕ, ◌+◌, ◌*◌, ◌<◌, [
 ghost use Rattle.cc_entry.specs.declared.entry.Entry.{Entry};
 ghost use Rattle.cc_entry.specs.declared.entry.Entry.TheVariants as entry;
 ghost use Rattle.cc_model.specs.History.{history};
-ghost use Rattle.cc_content.specs.Contents.{IsByteOf};
+ghost use Rattle.cc_content.specs.Contents.{IsByteOfContents};
 ghost use Rattle.cc_content.specs.Filling.{IsReadFrom};
 ghost use Rattle.cc_model.specs.ReadAhead.{ahead_of};
 ghost use Rattle.std.specs.List.{find};
 ghost use Rattle.std.specs.Option.{option_map};
 ghost use Rattle.cc_entry.specs.Pages.{pages_of};
 ghost use Rattle.cc_model.specs.Ranges.{cut_range};
-ghost use Rattle.cc_model.specs.Residency.{block_is_mapped, is_resident, mapped_blocks};
+ghost use Rattle.cc_model.specs.Residency.{block_is_mapped, is_resident, mapped_block_count};
 ghost use Rattle.cc_model.specs.Holds.{hold_at, holds_of, is_held};
 ghost use Rattle.cc_model.specs.Numbers.{is_among};
 ghost use Rattle.cc_model.specs.Objects.{had_map, objects};
@@ -22,8 +22,8 @@ ghost use Rattle.cc_model.specs.Setup.{Setup};
 ghost use Rattle.cc_model.specs.Stamps.{is_unstamped};
 ghost use Rattle.cc_effects.specs.Asked.{block_to_go};
 ghost use Rattle.cc_holds.specs.Stands.{shown, shown_row};
-ghost use Rattle.cc_refusal.specs.Known.{IsLeastAbsent};
-ghost use Rattle.cc_book.specs.Book.{BookStands, MayPlace, Gains, GoesOn, Stays, IsSnapshot, page_in, failed};
+ghost use Rattle.cc_refusal.specs.Known.{AreFreeViews, IsLeastAbsent};
+ghost use Rattle.cc_book.specs.Book.{BookStands, MayPlaceOnBook, Gains, GoesOn, Stays, IsSnapshot, book_page_in, failed};
 ghost use Rattle.cc_model.specs.Room.{owes_set_dirty};
 
 use cc_ahead::PrivateMaps;
@@ -44,12 +44,12 @@ use std::marker::Model;
 #[derive(Drop)]
 pub struct Book {
     pub(crate) stream: StreamId,
-    pub(crate) parts: Box<Parts>,
+    pub(crate) parts: Box<BookParts>,
 }
 
 /// The parts of a book.
 #[derive(Drop)]
-pub(crate) struct Parts {
+pub(crate) struct BookParts {
     pub(crate) state: StreamState,
     pub(crate) maps: PrivateMaps,
     pub(crate) holds: OpenHolds,
@@ -72,7 +72,7 @@ impl Book {
         ensures stands { IfOk result (λ book. (opening : Option (ℕ → List ℕ)) (past : List Entry) →
             history past stream ≡ [] → BookStands opening past book) }
     {
-        let parts = Parts {
+        let parts = BookParts {
             state: StreamState::new(),
             maps: PrivateMaps::new(),
             holds: OpenHolds::new(alloc),
@@ -199,7 +199,7 @@ impl Book {
     /// How many view blocks are mapped.
     pub fn mapped(&self) -> u32
         ensures { (opening : Option (ℕ → List ℕ)) (past : List Entry) → BookStands opening past self.now →
-            result ≡ mapped_blocks (history past self.now.stream) }
+            result ≡ mapped_block_count (history past self.now.stream) }
     {
         self.parts.contents.mapped()
     }
@@ -219,7 +219,7 @@ impl Book {
             is_some result ≡ is_resident (history past self.now.stream) page }
         ensures bytes { (opening : Option (ℕ → List ℕ)) (past : List Entry) → BookStands opening past self.now →
             IfSome result (λ bytes. (i : ℕ) → i < 4096 →
-            IsByteOf opening (history past self.now.stream) (4096 * page + i) (slice_index bytes.now i)) }
+            IsByteOfContents opening (history past self.now.stream) (4096 * page + i) (slice_index bytes.now i)) }
     {
         self.parts.contents.get(page)
     }
@@ -267,9 +267,9 @@ impl Book {
             images: &parts.images,
             dirty: journal.dirty().rows(),
             logs: journal.logs(),
-            free_views: journal.free_views(),
         };
-        refusal(alloc, &known, call, self.least_absent(call))
+        let free_views = free_views_for(journal, call);
+        refusal(alloc, &known, call, self.least_absent(call), free_views)
     }
 
     /// The view block to give up so that one of the span can be mapped: the least recently used one that has no
@@ -288,7 +288,7 @@ impl Book {
     pub fn take_out<Q>(&mut self, journal: &mut Journal<Q>, pass: u32, page: PageId)
         requires stream { page.stream ≡ self.old.stream }
         requires reserved { 0 < journal.old.reserved }
-        requires may { MayPlace journal.old.entries (entry.PageOut pass page) self.old }
+        requires may { MayPlaceOnBook journal.old.entries (entry.PageOut pass page) self.old }
         ensures placed { Gains (entry.PageOut pass page) journal.old journal.new }
         ensures stands { GoesOn journal.old.entries journal.new.entries self.old self.new }
         ensures stream { self.new.stream ≡ self.old.stream }
@@ -308,8 +308,8 @@ impl Book {
     ) -> Result<(), NoMemory>
         requires stream { page.stream ≡ self.old.stream }
         requires reserved { 0 < journal.old.reserved }
-        requires may { MayPlace journal.old.entries (page_in pass page self.old) self.old }
-        ensures placed { OnOk result (Gains (page_in pass page self.old) journal.old journal.new) }
+        requires may { MayPlaceOnBook journal.old.entries (book_page_in pass page self.old) self.old }
+        ensures placed { OnOk result (Gains (book_page_in pass page self.old) journal.old journal.new) }
         ensures stands { OnOk result ((opening : Option (ℕ → List ℕ)) →
             IsReadFrom opening (history journal.old.entries self.old.stream) page.page raw.now →
             BookStands opening journal.old.entries self.old → BookStands opening journal.new.entries self.new) }
@@ -337,7 +337,7 @@ impl Book {
     ) -> Result<Frame, NoMemory>
         requires stream { page.stream ≡ self.old.stream }
         requires reserved { 0 < journal.old.reserved }
-        requires may { MayPlace journal.old.entries (entry.WriteBegin pass page) self.old }
+        requires may { MayPlaceOnBook journal.old.entries (entry.WriteBegin pass page) self.old }
         ensures placed { OnOk result (Gains (entry.WriteBegin pass page) journal.old journal.new) }
         ensures snapshot { IfOk result (IsSnapshot self.old page.page) }
         ensures stands { OnOk result (GoesOn journal.old.entries journal.new.entries self.old self.new) }
@@ -360,7 +360,7 @@ impl Book {
     pub fn end<Q>(&mut self, journal: &mut Journal<Q>, pass: u32, page: PageId, how: End)
         requires stream { page.stream ≡ self.old.stream }
         requires reserved { 0 < journal.old.reserved }
-        requires may { MayPlace journal.old.entries (entry.WriteEnd pass page how) self.old }
+        requires may { MayPlaceOnBook journal.old.entries (entry.WriteEnd pass page how) self.old }
         ensures placed { Gains (entry.WriteEnd pass page how) journal.old journal.new }
         ensures stands { GoesOn journal.old.entries journal.new.entries self.old self.new }
         ensures stream { self.new.stream ≡ self.old.stream }
@@ -375,7 +375,7 @@ impl Book {
     /// A call on the stream failed.
     pub fn fail<Q>(&mut self, journal: &mut Journal<Q>, pass: u32, call: Call, error: CcError)
         requires reserved { 0 < journal.old.reserved }
-        requires may { MayPlace journal.old.entries (failed pass journal.old.entries self.old.stream call error) self.old }
+        requires may { MayPlaceOnBook journal.old.entries (failed pass journal.old.entries self.old.stream call error) self.old }
         ensures placed { Gains (failed pass journal.old.entries self.old.stream call error) journal.old journal.new }
         ensures stands { GoesOn journal.old.entries journal.new.entries self.old self.new }
         ensures same { self.new ≡ self.old }
@@ -416,5 +416,15 @@ impl Book {
         let end = u128::from(at) + u128::from(len);
         let to = end.min(u128::from(parts.state.size())) as u64;
         parts.contents.first_absent(at, to)
+    }
+}
+
+// How many of the 256 views no mapped stream has taken, where the call is an initialise. They are added up for it alone.
+fn free_views_for<Q>(journal: &Journal<Q>, call: &Call) -> u16
+    ensures { AreFreeViews journal.now.entries call.now result }
+{
+    match call {
+        Call::Initialise { .. } => journal.free_views(),
+        _ => 0,
     }
 }

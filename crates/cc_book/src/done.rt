@@ -9,15 +9,15 @@ ghost use Rattle.cc_model.specs.Touches.{is_mapped};
 ghost use Rattle.cc_model.specs.Setup.{Setup};
 ghost use Rattle.cc_laws.proofs.HoldSteps.{changes_holds};
 ghost use Rattle.cc_content.specs.Contents.{ContentsStand};
-ghost use Rattle.cc_content.specs.Following.{truncated_by, takes_memory as contents_take};
+ghost use Rattle.cc_content.specs.Following.{truncated_by, takes_content_memory as contents_take};
 ghost use Rattle.cc_images.specs.Begins.{HasRoomToBegin};
 ghost use Rattle.cc_images.specs.Images.{ImagesStand};
 ghost use Rattle.cc_stream.specs.Stream.{StreamStands};
 ghost use Rattle.cc_ahead.specs.Kept.{PrivateStands};
-ghost use Rattle.cc_book.specs.Book.{BookStands, Gains, Stays, StandsAsBefore, done, MayDo, IsDoing, GoesOnBy, OwnsFor, IsRoomFor, ImagesMayFollow, ImagesFollow, takes_memory};
+ghost use Rattle.cc_book.specs.Book.{BookStands, Gains, Stays, StandsAsBefore, done, MayDoOnBook, IsDoing, GoesOnBy, OwnsFor, IsMapRoomFor, ImagesMayFollow, ImagesFollow, takes_memory};
 ghost use Rattle.cc_book.specs.Stored.{MayStoreAndBegin, GainsStore};
 
-use crate::book::{Book, Parts};
+use crate::book::{Book, BookParts};
 use cc_entry::{Bytes, Call, Entry, FileId, NoMemory, Outcome, PageId, Reply};
 use cc_events::id_in;
 use cc_images::Room;
@@ -39,10 +39,10 @@ impl Book {
         reply: Reply,
     ) -> Result<(), NoMemory>
         requires reserved { 0 < journal.old.reserved }
-        requires may { (u : Setup) × MayDo u journal.old.entries pass call reply self.old }
+        requires may { (u : Setup) × MayDoOnBook u journal.old.entries pass call reply self.old }
         ensures placed { OnOk result
             (Gains (done pass journal.old.entries self.old.stream call reply) journal.old journal.new) }
-        ensures stands { OnOk result ((u : Setup) → MayDo u journal.old.entries pass call reply self.old →
+        ensures stands { OnOk result ((u : Setup) → MayDoOnBook u journal.old.entries pass call reply self.old →
             BookStands (u.opening self.old.stream) journal.new.entries self.new) }
         ensures stream { self.new.stream ≡ self.old.stream }
         ensures err { OnErr result (Stays journal.old journal.new self.old self.new) }
@@ -116,7 +116,7 @@ impl Book {
     // Whether the stream has a shared map after a done call.
     fn is_mapped_after<Q>(&self, journal: &Journal<Q>, call: &Call) -> bool
         ensures { (u : Setup) (pass : ℕ) (reply : Reply) →
-            MayDo u journal.now.entries pass call.now reply self.now →
+            MayDoOnBook u journal.now.entries pass call.now reply self.now →
             result ≡ is_mapped (Did pass call.now reply ∷ history journal.now.entries self.now.stream) }
     {
         match call {
@@ -129,7 +129,7 @@ impl Book {
     // Room for the pages of the map that a call makes, and none where it makes none.
     fn room_for(&self, alloc: Global, call: &Call) -> Result<Option<Room>, NoMemory>
         ensures room { IfOk result (λ room. (opening : Option (ℕ → List ℕ)) (h : List Effect) →
-            ContentsStand opening h self.now.contents → IsRoomFor h call.now room) }
+            ContentsStand opening h self.now.contents → IsMapRoomFor h call.now room) }
         ensures sure { takes_memory call.now ≡ false → IsOk result }
     {
         match call {
@@ -279,7 +279,7 @@ impl Book {
     }
 }
 
-impl Parts {
+impl BookParts {
     // Follows a done call with what is set for the stream, and with its private maps.
     fn set(&mut self, call: &Call, reply: &Reply, was_mapped: bool)
         ensures same { self.new ≡ record self.old { state = self.new.state; maps = self.new.maps } }

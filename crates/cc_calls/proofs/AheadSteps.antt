@@ -47,7 +47,7 @@ use Rattle.cc_writes.specs.declared.tell.Returned.TheVariants as returned
 use Rattle.cc_writes.proofs.OneVisit.{Visiting, Visited, visited, visited-there, visiting, stepping-none}
 use Rattle.cc_writes.proofs.Others.{under_way-on}
 use Rattle.cc_writes.proofs.Replies.{full-stopped}
-use Rattle.cc_calls.specs.Ahead.{PassedOver, Served}
+use Rattle.cc_calls.specs.Ahead.{PassedOver, RequestServed}
 use Rattle.cc_calls.specs.Answers.{IsFree}
 use Rattle.cc_calls.specs.Paged.{Paged}
 use Rattle.cc_calls.proofs.LogCalls.{idle-grows}
@@ -68,7 +68,7 @@ module _ (w v : Standing) (request : Request) (was now : List ℕ) where
       let tells = rw r.1 at c.left.2 in
       (r.0, tells.0, rw r.1 at c.left.1)
 
-  pub step-done : (whole : Bool) → Paged w v (call.AheadStep request) (Ok (returned.Flag whole)) was now → Served w v request (Ok whole)
+  pub step-done : (whole : Bool) → Paged w v (call.AheadStep request) (Ok (returned.Flag whole)) was now → RequestServed w v request (Ok whole)
   step-done whole c =
       let told = told-whole (returned.Flag whole) c in
       record { left = rw (inner told.0 told.1) told.2; full = inl (tt, inl tt); missed = c.missed; goes_on = c.goes_on; good = c.good }
@@ -80,7 +80,7 @@ module _ (w v : Standing) (request : Request) (was now : List ℕ) where
   pub step-told : (told : Returned) → ((whole : Bool) → told ≡ returned.Flag whole → ⊥) → Paged w v (call.AheadStep request) (Ok told) was now → ⊥
   step-told told other c = let k = told-whole told c in other k.0 k.1
 
-  pub step-failed : (e : CcError) → Paged w v (call.AheadStep request) (Err e) was now → Served w v request (Err e)
+  pub step-failed : (e : CcError) → Paged w v (call.AheadStep request) (Err e) was now → RequestServed w v request (Err e)
   step-failed e c = record { left = c.left.0; full = c.full; missed = c.missed; goes_on = c.goes_on; good = c.good }
 
 -- ---- of a stream that there is not
@@ -178,7 +178,7 @@ module _ {Q : Type 0} (posted : Q → Bool) (w v : Standing) (request : Request)
           subst (λ (x : CcError). CallLeft w.setup w.number (call.AheadStep request) (outcome.Failed x) w.seen j.entries) (sym none.0)
           (gives_up w.number (call.AheadStep request) error.NoMemory w.seen j.entries way refl refl)
 
-  passed-served : (answer : Result Bool CcError) → PassedOver w.number request answer j k → Served w (without_journal k v) request answer
+  passed-served : (answer : Result Bool CcError) → PassedOver w.number request answer j k → RequestServed w (without_journal k v) request answer
   passed-served (Ok whole) left =
       let given = passed-visited (Ok whole) left in
       record {
@@ -214,5 +214,5 @@ module _ {Q : Type 0} (posted : Q → Bool) (w v : Standing) (request : Request)
   pub gives-passed : Visited posted w v w.in_flight k
   gives-passed = passed-visited posted w v request j k can beyond vis answer mine
 
-  pub whole-passed : (z : Standing) → z ≡ without_journal k v → Served w z request answer
-  whole-passed z is = subst (λ (x : Standing). Served w x request answer) (sym is) (passed-served posted w v request j k can beyond vis answer mine)
+  pub whole-passed : (z : Standing) → z ≡ without_journal k v → RequestServed w z request answer
+  whole-passed z is = subst (λ (x : Standing). RequestServed w x request answer) (sym is) (passed-served posted w v request j k can beyond vis answer mine)

@@ -11,7 +11,7 @@ use Rattle.cc_entry.specs.declared.place.Request.{Request}
 use Rattle.cc_entry.specs.declared.reply.Outcome.{Outcome}
 use Rattle.cc_entry.specs.declared.reply.Outcome.TheVariants as outcome
 use Rattle.cc_entry.specs.declared.reply.Reply.TheVariants as reply
-use Rattle.cc_book.specs.Book.{BookState, BookStands, Gains, GoesOn, MayDo, MayPlace, done, failed}
+use Rattle.cc_book.specs.Book.{BookState, BookStands, Gains, GoesOn, MayDoOnBook, MayPlaceOnBook, done, failed}
 use Rattle.cc_effects.specs.Calls.{CallLeft}
 use Rattle.cc_effects.proofs.CallSteps.{left-before}
 use Rattle.cc_effects.proofs.Starts.{begins, ends_refused}
@@ -30,7 +30,7 @@ use Rattle.cc_step.proofs.PlacedPages.{stand-onto}
 use Rattle.cc_model.specs.ReadAhead.{ahead_of}
 use Rattle.cc_model.specs.Refusals.{refusal}
 use Rattle.cc_step.proofs.Reasons.{is_listed, refusal-listed}
-use Rattle.cc_turns.specs.Standing.{Held, Standing}
+use Rattle.cc_turns.specs.Standing.{TurnsHeld, Standing}
 use Rattle.cc_turns.specs.Takes.{Takes, with_book, without_book, without_journal}
 use Rattle.cc_writes.specs.Fetch.{CanCall}
 use Rattle.cc_writes.specs.Hands.{HasBook, Went}
@@ -61,7 +61,7 @@ module _ {Q : Type 0} (u : Setup) (pass : ℕ) (file : File) (at len : ℕ) (b :
       good-done u j.entries pass b.stream it (reply.Ahead request) refl may.stand.good may.filed (record { admitted = decided.0; filled = tt }) (ap reply.Ahead decided.1)
 
   -- the call may be done with the request
-  pub may-ask : (request : Option Request) → IsDecided u j.entries b.stream file at len (Ok request) → MayDo u j.entries pass it (reply.Ahead request) b
+  pub may-ask : (request : Option Request) → IsDecided u j.entries b.stream file at len (Ok request) → MayDoOnBook u j.entries pass it (reply.Ahead request) b
   may-ask request decided = record { good = so-far u _ (good-asked request decided); stands = may.stand.stands }
 
   -- or it may fail, as it was decided
@@ -71,7 +71,7 @@ module _ {Q : Type 0} (u : Setup) (pass : ℕ) (file : File) (at len : ℕ) (b :
   good-turned error.NoMemory some decided = absurd (some refl)
   good-turned e some decided = good-failed u j.entries pass b.stream it e refl may.stand.good may.filed decided
 
-  pub may-turn : (e : CcError) → (e ≡ error.NoMemory → ⊥) → IsDecided u j.entries b.stream file at len (Err e) → MayPlace j.entries (failed pass j.entries b.stream it e) b
+  pub may-turn : (e : CcError) → (e ≡ error.NoMemory → ⊥) → IsDecided u j.entries b.stream file at len (Err e) → MayPlaceOnBook j.entries (failed pass j.entries b.stream it e) b
   may-turn e some decided = (u, so-far u _ (good-turned e some decided), may.stand.stands)
 
   -- the place of the end that the pass owed is reserved still
@@ -141,14 +141,14 @@ module _ {Q : Type 0} (u : Setup) (pass : ℕ) (file : File) (at len : ℕ) (b :
         some : (now was : ℕ) → now ≡ was + 1 → 0 < now
         some now was more = omega (arith, more)
 
-    pub reserved-may : (request told : Option Request) → told ≡ request → IsDecided u r.entries b.stream file at len (Ok request) → MayDo u r.entries pass it (reply.Ahead told) b
+    pub reserved-may : (request told : Option Request) → told ≡ request → IsDecided u r.entries b.stream file at len (Ok request) → MayDoOnBook u r.entries pass it (reply.Ahead told) b
     reserved-may =
-        subst (λ (x : JournalState Q). (request told : Option Request) → told ≡ request → IsDecided u x.entries b.stream file at len (Ok request) → MayDo u x.entries pass it (reply.Ahead told) b) (sym same)
-        (λ request told is decided. subst (λ (o : Option Request). MayDo u j.entries pass it (reply.Ahead o) b) (sym is) (may-ask request decided))
+        subst (λ (x : JournalState Q). (request told : Option Request) → told ≡ request → IsDecided u x.entries b.stream file at len (Ok request) → MayDoOnBook u x.entries pass it (reply.Ahead told) b) (sym same)
+        (λ request told is decided. subst (λ (o : Option Request). MayDoOnBook u j.entries pass it (reply.Ahead o) b) (sym is) (may-ask request decided))
 
-    pub reserved-turn : (e : CcError) → (e ≡ error.NoMemory → ⊥) → IsDecided u r.entries b.stream file at len (Err e) → MayPlace r.entries (failed pass r.entries b.stream it e) b
+    pub reserved-turn : (e : CcError) → (e ≡ error.NoMemory → ⊥) → IsDecided u r.entries b.stream file at len (Err e) → MayPlaceOnBook r.entries (failed pass r.entries b.stream it e) b
     reserved-turn =
-        subst (λ (x : JournalState Q). (e : CcError) → (e ≡ error.NoMemory → ⊥) → IsDecided u x.entries b.stream file at len (Err e) → MayPlace x.entries (failed pass x.entries b.stream it e) b) (sym same) may-turn
+        subst (λ (x : JournalState Q). (e : CcError) → (e ≡ error.NoMemory → ⊥) → IsDecided u x.entries b.stream file at len (Err e) → MayPlaceOnBook x.entries (failed pass x.entries b.stream it e) b) (sym same) may-turn
 
     pub reserved-owed : (e : Entry) (owed : ℕ) (k : JournalState Q) → Gains e r k → owed ≡ owed_end r.entries pass → owed ≤ k.reserved
     reserved-owed =
@@ -261,8 +261,8 @@ module _ {A : Type 0} (told : Result A CcError → Outcome) (w v x y : Standing)
         gave
         ∙ (ap without_book ends.goes_on.same
         ∙ (ap (λ (z : Standing). record z { held = record z.held { book = None }; seen = x.seen; others = x.others }) took.same
-        ∙ (ap (λ (h : Held). record w { seen = x.seen; held = record h { book = None }; others = x.others }) can.free
-        ∙ (sym (ap (λ (h : Held). record w { seen = x.seen; held = h; others = x.others }) can.free)
+        ∙ (ap (λ (h : TurnsHeld). record w { seen = x.seen; held = record h { book = None }; others = x.others }) can.free
+        ∙ (sym (ap (λ (h : TurnsHeld). record w { seen = x.seen; held = h; others = x.others }) can.free)
         ∙ ap (λ (z : Standing). record w { seen = z.seen; others = z.others }) (sym gave)))));
   }
 

@@ -47,7 +47,7 @@ use Rattle.cc_writes.proofs.VisitDisks.{disk-call, disk-then}
 use Rattle.cc_writes.proofs.Visiting.{Visited, Visiting, visited, visiting}
 use Rattle.cc_ranges.proofs.ReadPlacing.{owes, stepping-owing}
 use Rattle.cc_calls.specs.Answers.{outcome_of}
-use Rattle.cc_calls.specs.Discards.{DiscardDid, DiscardEnds, IsDiscarded, IsPlaced, IsReason, IsRefused, StepLeft}
+use Rattle.cc_calls.specs.Discards.{DiscardDid, DiscardEnds, IsDiscarded, DiscardIsPlaced, IsDiscardReason, DiscardIsRefused, DiscardStepLeft}
 use Rattle.cc_calls.proofs.Dropped.{discarded, reason-of, refused}
 use Rattle.cc_calls.proofs.FlushCalls.{setup-both, went-both}
 use Rattle.cc_calls.proofs.Fronts.{outcome-is}
@@ -78,9 +78,9 @@ module _ {Q : Type 0} (posted : Q → Bool) (w v : Standing) (file : File) (span
   may-as : (pass : ℕ) → pass ≡ v.number → MayFill w.setup pass it b j
   may-as pass me = subst (λ (n : ℕ). MayFill w.setup n it b j) (sym (me ∙ vis.number_is)) may-step
 
-  step-left : (pass : ℕ) (answer : Result (Unit {0}) CcError) → pass ≡ v.number → ((u : Setup) → MayFill u pass it b j → StepLeft u pass file span answer b c j k) → StepLeft w.setup w.number file span answer b c j k
+  step-left : (pass : ℕ) (answer : Result (Unit {0}) CcError) → pass ≡ v.number → ((u : Setup) → MayFill u pass it b j → DiscardStepLeft u pass file span answer b c j k) → DiscardStepLeft w.setup w.number file span answer b c j k
   step-left pass answer me left =
-      subst (λ (n : ℕ). StepLeft w.setup n file span answer b c j k) (me ∙ vis.number_is) (left w.setup (may-as pass me))
+      subst (λ (n : ℕ). DiscardStepLeft w.setup n file span answer b c j k) (me ∙ vis.number_is) (left w.setup (may-as pass me))
 
   -- what it gives
   done-given : AttemptDone w.setup w.number it reply.Unit b c j k → Visited posted w v b.stream w.in_flight c k
@@ -100,7 +100,7 @@ module _ {Q : Type 0} (posted : Q → Bool) (w v : Standing) (file : File) (span
       visited posted w v b.stream w.in_flight [] b c j k has vis
       (stepping-same posted w v b c j k has vis left.same_journal left.stand left.stream)
 
-  given : (answer : Result (Unit {0}) CcError) → StepLeft w.setup w.number file span answer b c j k → Visited posted w v b.stream w.in_flight c k
+  given : (answer : Result (Unit {0}) CcError) → DiscardStepLeft w.setup w.number file span answer b c j k → Visited posted w v b.stream w.in_flight c k
   given (Ok _) left = done-given left
   given (Err (error.JournalFull entries)) left = none-given left.1
   given (Err error.NoMemory) left = none-given left.1
@@ -116,7 +116,7 @@ module _ {Q : Type 0} (posted : Q → Bool) (w v : Standing) (file : File) (span
   entries-same : FoundNone w.setup b c j k → k.entries ≡ j.entries
   entries-same left = ap (λ (x : JournalState Q). x.entries) left.same_journal
 
-  disk-left : (answer : Result (Unit {0}) CcError) → StepLeft w.setup w.number file span answer b c j k → SameDisk w.seen k.entries b.stream
+  disk-left : (answer : Result (Unit {0}) CcError) → DiscardStepLeft w.setup w.number file span answer b c j k → SameDisk w.seen k.entries b.stream
   disk-left (Ok _) left = disk-then-call (outcome.Done reply.Unit) (ap (λ (x : JournalState Q). x.entries) left.placed)
   disk-left (Err (error.JournalFull entries)) left =
       subst (λ (past : List Entry). SameDisk w.seen past b.stream) (sym (entries-same left.1)) disk-front
@@ -125,7 +125,7 @@ module _ {Q : Type 0} (posted : Q → Bool) (w v : Standing) (file : File) (span
   disk-left (Err other) left = disk-then-call (outcome.Failed other) (ap (λ (x : JournalState Q). x.entries) left.placed)
 
   -- why it was refused
-  reason : (e : CcError) → AttemptRefused w.setup w.number it e b c j k → IsReason (history j.entries b.stream) file span e
+  reason : (e : CcError) → AttemptRefused w.setup w.number it e b c j k → IsDiscardReason (history j.entries b.stream) file span e
   reason e left = reason-of w.setup j.entries (history j.entries b.stream) file span e left.reason
 
   -- what it left of the call that was under way
@@ -136,14 +136,14 @@ module _ {Q : Type 0} (posted : Q → Bool) (w v : Standing) (file : File) (span
     abbrev Left : CcError → List Entry → Type 0
     Left e past = CallLeft w.setup w.number it (outcome.Failed e) begun past
 
-    refused-call : (e : CcError) → IsReason (history j.entries b.stream) file span e → Left e (entry.Call w.number (suc (calls_of j.entries w.number)) (Some b.stream) it (outcome.Failed e) ∷ j.entries)
+    refused-call : (e : CcError) → IsDiscardReason (history j.entries b.stream) file span e → Left e (entry.Call w.number (suc (calls_of j.entries w.number)) (Some b.stream) it (outcome.Failed e) ∷ j.entries)
     refused-call error.NotCached because = inl (ends_refused w.number (suc (calls_of j.entries w.number)) (Some b.stream) it error.NotCached begun j.entries on filed refl)
     refused-call (error.Held id) because = inl (ends_refused w.number (suc (calls_of j.entries w.number)) (Some b.stream) it (error.Held id) begun j.entries on filed refl)
     refused-call (error.Unsettled page) because = inl (ends_refused w.number (suc (calls_of j.entries w.number)) (Some b.stream) it (error.Unsettled page) begun j.entries on filed refl)
     refused-call (error.Grown page) because = inl (ends_refused w.number (suc (calls_of j.entries w.number)) (Some b.stream) it (error.Grown page) begun j.entries on filed refl)
     refused-call other because = absurd because
 
-    call-left : (answer : Result (Unit {0}) CcError) → StepLeft w.setup w.number file span answer b c j k → CallLeft w.setup w.number it (outcome_of answer) begun k.entries
+    call-left : (answer : Result (Unit {0}) CcError) → DiscardStepLeft w.setup w.number file span answer b c j k → CallLeft w.setup w.number it (outcome_of answer) begun k.entries
     call-left (Ok _) left =
         subst (λ (past : List Entry). CallLeft w.setup w.number it (outcome.Done reply.Unit) begun past) (sym (ap (λ (x : JournalState Q). x.entries) left.placed))
         (ends_done w.number (suc (calls_of j.entries w.number)) (Some b.stream) it reply.Unit begun j.entries on filed (λ during. tt))
@@ -174,9 +174,9 @@ module _ {Q : Type 0} (posted : Q → Bool) (w v : Standing) (file : File) (span
       admitted : refusal w.setup j.entries (history j.entries file.stream) it ≡ None
       admitted = ended.0
 
-  refused-here : (e : CcError) → AttemptRefused w.setup w.number it e b c j k → IsRefused w.number file span e w.seen k.entries
+  refused-here : (e : CcError) → AttemptRefused w.setup w.number it e b c j k → DiscardIsRefused w.number file span e w.seen k.entries
   refused-here e left =
-      subst (λ (past : List Entry). IsRefused w.number file span e w.seen past) (sym placed)
+      subst (λ (past : List Entry). DiscardIsRefused w.number file span e w.seen past) (sym placed)
       (refused w.setup w.number (suc (calls_of j.entries w.number)) file span e w.seen j.entries vis.idle
       (subst (λ (n : ℕ). refusal w.setup j.entries (history j.entries n) it ≡ Some e) here left.reason))
     where
@@ -187,13 +187,13 @@ module _ {Q : Type 0} (posted : Q → Bool) (w v : Standing) (file : File) (span
   none-here : FoundNone w.setup b c j k → IsIdle w.number w.seen k.entries
   none-here left = subst (λ (past : List Entry). IsIdle w.number w.seen past) (sym (entries-same left)) vis.idle
 
-  did : (answer : Result (Unit {0}) CcError) → StepLeft w.setup w.number file span answer b c j k → DiscardDid w.number file span answer w.seen k.entries
+  did : (answer : Result (Unit {0}) CcError) → DiscardStepLeft w.setup w.number file span answer b c j k → DiscardDid w.number file span answer w.seen k.entries
   did (Ok _) left = done-here left
   did (Err (error.JournalFull entries)) left = none-here left.1
   did (Err error.NoMemory) left = none-here left.1
   did (Err other) left = refused-here other left
 
-  full : (answer : Result (Unit {0}) CcError) → StepLeft w.setup w.number file span answer b c j k → IsFull 1 (without_journal k v) answer
+  full : (answer : Result (Unit {0}) CcError) → DiscardStepLeft w.setup w.number file span answer b c j k → IsFull 1 (without_journal k v) answer
   full (Ok _) left = tt
   full (Err (error.JournalFull entries)) left =
       full-stopped (Unit {0}) posted 1 (without_journal k v) k (error.JournalFull entries) (none-given left.1).journal
@@ -223,7 +223,7 @@ module _ {Q : Type 0} (posted : Q → Bool) (w v : Standing) (file : File) (span
   pub may-here : MayFill w.setup pass (call.Discard file span) b j
   may-here = may-as posted w v file span b c j k in_hand vis has.stream at_rest pass me
 
-  pub gives : (answer : Result (Unit {0}) CcError) → ((u : Setup) → MayFill u pass (call.Discard file span) b j → StepLeft u pass file span answer b c j k) → Gives posted w v file span answer c k
+  pub gives : (answer : Result (Unit {0}) CcError) → ((u : Setup) → MayFill u pass (call.Discard file span) b j → DiscardStepLeft u pass file span answer b c j k) → Gives posted w v file span answer c k
   gives answer ended = record {
     visit = subst (λ (n : ℕ). Visited posted w v n w.in_flight c k) has.stream (given posted w v file span b c j k in_hand vis has.stream at_rest answer left);
     disk = subst (λ (n : ℕ). SameDisk w.seen k.entries n) has.stream (disk-left posted w v file span b c j k in_hand vis has.stream at_rest answer left);
@@ -232,13 +232,13 @@ module _ {Q : Type 0} (posted : Q → Bool) (w v : Standing) (file : File) (span
     room = full posted w v file span b c j k in_hand vis has.stream at_rest answer left;
   }
     where
-      left : StepLeft w.setup w.number file span answer b c j k
+      left : DiscardStepLeft w.setup w.number file span answer b c j k
       left = step-left posted w v file span b c j k in_hand vis has.stream at_rest pass answer me ended
 
 -- ---- with both turns given back
 
 -- What it did from one moment on it did from an earlier one, since which the pass placed nothing.
-placed-since : (me : ℕ) (file : File) (span : Option Range) (ended : Outcome) (older old new : List Entry) → IsIdle me older old → IsPlaced me file span ended old new → IsPlaced me file span ended older new
+placed-since : (me : ℕ) (file : File) (span : Option Range) (ended : Outcome) (older old new : List Entry) → IsIdle me older old → DiscardIsPlaced me file span ended old new → DiscardIsPlaced me file span ended older new
 placed-since me file span ended older old new before alone = record {
   front = alone.front;
   idle = idle-then me older old alone.front before alone.idle;

@@ -13,7 +13,7 @@ use Rattle.cc_entry.specs.declared.error.CcError.TheVariants as error
 use Rattle.cc_entry.specs.declared.reply.Outcome.{Outcome}
 use Rattle.cc_entry.specs.declared.reply.Outcome.TheVariants as outcome
 use Rattle.cc_entry.specs.declared.reply.Reply.TheVariants as reply
-use Rattle.cc_book.specs.Book.{BookState, BookStands, Gains, GoesOn, MayDo, MayPlace, done, failed}
+use Rattle.cc_book.specs.Book.{BookState, BookStands, Gains, GoesOn, MayDoOnBook, MayPlaceOnBook, done, failed}
 use Rattle.cc_journal.specs.Calls.{owed_end}
 use Rattle.cc_journal.specs.Journal.{JournalState, room_of}
 use Rattle.cc_laws.proofs.HistorySteps.{history-done, history-no_effect}
@@ -40,20 +40,20 @@ use Rattle.cc_step.proofs.Placed.{so-far}
 use Rattle.cc_step.proofs.Reserved.{stores-call, sum-same}
 use Rattle.cc_ranges.specs.FlushSteps.{without_one}
 use Rattle.cc_ranges.proofs.FlushStepping.{more-less, nothing_owed, one_asked}
-use Rattle.cc_calls.specs.Discards.{IsReason, StepLeft}
+use Rattle.cc_calls.specs.Discards.{IsDiscardReason, DiscardStepLeft}
 use Rattle.cc_calls.proofs.Dropped.{reason-of}
 
 -- ---- the journal stays good
 
 -- a reason of a discard is its failure
-failure : (u : Setup) (past : List Entry) (pass s : ℕ) (file : File) (span : Option Range) (e : CcError) → IsReason (history past s) file span e → refusal u past (history past s) (call.Discard file span) ≡ Some e → IsFailure u past pass (Some s) (call.Discard file span) e
+failure : (u : Setup) (past : List Entry) (pass s : ℕ) (file : File) (span : Option Range) (e : CcError) → IsDiscardReason (history past s) file span e → refusal u past (history past s) (call.Discard file span) ≡ Some e → IsFailure u past pass (Some s) (call.Discard file span) e
 failure u past pass s file span error.NotCached reason is = is
 failure u past pass s file span (error.Held id) reason is = is
 failure u past pass s file span (error.Unsettled page) reason is = is
 failure u past pass s file span (error.Grown page) reason is = is
 failure u past pass s file span other reason is = absurd reason
 
-no_fault : (past : List Entry) (s : ℕ) (file : File) (span : Option Range) (e : CcError) (P : Type 0) → IsReason (history past s) file span e → OnTrue (is_fault e) P
+no_fault : (past : List Entry) (s : ℕ) (file : File) (span : Option Range) (e : CcError) (P : Type 0) → IsDiscardReason (history past s) file span e → OnTrue (is_fault e) P
 no_fault past s file span error.NotCached P reason = tt
 no_fault past s file span (error.Held id) P reason = tt
 no_fault past s file span (error.Unsettled page) P reason = tt
@@ -137,7 +137,7 @@ module _ {Q : Type 0} (u : Setup) (pass : ℕ) (file : File) (span : Option Rang
 
   -- it is refused
   module _ (e : CcError) (reason : refusal u j.entries (history j.entries b.stream) it ≡ Some e) where
-    pub may-fail : MayPlace j.entries (failed pass j.entries b.stream it e) b
+    pub may-fail : MayPlaceOnBook j.entries (failed pass j.entries b.stream it e) b
     may-fail = (u, so-far u _ (good-refused u j.entries pass b.stream file span may.may.stand.good may.may.filed e reason), may.may.stand.stands)
 
     refused-here : (c : BookState) (k : JournalState Q) → Gains (failed pass j.entries b.stream it e) j k → GoesOn j.entries k.entries b c → c ≡ b → AttemptRefused u pass it e b c (without_one j) (forgoing j pass k)
@@ -149,11 +149,11 @@ module _ {Q : Type 0} (u : Setup) (pass : ℕ) (file : File) (span : Option Rang
       same = same;
     }
 
-    pub left-refused : (c : BookState) (k : JournalState Q) → Gains (failed pass j.entries b.stream it e) j k → GoesOn j.entries k.entries b c → c ≡ b → StepLeft u pass file span (Err e) b c (without_one j) (forgoing j pass k)
+    pub left-refused : (c : BookState) (k : JournalState Q) → Gains (failed pass j.entries b.stream it e) j k → GoesOn j.entries k.entries b c → c ≡ b → DiscardStepLeft u pass file span (Err e) b c (without_one j) (forgoing j pass k)
     left-refused c k gains goes same =
         by e (reason-of u j.entries (history j.entries b.stream) file span e reason) (refused-here c k gains goes same)
       where
-        by : (x : CcError) → IsReason (history j.entries b.stream) file span x → AttemptRefused u pass it x b c (without_one j) (forgoing j pass k) → StepLeft u pass file span (Err x) b c (without_one j) (forgoing j pass k)
+        by : (x : CcError) → IsDiscardReason (history j.entries b.stream) file span x → AttemptRefused u pass it x b c (without_one j) (forgoing j pass k) → DiscardStepLeft u pass file span (Err x) b c (without_one j) (forgoing j pass k)
         by error.NotCached because left = left
         by (error.Held id) because left = left
         by (error.Unsettled page) because left = left
@@ -165,10 +165,10 @@ module _ {Q : Type 0} (u : Setup) (pass : ℕ) (file : File) (span : Option Rang
     good-here : IsGood u (done pass j.entries b.stream it reply.Unit ∷ j.entries)
     good-here = good-discarded u j.entries pass b.stream file span may.may.stand.good may.may.filed admitted may.no_transfer
 
-    pub may-do : MayDo u j.entries pass it reply.Unit b
+    pub may-do : MayDoOnBook u j.entries pass it reply.Unit b
     may-do = record { good = so-far u _ good-here; stands = may.may.stand.stands }
 
-    pub left-done : (c : BookState) (k : JournalState Q) → Gains (done pass j.entries b.stream it reply.Unit) j k → BookStands (u.opening b.stream) k.entries c → c.stream ≡ b.stream → StepLeft u pass file span (Ok tt) b c (without_one j) (forgoing j pass k)
+    pub left-done : (c : BookState) (k : JournalState Q) → Gains (done pass j.entries b.stream it reply.Unit) j k → BookStands (u.opening b.stream) k.entries c → c.stream ≡ b.stream → DiscardStepLeft u pass file span (Ok tt) b c (without_one j) (forgoing j pass k)
     left-done c k gains stands stream = record {
       placed = placed-owing (outcome.Done reply.Unit) k gains;
       stand = standing (done pass j.entries b.stream it reply.Unit) c k good-here gains stands stream;
@@ -176,7 +176,7 @@ module _ {Q : Type 0} (u : Setup) (pass : ℕ) (file : File) (span : Option Rang
     }
 
   -- it found no memory, and the place was given back
-  pub left-memoryless : (k : JournalState Q) → k ≡ record j { reserved = j.reserved - 1 } → StepLeft u pass file span (Err error.NoMemory) b b (without_one j) k
+  pub left-memoryless : (k : JournalState Q) → k ≡ record j { reserved = j.reserved - 1 } → DiscardStepLeft u pass file span (Err error.NoMemory) b b (without_one j) k
   left-memoryless k released = (
     inr (refl, one_asked),
     record {
@@ -195,13 +195,13 @@ module _ {Q : Type 0} (u : Setup) (pass : ℕ) (file : File) (span : Option Rang
   pub may-again : MayFill u pass (call.Discard file span) b j → MayFill u pass (call.Discard file span) b (without_one (reserving j))
   may-again may = subst (λ (x : JournalState Q). MayFill u pass (call.Discard file span) b x) (sym again) may
 
-  pub left-again : (answer : Result (Unit {0}) CcError) → StepLeft u pass file span answer b c (without_one (reserving j)) k → StepLeft u pass file span answer b c j k
-  left-again answer left = subst (λ (x : JournalState Q). StepLeft u pass file span answer b c x k) again left
+  pub left-again : (answer : Result (Unit {0}) CcError) → DiscardStepLeft u pass file span answer b c (without_one (reserving j)) k → DiscardStepLeft u pass file span answer b c j k
+  left-again answer left = subst (λ (x : JournalState Q). DiscardStepLeft u pass file span answer b c x k) again left
 
   -- no place was found
-  pub left-full : (e : CcError) → ((e ≡ error.JournalFull (length j.entries)) ⊎ (e ≡ error.NoMemory)) → (e ≡ error.JournalFull (length j.entries) → room_of j < 1) → StandUnder u b j → c ≡ b → k ≡ j → StepLeft u pass file span (Err e) b c j k
+  pub left-full : (e : CcError) → ((e ≡ error.JournalFull (length j.entries)) ⊎ (e ≡ error.NoMemory)) → (e ≡ error.JournalFull (length j.entries) → room_of j < 1) → StandUnder u b j → c ≡ b → k ≡ j → DiscardStepLeft u pass file span (Err e) b c j k
   left-full e (inl full) few stand same kept =
-      subst (λ (x : CcError). StepLeft u pass file span (Err x) b c j k) (sym full) (inl (refl, few full), none)
+      subst (λ (x : CcError). DiscardStepLeft u pass file span (Err x) b c j k) (sym full) (inl (refl, few full), none)
     where
       none : FoundNone u b c j k
       none = record {
@@ -210,7 +210,7 @@ module _ {Q : Type 0} (u : Setup) (pass : ℕ) (file : File) (span : Option Rang
         stream = ap (λ (x : BookState). x.stream) same;
       }
   left-full e (inr memory) few stand same kept =
-      subst (λ (x : CcError). StepLeft u pass file span (Err x) b c j k) (sym memory) (inr (refl, one_asked), none)
+      subst (λ (x : CcError). DiscardStepLeft u pass file span (Err x) b c j k) (sym memory) (inr (refl, one_asked), none)
     where
       none : FoundNone u b c j k
       none = record {

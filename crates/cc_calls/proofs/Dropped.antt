@@ -37,7 +37,7 @@ use Rattle.cc_model.specs.Reasons.{is_open, not_cached, refuse_if}
 use Rattle.cc_model.specs.Refusals.{first_of, refusal}
 use Rattle.cc_model.specs.Setup.{Setup}
 use Rattle.cc_model.specs.Touches.{is_dirty, is_mapped, valid_of}
-use Rattle.cc_calls.specs.Discards.{HasDropped, IsDiscarded, IsReason, IsRefused, IsSettled, IsUnheld, MayDiscard}
+use Rattle.cc_calls.specs.Discards.{HasDropped, IsDiscarded, IsDiscardReason, DiscardIsRefused, SpanIsSettled, IsUnheld, MayDiscard}
 
 -- ---- why it is refused
 
@@ -70,52 +70,52 @@ module _ (u : Setup) (past : List Entry) (h : List Effect) (file : File) (span :
   opened : not_cached h (Some file) ≡ None → is_open h file ≡ true
   opened none = not-false (is_open h file) (refuse_if-none (not (is_open h file)) error.NotCached none)
 
-  by-page : IsSettled h file span → (e : CcError) → grown h it ≡ Some e → IsReason h file span e
+  by-page : SpanIsSettled h file span → (e : CcError) → grown h it ≡ Some e → IsDiscardReason h file span e
   by-page settled e is =
       let found = named (λ p. error.Grown p) _ e is in
-      subst (λ (x : CcError). IsReason h file span x) found.1.1
+      subst (λ (x : CcError). IsDiscardReason h file span x) found.1.1
       (settled, (grown-page h file span found.0).0 (is ∙ ap Some (sym found.1.1)))
 
-  by-image : IsUnheld h file span → (e : CcError) → unsettled h it ≡ Some e → IsReason h file span e
+  by-image : IsUnheld h file span → (e : CcError) → unsettled h it ≡ Some e → IsDiscardReason h file span e
   by-image unheld e is =
       let found = named (λ p. error.Unsettled p) _ e is in
-      subst (λ (x : CcError). IsReason h file span x) found.1.1
+      subst (λ (x : CcError). IsDiscardReason h file span x) found.1.1
       (unheld, (unsettled-page h file span found.0).0 (is ∙ ap Some (sym found.1.1)))
 
-  by-hold : is_open h file ≡ true → (e : CcError) → held h it ≡ Some e → IsReason h file span e
+  by-hold : is_open h file ≡ true → (e : CcError) → held h it ≡ Some e → IsDiscardReason h file span e
   by-hold is_there e is =
       let found = named (λ n. error.Held n) (least_id (has_page_of span) (holds_of h)) e is in
-      subst (λ (x : CcError). IsReason h file span x) found.1.1 (is_there, found.1.0)
+      subst (λ (x : CcError). IsDiscardReason h file span x) found.1.1 (is_there, found.1.0)
 
-  by-file : (e : CcError) → not_cached h (Some file) ≡ Some e → IsReason h file span e
+  by-file : (e : CcError) → not_cached h (Some file) ≡ Some e → IsDiscardReason h file span e
   by-file e is =
       let found = refused-if (is_open h file) e error.NotCached is in
-      subst (λ (x : CcError). IsReason h file span x) found.1 found.0
+      subst (λ (x : CcError). IsDiscardReason h file span x) found.1 found.0
 
-  in-images : IsUnheld h file span → (e : CcError) → first_of (unsettled h it ∷ (grown h it ∷ [])) ≡ Some e → IsReason h file span e
+  in-images : IsUnheld h file span → (e : CcError) → first_of (unsettled h it ∷ (grown h it ∷ [])) ≡ Some e → IsDiscardReason h file span e
   in-images unheld e is = go (first-reason (unsettled h it) _ e is)
     where
-      last : unsettled h it ≡ None → (grown h it ≡ Some e) ⊎ ((grown h it ≡ None) × (first_of [] ≡ Some e)) → IsReason h file span e
+      last : unsettled h it ≡ None → (grown h it ≡ Some e) ⊎ ((grown h it ≡ None) × (first_of [] ≡ Some e)) → IsDiscardReason h file span e
       last none (inl here) = by-page (record { unheld = unheld; settled = (unsettled-none h file span).0 none }) e here
       last none (inr (away, nothing)) = absurd (cc nothing)
 
-      go : (unsettled h it ≡ Some e) ⊎ ((unsettled h it ≡ None) × (first_of (grown h it ∷ []) ≡ Some e)) → IsReason h file span e
+      go : (unsettled h it ≡ Some e) ⊎ ((unsettled h it ≡ None) × (first_of (grown h it ∷ []) ≡ Some e)) → IsDiscardReason h file span e
       go (inl here) = by-image unheld e here
       go (inr (none, rest)) = last none (first-reason (grown h it) [] e rest)
 
-  in-holds : is_open h file ≡ true → (e : CcError) → first_of (held h it ∷ (unsettled h it ∷ (grown h it ∷ []))) ≡ Some e → IsReason h file span e
+  in-holds : is_open h file ≡ true → (e : CcError) → first_of (held h it ∷ (unsettled h it ∷ (grown h it ∷ []))) ≡ Some e → IsDiscardReason h file span e
   in-holds is_there e is = go (first-reason (held h it) _ e is)
     where
-      go : (held h it ≡ Some e) ⊎ ((held h it ≡ None) × (first_of (unsettled h it ∷ (grown h it ∷ [])) ≡ Some e)) → IsReason h file span e
+      go : (held h it ≡ Some e) ⊎ ((held h it ≡ None) × (first_of (unsettled h it ∷ (grown h it ∷ [])) ≡ Some e)) → IsDiscardReason h file span e
       go (inl here) = by-hold is_there e here
       go (inr (none, rest)) = in-images (record { opened = is_there; unheld = none-named (least_id (has_page_of span) (holds_of h)) none }) e rest
 
   -- what refuses a discard is the first of its four reasons that holds
-  pub reason-of : (e : CcError) → refusal u past h it ≡ Some e → IsReason h file span e
+  pub reason-of : (e : CcError) → refusal u past h it ≡ Some e → IsDiscardReason h file span e
   unfolding refusal
   reason-of e is = go (first-reason (not_cached h (Some file)) _ e is)
     where
-      go : (not_cached h (Some file) ≡ Some e) ⊎ ((not_cached h (Some file) ≡ None) × (first_of (held h it ∷ (None ∷ (None ∷ (None ∷ (None ∷ (unsettled h it ∷ (grown h it ∷ []))))))) ≡ Some e)) → IsReason h file span e
+      go : (not_cached h (Some file) ≡ Some e) ⊎ ((not_cached h (Some file) ≡ None) × (first_of (held h it ∷ (None ∷ (None ∷ (None ∷ (None ∷ (unsettled h it ∷ (grown h it ∷ []))))))) ≡ Some e)) → IsDiscardReason h file span e
       go (inl here) = by-file e here
       go (inr (none, rest)) = in-holds (opened none) e (without (held h it) rest)
         where
@@ -190,7 +190,7 @@ discarded u me nth file span old front idle admitted rest good = record {
     here = history-done me nth file.stream (call.Discard file span) reply.Unit front file.stream (eq-eqb file.stream file.stream refl)
 
 -- One that was refused.
-pub refused : (u : Setup) (me nth : ℕ) (file : File) (span : Option Range) (e : CcError) (old front : List Entry) → IsIdle me old front → refusal u front (history front file.stream) (call.Discard file span) ≡ Some e → IsRefused me file span e old (entry.Call me nth (Some file.stream) (call.Discard file span) (outcome.Failed e) ∷ front)
+pub refused : (u : Setup) (me nth : ℕ) (file : File) (span : Option Range) (e : CcError) (old front : List Entry) → IsIdle me old front → refusal u front (history front file.stream) (call.Discard file span) ≡ Some e → DiscardIsRefused me file span e old (entry.Call me nth (Some file.stream) (call.Discard file span) (outcome.Failed e) ∷ front)
 refused u me nth file span e old front idle reason = record {
   alone = record { front = front; idle = idle; nth = nth; placed = refl };
   reason = reason-of u front (history front file.stream) file span e reason;

@@ -26,7 +26,7 @@ use Rattle.cc_model.specs.Numbers.{is_empty}
 use Rattle.cc_model.specs.Setup.{Setup}
 use Rattle.cc_model.specs.Sizes.{Touch}
 use Rattle.cc_model.specs.Touches.{is_dirty}
-use Rattle.cc_turns.specs.Standing.{Standing, Held, nothing}
+use Rattle.cc_turns.specs.Standing.{Standing, TurnsHeld, nothing}
 use Rattle.cc_turns.specs.Takes.{Grows, Takes, with_device, with_book, without_device, without_book}
 use Rattle.cc_effects.specs.Begins.{BeginsAscending}
 use Rattle.cc_writes.specs.Hands.{Went}
@@ -138,8 +138,8 @@ went-both w v x y z s free first second went given = record {
         ∙ (ap (λ (a : Standing). without_device (without_book a)) went.same
         ∙ (ap (λ (a : Standing). without_device (without_book (record a { seen = y.seen; others = y.others; in_flight = a.in_flight }))) second.same
         ∙ (ap (λ (a : Standing). without_device (without_book (record (with_book s a) { seen = y.seen; others = y.others }))) first.same
-        ∙ (ap (λ (h : Held). record w { held = record h { device = None; book = None }; seen = y.seen; others = y.others; device_turns = turns }) free
-        ∙ ap (λ (h : Held). record w { held = h; seen = y.seen; others = y.others; device_turns = turns }) (sym free)))))
+        ∙ (ap (λ (h : TurnsHeld). record w { held = record h { device = None; book = None }; seen = y.seen; others = y.others; device_turns = turns }) free
+        ∙ ap (λ (h : TurnsHeld). record w { held = h; seen = y.seen; others = y.others; device_turns = turns }) (sym free)))))
 
 -- the setup is the same
 pub setup-both : (w v x y : Standing) (s : ℕ) → Takes (with_device s) w v → Takes (with_book s) v x → Went x y → y.setup ≡ w.setup

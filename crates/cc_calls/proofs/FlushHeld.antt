@@ -29,7 +29,7 @@ use Rattle.cc_model.specs.Setup.{Setup}
 use Rattle.cc_traits.specs.Disk.{Disk}
 use Rattle.cc_turns.proofs.Taking.{disk_kept, transfer_kept}
 use Rattle.cc_turns.specs.Disk.{DiskStands, opening_of}
-use Rattle.cc_turns.specs.Standing.{Standing, Held, nothing}
+use Rattle.cc_turns.specs.Standing.{Standing, TurnsHeld, nothing}
 use Rattle.cc_turns.specs.Takes.{Grows, Takes, with_device, with_book, without_device, without_book}
 use Rattle.cc_writes.specs.Calls.{IsFullWriting}
 use Rattle.cc_writes.specs.Fetch.{CanCall, WentOn}
@@ -71,10 +71,10 @@ device-writing it y answer (inr full) = inr (full.0, device-full 2 y answer full
 
 module _ {D : Type 0} (told : D → Option Disk) (faults : D → ℕ) (w x : Standing) (s : ℕ) (disk : D) (has : HasDisk told faults w s disk) (took : Takes (with_book s) w x) where
   both_held : x.held ≡ record nothing { device = Some s; book = Some s }
-  both_held = ap (λ (y : Standing). y.held) took.same ∙ ap (λ (h : Held). record h { book = Some s }) has.held
+  both_held = ap (λ (y : Standing). y.held) took.same ∙ ap (λ (h : TurnsHeld). record h { book = Some s }) has.held
 
   device : w.held.device ≡ Some s
-  device = ap (λ (h : Held). h.device) has.held
+  device = ap (λ (h : TurnsHeld). h.device) has.held
 
   pub number_taken : x.number ≡ w.number
   number_taken = ap (λ (y : Standing). y.number) took.same
@@ -91,13 +91,13 @@ module _ {D : Type 0} (told : D → Option Disk) (faults : D → ℕ) (w x : Sta
   pub both_taken : (b : BookState) → b.stream ≡ s → BookStands (x.setup.opening s) x.seen b → HasBoth told faults x s b disk
   both_taken b is stands = record {
     book = record {
-      held = both_held ∙ ap (λ (o : Option ℕ). record nothing { device = o; book = Some s }) (sym (ap (λ (h : Held). h.device) both_held));
+      held = both_held ∙ ap (λ (o : Option ℕ). record nothing { device = o; book = Some s }) (sym (ap (λ (h : TurnsHeld). h.device) both_held));
       stream = is;
       stands = stands;
       good = took.good;
     };
     rest = record {
-      device = ap (λ (h : Held). h.device) both_held;
+      device = ap (λ (h : TurnsHeld). h.device) both_held;
       no_transfer = transfer_kept (with_book s) w x s took device ∙ has.rest;
     };
     disk = disk_kept told faults (with_book s) w x s disk took refl device has.stands;
@@ -111,8 +111,8 @@ module _ {D : Type 0} (told : D → Option Disk) (faults : D → ℕ) (w x : Sta
           given
           ∙ (ap without_book went.same
           ∙ (ap (λ (a : Standing). without_book (record a { seen = y.seen; others = y.others; in_flight = a.in_flight })) took.same
-          ∙ (ap (λ (h : Held). record w { held = record h { book = None }; seen = y.seen; others = y.others }) has.held
-          ∙ (ap (λ (h : Held). record w { held = h; seen = y.seen; others = y.others }) (sym has.held)
+          ∙ (ap (λ (h : TurnsHeld). record w { held = record h { book = None }; seen = y.seen; others = y.others }) has.held
+          ∙ (ap (λ (h : TurnsHeld). record w { held = h; seen = y.seen; others = y.others }) (sym has.held)
           ∙ again))));
     }
       where
@@ -125,7 +125,7 @@ module _ {D : Type 0} (told : D → Option Disk) (faults : D → ℕ) (w x : Sta
     disk_given b now both = subst (λ (a : Standing). HasDisk told faults a s now) (sym given) (record {
       known = subst (λ (n : ℕ). s < n) (sym (ap (λ (a : Standing). a.streams) went.same)) known_taken;
       held =
-          ap (λ (h : Held). record h { book = None }) both.book.held
+          ap (λ (h : TurnsHeld). record h { book = None }) both.book.held
           ∙ ap (λ (o : Option ℕ). record nothing { device = o }) both.rest.device;
       rest = both.rest.no_transfer;
       stands = both.disk;
@@ -187,7 +187,7 @@ module _ {D : Type 0} (told : D → Option Disk) (faults : D → ℕ) (w v : Sta
   pub device_taken : (disk : D) → v.setup.opening s ≡ opening_of (v.disks s).told → DiskStands told faults (v.disks s) v.seen s disk → open_of (history v.seen s) ≡ None → HasDisk told faults v s disk
   device_taken disk opening stands at_rest = record {
     known = subst (λ (n : ℕ). s < n) (sym (ap (λ (y : Standing). y.streams) took.same)) can.known;
-    held = ap (λ (y : Standing). y.held) took.same ∙ ap (λ (h : Held). record h { device = Some s }) can.free;
+    held = ap (λ (y : Standing). y.held) took.same ∙ ap (λ (h : TurnsHeld). record h { device = Some s }) can.free;
     rest = at_rest;
     stands = stands;
     opening = opening;
@@ -210,8 +210,8 @@ module _ {D : Type 0} (told : D → Option Disk) (faults : D → ℕ) (w v : Sta
             given
             ∙ (ap without_device went.same
             ∙ (ap (λ (a : Standing). without_device (record a { seen = y.seen; others = y.others; in_flight = a.in_flight })) took.same
-            ∙ (ap (λ (h : Held). record w { held = record h { device = None }; seen = y.seen; others = y.others; device_turns = turns }) can.free
-            ∙ ap (λ (h : Held). record w { held = h; seen = y.seen; others = y.others; device_turns = turns }) (sym can.free))))
+            ∙ (ap (λ (h : TurnsHeld). record w { held = record h { device = None }; seen = y.seen; others = y.others; device_turns = turns }) can.free
+            ∙ ap (λ (h : TurnsHeld). record w { held = h; seen = y.seen; others = y.others; device_turns = turns }) (sym can.free))))
 
     pub flush_given : (file : File) (span : Option Range) (answer : Result (Unit {0}) CcError) → FlushEnds v y file span answer → FlushEnds w z file span answer
     flush_given file span answer ends =

@@ -17,7 +17,7 @@ use Rattle.cc_model.specs.Objects.{objects}
 use Rattle.cc_model.specs.Reasons.{is_open}
 use Rattle.cc_model.specs.Setup.{Setup}
 use Rattle.cc_model.specs.Touches.{is_mapped, size_of}
-use Rattle.cc_turns.specs.Standing.{Held, Standing}
+use Rattle.cc_turns.specs.Standing.{TurnsHeld, Standing}
 use Rattle.cc_turns.specs.Takes.{Takes, with_book, without_book}
 use Rattle.cc_vacb.specs.Levels.{levels_of}
 use Rattle.cc_writes.specs.Hands.{Went}
@@ -64,8 +64,8 @@ module _ (w v x : Standing) (file : File) (book : BookState) (answer : Result �
     same =
         gave
         ∙ (ap without_book took.same
-        ∙ (ap (λ (h : Held). record w { seen = v.seen; held = record h { book = None }; others = v.others }) can.free
-        ∙ (sym (ap (λ (h : Held). record w { seen = v.seen; held = h; others = v.others }) can.free)
+        ∙ (ap (λ (h : TurnsHeld). record w { seen = v.seen; held = record h { book = None }; others = v.others }) can.free
+        ∙ (sym (ap (λ (h : TurnsHeld). record w { seen = v.seen; held = h; others = v.others }) can.free)
         ∙ (ap (λ (past : List Entry). record w { seen = past; others = v.others }) (sym seen-is)
         ∙ ap (λ (n : ℕ). record w { seen = x.seen; others = n }) (sym others-is)))));
   }

@@ -23,13 +23,13 @@ use Rattle.cc_turns.specs.Takes.{Grows, Takes, with_log, without_journal}
 use Rattle.cc_writes.specs.Hands.{WentWith}
 use Rattle.cc_writes.specs.Visits.{HasPlaced}
 use Rattle.cc_writes.specs.Ways.{IsFull}
-use Rattle.cc_writes.specs.Logs.{LogLeft}
+use Rattle.cc_writes.specs.Logs.{FlushToLsnLeft}
 use Rattle.cc_writes.specs.declared.log.LogFlush.{LogFlush}
 use Rattle.cc_writes.specs.declared.log.LogFlush.TheVariants as flush
 use Rattle.cc_writes.proofs.OneVisit.{Visited, Visiting, stepping-none, visited, went-then}
 use Rattle.cc_calls.specs.Answers.{IsFree}
 use Rattle.cc_calls.specs.Pages.{StaysGood}
-use Rattle.cc_calls.specs.Logs.{HadRoom, IsNotFull, LogEnds, NoPlace, PlaceIn, PlaceLeft}
+use Rattle.cc_calls.specs.Logs.{HadRoom, IsNotFull, LogEnds, NoPlace, PlaceIn, LogPlaceLeft}
 
 -- A place was asked for in a journal: nothing was placed, and one more is reserved where it was given.
 abbrev pub flight_after : Result (Unit {0}) CcError → ℕ → ℕ
@@ -151,7 +151,7 @@ answered (Ok (flush.Failed failed)) = Err (error.LogFault failed)
 answered (Err e) = Err e
 
 -- and what it leaves of its call
-flush-left : (w : Standing) (handle lsn : ℕ) (result : Result LogFlush CcError) (seen : List Entry) → handle < w.setup.logs → LogLeft w handle lsn result seen → LogFlushLeft w.setup w.number handle lsn (answered result) w.seen seen
+flush-left : (w : Standing) (handle lsn : ℕ) (result : Result LogFlush CcError) (seen : List Entry) → handle < w.setup.logs → FlushToLsnLeft w handle lsn result seen → LogFlushLeft w.setup w.number handle lsn (answered result) w.seen seen
 flush-left w handle lsn (Ok flush.Reached) seen known left = (
   known,
   ⊎_elim
@@ -181,7 +181,7 @@ not-full w (Ok a) room = tt
 not-full w (Err (error.JournalFull entries)) room = absurd room
 not-full w (Err other) room = tt
 
-flush-not-full : (w : Standing) (handle lsn : ℕ) (result : Result LogFlush CcError) (seen : List Entry) → LogLeft w handle lsn result seen → IsNotFull (answered result)
+flush-not-full : (w : Standing) (handle lsn : ℕ) (result : Result LogFlush CcError) (seen : List Entry) → FlushToLsnLeft w handle lsn result seen → IsNotFull (answered result)
 flush-not-full w handle lsn (Ok flush.Reached) seen left = tt
 flush-not-full w handle lsn (Ok (flush.Failed failed)) seen left = tt
 flush-not-full w handle lsn (Err e) seen left = rw left.1 tt
@@ -192,7 +192,7 @@ had-room w (Ok a) other = tt
 had-room w (Err (error.NoLog handle)) other = absurd (cc other)
 had-room w (Err e) other = tt
 
-flush-log-there : (w : Standing) (handle lsn : ℕ) (result : Result LogFlush CcError) (seen : List Entry) → LogLeft w handle lsn result seen → is_no_log (answered result) ≡ false
+flush-log-there : (w : Standing) (handle lsn : ℕ) (result : Result LogFlush CcError) (seen : List Entry) → FlushToLsnLeft w handle lsn result seen → is_no_log (answered result) ≡ false
 flush-log-there w handle lsn (Ok flush.Reached) seen left = refl
 flush-log-there w handle lsn (Ok (flush.Failed failed)) seen left = refl
 flush-log-there w handle lsn (Err e) seen left = ap (λ (x : CcError). is_no_log {A = Unit {0}} (Err x)) left.1
@@ -203,7 +203,7 @@ append-log-there u me handle bytes (Err (error.NoLog missing)) old new known lef
 append-log-there u me handle bytes (Err e) old new known left = refl
 
 -- A call that got no place ends with its refusal.
-module _ (w v : Standing) (handle : ℕ) (e : CcError) (can : IsFree w) (grows : Grows w v.seen) (left : PlaceLeft handle (Err e) w v)
+module _ (w v : Standing) (handle : ℕ) (e : CcError) (can : IsFree w) (grows : Grows w v.seen) (left : LogPlaceLeft handle (Err e) w v)
     (full : IsFull {A = Unit {0}} 1 v (Err e)) (room : HadRoom {A = Unit {0}} v (Err e)) (good : IsGood v.setup v.seen) where
   good-still : StaysGood w v
   good-still was_good = subst (λ (u : Setup). IsGood u v.seen) (ap (λ x. x.setup) left.1.same) good
@@ -229,7 +229,7 @@ module _ (w v : Standing) (handle : ℕ) (e : CcError) (can : IsFree w) (grows :
   })
 
 -- One that got its place ends as it went on from there.
-module _ (w v x : Standing) (handle : ℕ) (can : IsFree w) (grows : Grows w v.seen) (place : PlaceLeft handle (Ok tt) w v)
+module _ (w v x : Standing) (handle : ℕ) (can : IsFree w) (grows : Grows w v.seen) (place : LogPlaceLeft handle (Ok tt) w v)
     (went : WentWith 0 v x) (good : IsGood x.setup x.seen) where
   number : v.number ≡ w.number
   number = ap (λ y. y.number) place.1.same
@@ -255,7 +255,7 @@ module _ (w v x : Standing) (handle : ℕ) (can : IsFree w) (grows : Grows w v.s
         good = good-there;
       }
 
-  pub flush-ends : (lsn : ℕ) (result : Result LogFlush CcError) → LogLeft v handle lsn result x.seen → LogEnds w x (LogFlushLeft w.setup w.number handle lsn) (answered result)
+  pub flush-ends : (lsn : ℕ) (result : Result LogFlush CcError) → FlushToLsnLeft v handle lsn result x.seen → LogEnds w x (LogFlushLeft w.setup w.number handle lsn) (answered result)
   flush-ends lsn result left =
       let there : LogFlushLeft w.setup w.number handle lsn (answered result) v.seen x.seen =
       rw (setup, number) at (flush-left v handle lsn result x.seen (rw setup place.0) left) in

@@ -13,32 +13,32 @@ use Rattle.cc_entry.specs.declared.reply.Reply.TheVariants as reply
 use Rattle.cc_calls.specs.Paged.{CalledAtOnce, Paged}
 use Rattle.cc_effects.specs.Calls.{CallLeft}
 use Rattle.cc_model.specs.Good.{IsGoodSoFar}
-use Rattle.cc_own.specs.Own.{HasHold, new_hold}
+use Rattle.cc_own.specs.Own.{HasHold, hold_of_range}
 use Rattle.cc_own.proofs.CallsKeep.{map-leaves, pin_read-leaves, prepare_zeroed-leaves, prepare-leaves, mdl_read-leaves, mdl_write-leaves, repin-leaves}
 use Rattle.cc_turns.specs.Standing.{Standing}
 use Rattle.cc_writes.specs.declared.tell.Returned.{Returned}
 use Rattle.cc_writes.specs.declared.tell.Returned.TheVariants as returned
 use Rattle.cc_calls.specs.Held.{IsHolding}
-use Rattle.cc_calls.specs.Ends.{MakesHold, MakingEnds, RepinEnds, held_at, kind_made}
+use Rattle.cc_calls.specs.Ends.{MakesHold, MakingEnds, RepinEnds, held_of_range, kind_made}
 use Rattle.cc_calls.specs.declared.held.Held.{Held}
 use Rattle.cc_calls.proofs.Answered.{made-told, repin-told}
 use Rattle.cc_calls.proofs.Holding.{call-still, failed-still, so-far}
 
 module _ (w v : Standing) (of_kind : HoldKind → Bool) (number : v.number ≡ w.number) (file : File) (at len n : ℕ) where
   -- a new hold of the pass is what the caller holds
-  new-held : (its_file : File) (its_at its_len : ℕ) (its_kind : HoldKind) (exclusive : Bool) (owed : List Range) → of_kind its_kind ≡ true → (its_file ≡ file) × (its_at ≡ at) × (its_len ≡ len) → HasHold w.number its_file.stream n (new_hold n w.number its_file its_at its_len its_kind exclusive owed) v.seen → IsHolding v of_kind (held_at file at len n)
+  new-held : (its_file : File) (its_at its_len : ℕ) (its_kind : HoldKind) (exclusive : Bool) (owed : List Range) → of_kind its_kind ≡ true → (its_file ≡ file) × (its_at ≡ at) × (its_len ≡ len) → HasHold w.number its_file.stream n (hold_of_range n w.number its_file its_at its_len its_kind exclusive owed) v.seen → IsHolding v of_kind (held_of_range file at len n)
   new-held its_file its_at its_len its_kind exclusive owed of is has = record {
-    hold = new_hold n w.number its_file its_at its_len its_kind exclusive owed;
+    hold = hold_of_range n w.number its_file its_at its_len its_kind exclusive owed;
     has =
-        subst (λ (me : ℕ). HasHold me file.stream n (new_hold n w.number its_file its_at its_len its_kind exclusive owed) v.seen) (sym number)
-        (subst (λ (f : File). HasHold w.number f.stream n (new_hold n w.number its_file its_at its_len its_kind exclusive owed) v.seen) is.0 has);
+        subst (λ (me : ℕ). HasHold me file.stream n (hold_of_range n w.number its_file its_at its_len its_kind exclusive owed) v.seen) (sym number)
+        (subst (λ (f : File). HasHold w.number f.stream n (hold_of_range n w.number its_file its_at its_len its_kind exclusive owed) v.seen) is.0 has);
     kind_is = of;
     file_is = is.0;
     at_is = is.1;
     len_is = is.2;
   }
 
-  made-held : (it : Call) → of_kind (kind_made it) ≡ true → MakesHold it file at len → CallLeft w.setup w.number it (outcome.Done (reply.Hold n)) w.seen v.seen → IsGoodSoFar w.setup v.seen → IsHolding v of_kind (held_at file at len n)
+  made-held : (it : Call) → of_kind (kind_made it) ≡ true → MakesHold it file at len → CallLeft w.setup w.number it (outcome.Done (reply.Hold n)) w.seen v.seen → IsGoodSoFar w.setup v.seen → IsHolding v of_kind (held_of_range file at len n)
   made-held (call.Map its_file its_at its_len) of makes left good =
       new-held its_file its_at its_len kind.Map false [] of makes (map-leaves w.setup w.number n its_file its_at its_len w.seen v.seen left good)
   made-held (call.PinRead its_file its_at its_len exclusive) of makes left good =
@@ -65,7 +65,7 @@ module _ (w v : Standing) (of_kind : HoldKind → Bool) (file : File) (at len : 
       let tells = rw n.1 at ended.left.2 in
       (n.0, (tells.0, rw n.1 at ended.left.1))
 
-  pub made-ends : (id : ℕ) → of_kind (kind_made it) ≡ true → Paged w v it (Ok (returned.Hold id)) was now → MakingEnds w v of_kind file at len it (Ok (held_at file at len id))
+  pub made-ends : (id : ℕ) → of_kind (kind_made it) ≡ true → Paged w v it (Ok (returned.Hold id)) was now → MakingEnds w v of_kind file at len it (Ok (held_of_range file at len id))
   made-ends id of ended =
       let told = made-id (returned.Hold id) ended in
       let left = rw (same-id told.0 id told.1.0) at told.1.1 in
@@ -93,7 +93,7 @@ module _ (w v : Standing) (pinned : Held) (was now : List ℕ) (h : IsHolding w 
       (n.0, (tells.0, rw n.1 at ended.left.1))
 
   -- it has a range of its own, and the pin is there still
-  pub repin-ends : (id : ℕ) → CalledAtOnce w v (call.Repin pinned.id) (Ok (returned.Hold id)) was now → RepinEnds w v is_repin pinned (Ok (held_at pinned.file pinned.at pinned.len id))
+  pub repin-ends : (id : ℕ) → CalledAtOnce w v (call.Repin pinned.id) (Ok (returned.Hold id)) was now → RepinEnds w v is_repin pinned (Ok (held_of_range pinned.file pinned.at pinned.len id))
   repin-ends id ended =
       let told = repin-id (returned.Hold id) ended in
       let left = rw (same-id told.0 id told.1.0) at told.1.1 in
@@ -103,7 +103,7 @@ module _ (w v : Standing) (pinned : Held) (was now : List ℕ) (h : IsHolding w 
         call_ends = record { left = left; full = tt; goes_on = ended.goes_on; good = λ was_good. ended.good };
         range = refl;
         holding = record {
-          hold = new_hold id w.number h.hold.file h.hold.at h.hold.len kind.Repin false [];
+          hold = hold_of_range id w.number h.hold.file h.hold.at h.hold.len kind.Repin false [];
           has = rw number has;
           kind_is = refl;
           file_is = h.file_is;

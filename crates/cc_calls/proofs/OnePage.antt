@@ -31,12 +31,12 @@ use Rattle.cc_turns.specs.Standing.{Standing}
 use Rattle.cc_turns.specs.Takes.{without_book, without_device}
 use Rattle.cc_writes.specs.Logs.{IsWant}
 use Rattle.cc_writes.specs.Ways.{IsAtWork, IsFull}
-use Rattle.cc_writes.specs.Writes.{HasNotLogged, HasTransferred, IsBefore, IsToWrite, WriteLeft, WriteShown}
-use Rattle.cc_writes.specs.declared.writes.PageWrite.{PageWrite as Transferred}
-use Rattle.cc_writes.specs.declared.writes.PageWrite.TheVariants as transferred
-use Rattle.cc_calls.specs.PageWrites.{AreOfFailure, AreOfLog, AreOfTransfer, IsFullPage, IsWritten, IsWrittenOf, PlacedFor, WriteOneLeft, answer_of, told_of}
-use Rattle.cc_calls.specs.declared.page_writes.PageWrite.{PageWrite}
-use Rattle.cc_calls.specs.declared.page_writes.PageWrite.TheVariants as write
+use Rattle.cc_writes.specs.Writes.{HasNotLogged, HasTransferred, IsBefore, IsToWrite, WorkWriteLeft, WriteShown}
+use Rattle.cc_writes.specs.declared.writes.PageTransfer.{PageTransfer as Transferred}
+use Rattle.cc_writes.specs.declared.writes.PageTransfer.TheVariants as transferred
+use Rattle.cc_calls.specs.PageWrites.{AreOfFailure, AreOfLog, AreOfTransfer, IsFullPage, IsWrittenAmong, IsWrittenOf, PlacedFor, WriteOneLeft, page_write_answer, told_page_write}
+use Rattle.cc_calls.specs.declared.page_writes.PageWriteAnswer.{PageWriteAnswer}
+use Rattle.cc_calls.specs.declared.page_writes.PageWriteAnswer.TheVariants as write
 
 pub same-page : (page : Page) → is_same_page page page ≡ true
 same-page page = rw (eq-eqb page.stream page.stream refl, eq-eqb page.page page.page refl) refl
@@ -88,7 +88,7 @@ of-log : (w : Standing) (seen during : List Entry) → IsBefore w seen → seen 
 of-log w seen during before grew =
     subst (λ (l : List Entry). AreOfLog w.number (own w.number l)) (append_cancel_right before.since during w.seen (sym before.grew ∙ grew)) before.only
 
-placed-for : (w : Standing) (page : Page) (keeps : Bool) (r : Result Transferred CcError) (seen during : List Entry) → WriteShown w page keeps r seen → seen ≡ during ++ w.seen → PlacedFor w.number page (answer_of r) during w.seen
+placed-for : (w : Standing) (page : Page) (keeps : Bool) (r : Result Transferred CcError) (seen during : List Entry) → WriteShown w page keeps r seen → seen ≡ during ++ w.seen → PlacedFor w.number page (page_write_answer r) during w.seen
 placed-for w page keeps (Ok transferred.Written) seen during shown grew = of-transfer w page how.Good keeps seen during shown grew
 placed-for w page keeps (Ok transferred.NotWritten) seen during shown grew = inl (of-transfer w page how.Failed keeps seen during shown grew)
 placed-for w page keeps (Ok (transferred.NotLogged handle)) seen during shown grew = inr (of-failure w page handle seen during shown grew)
@@ -98,7 +98,7 @@ placed-for w page keeps (Err error.NoMemory) seen during shown grew =
 placed-for w page keeps (Err other) seen during shown grew = absurd shown
 
 -- the work that it was
-works-of : (me : ℕ) (work : Work) (page : Page) (r : Result Transferred CcError) (old new : List Entry) → WriteLeft me work page r old new → (during : List Entry) × (new ≡ during ++ old) × Works me work during old
+works-of : (me : ℕ) (work : Work) (page : Page) (r : Result Transferred CcError) (old new : List Entry) → WorkWriteLeft me work page r old new → (during : List Entry) × (new ≡ during ++ old) × Works me work during old
 works-of me work page (Ok transferred.Written) old new left = (left.during, left.grew, left.works)
 works-of me work page (Ok transferred.NotWritten) old new left = (left.stopped.during, left.stopped.grew, left.stopped.works)
 works-of me work page (Ok (transferred.NotLogged handle)) old new left = (left.stopped.during, left.stopped.grew, left.stopped.works)
@@ -111,13 +111,13 @@ starts : (me : ℕ) (work : Work) (old : List Entry) → IsAtWork me work old ol
 starts me work old = record { during = []; grew = refl; works = works-others me work [] old tt; unsynced = refl; unstopped = refl }
 
 -- A page was written, or was not.
-pub written-by : (w : Standing) (page : Page) (keeps : Bool) (r : Result Transferred CcError) (seen : List Entry) → WriteShown w page keeps r seen → ((work : Work) (begun : List Entry) → may_write work page w.seen ≡ true → IsAtWork w.number work begun w.seen → WriteLeft w.number work page r begun seen) → IsWritten w.number page (answer_of r) w.seen seen
+pub written-by : (w : Standing) (page : Page) (keeps : Bool) (r : Result Transferred CcError) (seen : List Entry) → WriteShown w page keeps r seen → ((work : Work) (begun : List Entry) → may_write work page w.seen ≡ true → IsAtWork w.number work begun w.seen → WorkWriteLeft w.number work page r begun seen) → IsWrittenAmong w.number page (page_write_answer r) w.seen seen
 written-by w page keeps r seen shown left pages among =
     let has = works-of w.number (Writes pages) page r w.seen seen (left (Writes pages) w.seen among (starts w.number (Writes pages) w.seen)) in
     record { during = has.0; grew = has.1; works = has.2; placed = placed-for w page keeps r seen has.0 shown has.1 }
 
 -- It was skipped, since it was not to be written.
-pub skipped-by : (me : ℕ) (page : Page) (old new : List Entry) → IsIdle me old new → is_passed_over page new ≡ true → IsWritten me page (Ok write.Skipped) old new
+pub skipped-by : (me : ℕ) (page : Page) (old new : List Entry) → IsIdle me old new → is_passed_over page new ≡ true → IsWrittenAmong me page (Ok write.Skipped) old new
 skipped-by me page old new idle over pages among = record {
   during = idle.during;
   grew = idle.grew;
@@ -129,7 +129,7 @@ skipped-by me page old new idle over pages among = record {
 }
 
 -- where there was no room for its transfer it is to be written still
-pub full-by : (w v : Standing) (page : Page) (keeps : Bool) (r : Result Transferred CcError) → w.held.book ≡ Some page.stream → w.held.device ≡ Some page.stream → IsToWrite page w.seen → WriteShown w page keeps r v.seen → IsFull 2 v r → IsFullPage page v (answer_of r)
+pub full-by : (w v : Standing) (page : Page) (keeps : Bool) (r : Result Transferred CcError) → w.held.book ≡ Some page.stream → w.held.device ≡ Some page.stream → IsToWrite page w.seen → WriteShown w page keeps r v.seen → IsFull 2 v r → IsFullPage page v (page_write_answer r)
 full-by w v page keeps (Ok transferred.Written) book device to_write shown full = tt
 full-by w v page keeps (Ok transferred.NotWritten) book device to_write shown full = tt
 full-by w v page keeps (Ok (transferred.NotLogged handle)) book device to_write shown full = tt
@@ -144,7 +144,7 @@ full-by w v page keeps (Err (error.JournalFull entries)) book device to_write sh
 full-by w v page keeps (Err other) book device to_write shown full = tt
 
 -- so with the turns of the disk and of the book given back
-pub full-given : (page : Page) (y : Standing) (answer : Result PageWrite CcError) → IsFullPage page y answer → IsFullPage page (without_device (without_book y)) answer
+pub full-given : (page : Page) (y : Standing) (answer : Result PageWriteAnswer CcError) → IsFullPage page y answer → IsFullPage page (without_device (without_book y)) answer
 full-given page y (Ok told) full = tt
 full-given page y (Err (error.JournalFull entries)) full = full
 full-given page y (Err other) full = tt
@@ -162,7 +162,7 @@ failed-before me page during gap older has = record {
 failure-before : (me : ℕ) (page : Page) (during gap older : List Entry) → Others me gap → AreOfFailure me page during (gap ++ older) → AreOfFailure me page (during ++ gap) older
 failure-before me page during gap older others is = record { failed = failed-before me page during gap older is.failed; only = own-before me during gap others ∙ is.only }
 
-placed-before : (me : ℕ) (page : Page) (answer : Result PageWrite CcError) (during gap older : List Entry) → Others me gap → PlacedFor me page answer during (gap ++ older) → PlacedFor me page answer (during ++ gap) older
+placed-before : (me : ℕ) (page : Page) (answer : Result PageWriteAnswer CcError) (during gap older : List Entry) → Others me gap → PlacedFor me page answer during (gap ++ older) → PlacedFor me page answer (during ++ gap) older
 placed-before me page (Ok write.Written) during gap older others placed = rw (own-before me during gap others) placed
 placed-before me page (Ok write.Skipped) during gap older others placed = (
   own-before me during gap others ∙ placed.0,
@@ -174,7 +174,7 @@ placed-before me page (Err (error.JournalFull entries)) during gap older others 
 placed-before me page (Err error.NoMemory) during gap older others placed = rw (own-before me during gap others) placed
 placed-before me page (Err other) during gap older others placed = absurd placed
 
-written-behind : (me : ℕ) (pages : List Page) (page : Page) (answer : Result PageWrite CcError) (gap older new : List Entry) → Others me gap → IsWrittenOf me pages page answer (gap ++ older) new → IsWrittenOf me pages page answer older new
+written-behind : (me : ℕ) (pages : List Page) (page : Page) (answer : Result PageWriteAnswer CcError) (gap older new : List Entry) → Others me gap → IsWrittenOf me pages page answer (gap ++ older) new → IsWrittenOf me pages page answer older new
 written-behind me pages page answer gap older new others is = record {
   during = is.during ++ gap;
   grew = rw (append_assoc is.during gap older) is.grew;
@@ -182,18 +182,18 @@ written-behind me pages page answer gap older new others is = record {
   placed = placed-before me page answer is.during gap older others is.placed;
 }
 
-pub written-since : (me : ℕ) (page : Page) (answer : Result PageWrite CcError) (old between new : List Entry) → IsIdle me old between → IsWritten me page answer between new → IsWritten me page answer old new
+pub written-since : (me : ℕ) (page : Page) (answer : Result PageWriteAnswer CcError) (old between new : List Entry) → IsIdle me old between → IsWrittenAmong me page answer between new → IsWrittenAmong me page answer old new
 written-since me page answer old between new idle is pages among =
     written-behind me pages page answer idle.during old new idle.others
     (subst (λ (past : List Entry). IsWrittenOf me pages page answer past new) idle.grew (is pages among))
 
 -- A page was written after a look at it, in which others went on.
-pub wrote : (w v : Standing) (seen : List Entry) (place page : Page) (keeps : Bool) (r : Result Transferred CcError) (answer : Result PageWrite CcError) → place ≡ page → v.number ≡ w.number → answer ≡ answer_of r → IsIdle w.number w.seen v.seen → WriteShown v place keeps r seen → ((work : Work) (begun : List Entry) → may_write work place v.seen ≡ true → IsAtWork v.number work begun v.seen → WriteLeft v.number work place r begun seen) → IsWritten w.number page answer w.seen seen
+pub wrote : (w v : Standing) (seen : List Entry) (place page : Page) (keeps : Bool) (r : Result Transferred CcError) (answer : Result PageWriteAnswer CcError) → place ≡ page → v.number ≡ w.number → answer ≡ page_write_answer r → IsIdle w.number w.seen v.seen → WriteShown v place keeps r seen → ((work : Work) (begun : List Entry) → may_write work place v.seen ≡ true → IsAtWork v.number work begun v.seen → WorkWriteLeft v.number work place r begun seen) → IsWrittenAmong w.number page answer w.seen seen
 wrote w v seen place page keeps r answer same number told idle shown left =
     written-since w.number page answer w.seen v.seen seen idle
-    (subst (λ (a : Result PageWrite CcError). IsWritten w.number page a v.seen seen) (sym told)
-    (subst (λ (p : Page). IsWritten w.number p (answer_of r) v.seen seen) same
-    (subst (λ (n : ℕ). IsWritten n place (answer_of r) v.seen seen) number (written-by v place keeps r seen shown left))))
+    (subst (λ (a : Result PageWriteAnswer CcError). IsWrittenAmong w.number page a v.seen seen) (sym told)
+    (subst (λ (p : Page). IsWrittenAmong w.number p (page_write_answer r) v.seen seen) same
+    (subst (λ (n : ℕ). IsWrittenAmong n place (page_write_answer r) v.seen seen) number (written-by v place keeps r seen shown left))))
 
 -- What entries tell of which the pass placed none, or that a log was flushed.
 pub log-memory : (me : ℕ) (entries : List Entry) → AreOfLog me entries → list_any found_no_memory entries ≡ false
@@ -282,7 +282,7 @@ one-skipped me page during old none moment = record {
   became = record { untouched = rw none refl; moment = moment };
 }
 
-pub one-of : (me : ℕ) (page : Page) (told : PageWrite) (during old : List Entry) → PlacedFor me page (Ok told) during old → (one : Became) × (told ≡ told_of one) × IsOne me page one during old
+pub one-of : (me : ℕ) (page : Page) (told : PageWriteAnswer) (during old : List Entry) → PlacedFor me page (Ok told) during old → (one : Became) × (told ≡ told_page_write one) × IsOne me page one during old
 one-of me page write.Written during old placed = (Written, refl, one-transfer me page how.Good Written during old refl refl placed (ended-so me page how.Good during ended_ok placed refl))
 one-of me page write.Skipped during old placed = (Skipped, refl, one-skipped me page during old placed.0 placed.1)
 one-of me page write.Failed during old placed =
@@ -366,7 +366,7 @@ none-of me page error.NoMemory during old placed = record {
 none-of me page other during old placed = absurd placed
 
 -- So what the writing of the page left.
-pub one-left : (me : ℕ) (page : Page) (answer : Result PageWrite CcError) (old new : List Entry) → IsWritten me page answer old new → WriteOneLeft me page answer old new
+pub one-left : (me : ℕ) (page : Page) (answer : Result PageWriteAnswer CcError) (old new : List Entry) → IsWrittenAmong me page answer old new → WriteOneLeft me page answer old new
 one-left me page (Ok told) old new is =
     let has = is (page ∷ []) (among-one page) in
     let one = one-of me page told has.during old has.placed in (

@@ -22,7 +22,7 @@ use Rattle.cc_model.specs.Setup.{Setup}
 use Rattle.cc_step.specs.Step.{most_asked}
 use Rattle.cc_turns.specs.Standing.{Standing}
 use Rattle.cc_writes.specs.Hands.{Went}
-use Rattle.cc_writes.specs.Visits.{IsOf, IsWaitedFor, TriedLeft}
+use Rattle.cc_writes.specs.Visits.{CallIsOfStream, IsWaitedFor, TriedLeft}
 use Rattle.cc_writes.specs.declared.visits.Tried.{Tried}
 use Rattle.cc_writes.specs.declared.visits.Tried.TheVariants as tried
 use Rattle.cc_writes.specs.declared.tell.Returned.{Returned}
@@ -108,7 +108,7 @@ has-waited w v s page it again was now ended is left =
     let k = rw is at (left w.seen (begins w.number it w.seen)) in
     record { call_is = k.0; way = k.1; waits = k.2; same = k.3 }
 
-pub with-disk : (w v x : Standing) (s page : ℕ) (it again : Call) (answer : Result Returned CcError) (was between now : List ℕ) → is_paged it ≡ true → IsOf it s → Went w v → HasWaited w v s page it again was between → WentOn v x → IsGood x.setup x.seen → IsFullFetching again x answer → ((begun : List Entry) → IsUnderWay v.number again begun v.seen → EndedSo v.setup v.number again answer begun x.seen between now) → Paged w x it answer was now
+pub with-disk : (w v x : Standing) (s page : ℕ) (it again : Call) (answer : Result Returned CcError) (was between now : List ℕ) → is_paged it ≡ true → CallIsOfStream it s → Went w v → HasWaited w v s page it again was between → WentOn v x → IsGood x.setup x.seen → IsFullFetching again x answer → ((begun : List Entry) → IsUnderWay v.number again begun v.seen → EndedSo v.setup v.number again answer begun x.seen between now) → Paged w x it answer was now
 with-disk w v x s page it again answer was between now paged filed went has on good full left = record {
   left = rw (setup, number, has.call_is, has.same) at (left w.seen way);
   full = full-for it w x answer had-missed (subst (λ (call : Call). IsFullFetching call x answer) has.call_is full);

@@ -18,7 +18,7 @@ use Rattle.cc_model.specs.History.{history}
 use Rattle.cc_model.specs.Ranges.{span_has}
 use Rattle.cc_model.specs.Residency.{residents}
 use Rattle.cc_model.specs.Setup.{Setup}
-use Rattle.cc_ranges.specs.Purge.{CameSoFar, WasEmptiedAlone}
+use Rattle.cc_ranges.specs.Purge.{PurgeCameSoFar, WasEmptiedAlone}
 use Rattle.cc_turns.specs.Standing.{Standing}
 use Rattle.cc_writes.specs.Calls.{IsFullWriting}
 use Rattle.cc_writes.specs.Fetch.{WentOn}
@@ -52,7 +52,7 @@ module _ (u : Setup) (me : ℕ) (file : File) (span : Option Range) (old new : L
           (may-stand u me left.placed.nth left.placed.stream (call.Purge file span) (outcome.Done reply.Unit) left.placed.later (left.earlier ++ old) new left.placed.grew good).may_end.1
 
 -- what a purge leaves, where the rest is known of it
-pub purge-ends : (w z : Standing) (file : File) (span : Option Range) (answer : Result (Unit {0}) CcError) → CallLeft w.setup w.number (call.Purge file span) (outcome_of answer) w.seen z.seen → IsFullWriting (call.Purge file span) z answer → WentOn w z → IsGood w.setup z.seen → OnOk answer (WasEmptiedAlone w.number file.stream w.seen z.seen) → IfErr answer (λ e. CameSoFar w.number file.stream w.seen z.seen) → PurgeEnds w z file span answer
+pub purge-ends : (w z : Standing) (file : File) (span : Option Range) (answer : Result (Unit {0}) CcError) → CallLeft w.setup w.number (call.Purge file span) (outcome_of answer) w.seen z.seen → IsFullWriting (call.Purge file span) z answer → WentOn w z → IsGood w.setup z.seen → OnOk answer (WasEmptiedAlone w.number file.stream w.seen z.seen) → IfErr answer (λ e. PurgeCameSoFar w.number file.stream w.seen z.seen) → PurgeEnds w z file span answer
 purge-ends w z file span (Ok _) left full on good emptied failed = record {
   left = left;
   full = full;

@@ -22,7 +22,7 @@ use Rattle.cc_model.specs.Turns.{Turn, Device, Book, Log, Journal, is_quiet, nee
 use Rattle.cc_step.specs.Step.{IsStop}
 use Rattle.cc_step.proofs.Reserved.{sum-same}
 use Rattle.cc_turns.specs.Journal.{JournalStands}
-use Rattle.cc_turns.specs.Standing.{Held, Standing, holds}
+use Rattle.cc_turns.specs.Standing.{TurnsHeld, Standing, holds}
 use Rattle.cc_turns.specs.Takes.{Grows, Takes, with_journal, without_journal}
 use Rattle.cc_writes.specs.Hands.{WentWith}
 use Rattle.cc_writes.specs.Logs.{IsStopAt}
@@ -36,7 +36,7 @@ use Rattle.cc_calls.proofs.Picking.{are-picked, good-scan, pushed-scan}
 use Rattle.cc_calls.proofs.Streamless.{reserving}
 
 -- the entry needs the turn of the journal alone
-quiet-scan : (h : Held) (pass : ℕ) (picked : List Page) → h.journal ≡ true → (t : Turn) → holds h t ≡ false → is_quiet t (entry.Scan pass picked ∷ []) ≡ true
+quiet-scan : (h : TurnsHeld) (pass : ℕ) (picked : List Page) → h.journal ≡ true → (t : Turn) → holds h t ≡ false → is_quiet t (entry.Scan pass picked ∷ []) ≡ true
 quiet-scan h pass picked journal t free = is_quiet-unneeded t (entry.Scan pass picked) [] (unneeded t free) ∙ is_quiet-none t
   where
     unneeded : (x : Turn) → holds h x ≡ false → needs (entry.Scan pass picked) x ≡ false
@@ -88,7 +88,7 @@ module _ {Q : Type 0} (posted : Q → Bool) (w v : Standing) (j k : JournalState
   vis = visiting posted w v j took stands
 
   away : w.held.journal ≡ false
-  away = ap (λ (h : Held). h.journal) can.free
+  away = ap (λ (h : TurnsHeld). h.journal) can.free
 
   mine : pass ≡ w.number
   mine = me ∙ ap (λ (x : Standing). x.number) took.same

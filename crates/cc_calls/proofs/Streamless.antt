@@ -41,7 +41,7 @@ use Rattle.cc_model.specs.Turns.{Turn, Device, Book, Log, Journal, needs, is_qui
 use Rattle.cc_step.specs.Step.{AddsOwing, IsStop, most_asked}
 use Rattle.cc_step.proofs.Placed.{so-far}
 use Rattle.cc_step.proofs.Reserved.{owed-least, stores-call, sum-same}
-use Rattle.cc_turns.specs.Standing.{Standing, Held, holds}
+use Rattle.cc_turns.specs.Standing.{Standing, TurnsHeld, holds}
 use Rattle.cc_turns.specs.Journal.{JournalStands}
 use Rattle.cc_turns.specs.Takes.{Takes, with_journal, without_journal}
 use Rattle.cc_writes.specs.Ways.{IsFull}
@@ -50,7 +50,7 @@ use Rattle.cc_writes.proofs.Replies.{full-stopped}
 use Rattle.cc_writes.proofs.OneVisit.{Visiting, Visited, visited, visiting, stepping-none}
 use Rattle.cc_calls.specs.Answers.{CallEnds, IsFree}
 use Rattle.cc_calls.specs.Pages.{StaysGood}
-use Rattle.cc_calls.specs.Streamless.{HasEnded, PlacesStreamless, StreamlessLeft, is_streamless, streamless}
+use Rattle.cc_calls.specs.Streamless.{StreamlessHasEnded, PlacesStreamless, StreamlessLeft, is_streamless, streamless}
 use Rattle.cc_calls.proofs.LogCalls.{idle-grows}
 
 -- such a call is filed under no stream, has no range, and is no store
@@ -132,7 +132,7 @@ pushed-streamless u past pass it ended alone is good =
     MayBePushed-good u past (streamless pass past it ended) (so-far u (streamless pass past it ended ∷ past) (good-streamless u past pass it ended alone is good))
 
 -- the entry needs the turn of the journal alone
-quiet-streamless : (h : Held) (pass : ℕ) (past : List Entry) (it : Call) (ended : Outcome) → h.journal ≡ true → (t : Turn) → holds h t ≡ false → is_quiet t (streamless pass past it ended ∷ []) ≡ true
+quiet-streamless : (h : TurnsHeld) (pass : ℕ) (past : List Entry) (it : Call) (ended : Outcome) → h.journal ≡ true → (t : Turn) → holds h t ≡ false → is_quiet t (streamless pass past it ended ∷ []) ≡ true
 quiet-streamless h pass past it ended journal t free = is_quiet-unneeded t (streamless pass past it ended) [] (unneeded t free) ∙ is_quiet-none t
   where
     unneeded : (x : Turn) → holds h x ≡ false → needs (streamless pass past it ended) x ≡ false
@@ -202,7 +202,7 @@ placed-streamless {Q} pass nth owed it ended between pushed k next is placed giv
     ∙ ap (λ (x : JournalState Q). record between { entries = entry.Call pass nth None it ended ∷ between.entries; reserved = (between.reserved - 1) - owed; rows = x.rows }) (sym given))))
 
 -- the call ended, whose entry was placed where one place was reserved for it
-pub ended-streamless : {Q : Type 0} (pass nth owed : ℕ) (it : Call) (ended : Outcome) (j between pushed k : JournalState Q) → is_streamless it ≡ true → reserved_in j.entries ≤ j.reserved → between ≡ reserving j → nth ≡ suc (calls_of between.entries pass) → owed ≡ owed_end between.entries pass → pushed ≡ record between { entries = entry.Call pass nth None it ended ∷ between.entries; reserved = between.reserved - 1; rows = pushed.rows } → k ≡ record pushed { reserved = pushed.reserved - owed } → ((u : Setup) → u.logs ≡ j.logs → IsOutcome u between.entries pass None it ended) → HasEnded pass it ended j k
+pub ended-streamless : {Q : Type 0} (pass nth owed : ℕ) (it : Call) (ended : Outcome) (j between pushed k : JournalState Q) → is_streamless it ≡ true → reserved_in j.entries ≤ j.reserved → between ≡ reserving j → nth ≡ suc (calls_of between.entries pass) → owed ≡ owed_end between.entries pass → pushed ≡ record between { entries = entry.Call pass nth None it ended ∷ between.entries; reserved = between.reserved - 1; rows = pushed.rows } → k ≡ record pushed { reserved = pushed.reserved - owed } → ((u : Setup) → u.logs ≡ j.logs → IsOutcome u between.entries pass None it ended) → StreamlessHasEnded pass it ended j k
 ended-streamless {Q = Q} pass nth owed it ended j between pushed k alone within same next owes placed given is = record {
   is = λ u logs. subst (λ (past : List Entry). IsOutcome u past pass None it ended) (ap (λ (x : JournalState Q). x.entries) same) (is u logs);
   placed = adds-owing pass it ended j k alone within
@@ -225,7 +225,7 @@ module _ {Q : Type 0} (posted : Q → Bool) (w v : Standing) (it : Call) (j k : 
   logs = sym (vis.journal.logs_are ∙ ap (λ x. x.setup.logs) vis.taken.same)
 
   -- it ended with its entry
-  module _ (ended : Outcome) (has : HasEnded w.number it ended j k) where
+  module _ (ended : Outcome) (has : StreamlessHasEnded w.number it ended j k) where
     entries-are : k.entries ≡ streamless w.number j.entries it ended ∷ j.entries
     entries-are = ap (λ x. x.entries) has.placed
 

@@ -40,7 +40,7 @@ use Rattle.cc_model.specs.Setup.{Setup}
 use Rattle.cc_model.specs.Throttle.{deferred, pages_for, queue}
 use Rattle.cc_model.specs.Turns.{Turn, Device, Book, Log, Journal, needs, is_quiet}
 use Rattle.cc_turns.specs.Journal.{JournalStands}
-use Rattle.cc_turns.specs.Standing.{Standing, Held, nothing, holds}
+use Rattle.cc_turns.specs.Standing.{Standing, TurnsHeld, nothing, holds}
 use Rattle.cc_turns.proofs.Taking.{book_kept}
 use Rattle.cc_turns.specs.Takes.{Takes, may_be_of, with_book, with_journal, without_book, without_journal}
 use Rattle.cc_writes.specs.Hands.{HasBook, Went}
@@ -89,7 +89,7 @@ reserved-posted id past =
 clash : true ≡ false → ⊥
 clash e = absurd (cc)
 
-quiet-deferred : (h : Held) (pass id : ℕ) (file : File) (pages : ℕ) (retrying : Bool) → h.book ≡ Some file.stream → h.journal ≡ true → (t : Turn) → holds h t ≡ false → is_quiet t (entry.Defer pass id file pages retrying ∷ []) ≡ true
+quiet-deferred : (h : TurnsHeld) (pass id : ℕ) (file : File) (pages : ℕ) (retrying : Bool) → h.book ≡ Some file.stream → h.journal ≡ true → (t : Turn) → holds h t ≡ false → is_quiet t (entry.Defer pass id file pages retrying ∷ []) ≡ true
 quiet-deferred h pass id file pages retrying book journal t free = is_quiet-unneeded t (entry.Defer pass id file pages retrying) [] (unneeded t free) ∙ is_quiet-none t
   where
     unneeded : (x : Turn) → holds h x ≡ false → needs (entry.Defer pass id file pages retrying) x ≡ false
@@ -98,7 +98,7 @@ quiet-deferred h pass id file pages retrying book journal t free = is_quiet-unne
     unneeded (Log n) apart = refl
     unneeded Journal apart = absurd (clash (sym journal ∙ apart))
 
-quiet-posted : (h : Held) (id : ℕ) → h.journal ≡ true → (t : Turn) → holds h t ≡ false → is_quiet t (entry.Posted id ∷ []) ≡ true
+quiet-posted : (h : TurnsHeld) (id : ℕ) → h.journal ≡ true → (t : Turn) → holds h t ≡ false → is_quiet t (entry.Posted id ∷ []) ≡ true
 quiet-posted h id journal t free = is_quiet-unneeded t (entry.Posted id) [] (unneeded t free) ∙ is_quiet-none t
   where
     unneeded : (x : Turn) → holds h x ≡ false → needs (entry.Posted id) x ≡ false
@@ -420,7 +420,7 @@ module _ {Q : Type 0} (posted : Q → Bool) (w v : Standing) (j k : JournalState
     book-deferred z is =
         let given = gives-deferred in
         subst (λ (x : Standing). HasBook x file.stream has.0) (sym is) (record {
-          held = subst (λ (h : Held). h ≡ record nothing { device = h.device; book = Some file.stream }) (sym (ap (λ x. x.held) given.went.same)) has.1.held;
+          held = subst (λ (h : TurnsHeld). h ≡ record nothing { device = h.device; book = Some file.stream }) (sym (ap (λ x. x.held) given.went.same)) has.1.held;
           stream = has.1.stream;
           stands = subst (λ (u : Setup). BookStands (u.opening file.stream) k.entries has.0) (sym (ap (λ x. x.setup) given.went.same)) (stands-behind has.0 has.1 answer mine);
           good = given.good;
@@ -458,8 +458,8 @@ module _ (w v x y : Standing) (file : File) (bytes : ℕ) (retrying : Bool) (ans
         gave
         ∙ (ap without_book ends.goes_on.same
         ∙ (ap (λ (z : Standing). record z { held = record z.held { book = None }; seen = x.seen; others = x.others }) took.same
-        ∙ (ap (λ (h : Held). record w { seen = x.seen; held = record h { book = None }; others = x.others }) can.free
-        ∙ (sym (ap (λ (h : Held). record w { seen = x.seen; held = h; others = x.others }) can.free)
+        ∙ (ap (λ (h : TurnsHeld). record w { seen = x.seen; held = record h { book = None }; others = x.others }) can.free
+        ∙ (sym (ap (λ (h : TurnsHeld). record w { seen = x.seen; held = h; others = x.others }) can.free)
         ∙ ap (λ (z : Standing). record w { seen = z.seen; others = z.others }) (sym gave)))));
   }
 

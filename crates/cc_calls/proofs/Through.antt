@@ -36,7 +36,7 @@ use Rattle.cc_turns.specs.Standing.{Standing}
 use Rattle.cc_effects.specs.Begins.{BeginsAscending, BeginsNone}
 use Rattle.cc_effects.proofs.Begun.{ascend-none, ascend-then, none-behind, none-idle, none-then, none-works}
 use Rattle.cc_writes.specs.Calls.{IsFullWriting}
-use Rattle.cc_calls.specs.Held.{IsHolding, range_of}
+use Rattle.cc_calls.specs.Held.{IsHolding, held_range}
 use Rattle.cc_calls.specs.Ends.{HoldEnded, UnpinEnds}
 use Rattle.cc_calls.specs.declared.held.Held.{Held}
 use Rattle.cc_calls.proofs.Holding.{so-far}
@@ -128,7 +128,7 @@ module _ (w v : Standing) (of_kind : HoldKind → Bool) (held : Held) (h : IsHol
   same-number = ap (λ (x : Standing). x.number) ended.goes_on.same
 
   -- with it the range of the hold is flushed
-  module _ (x : Standing) (span : Range) (answer : Result (Unit {0}) CcError) (is : span ≡ range_of held) (flushed : FlushEnds v x held.file (Some span) answer) where
+  module _ (x : Standing) (span : Range) (answer : Result (Unit {0}) CcError) (is : span ≡ held_range held) (flushed : FlushEnds v x held.file (Some span) answer) where
     range-is : range_held h.hold ≡ span
     range-is = rw (h.at_is, h.len_is) (sym is)
 
@@ -144,10 +144,10 @@ module _ (w v : Standing) (of_kind : HoldKind → Bool) (held : Held) (h : IsHol
     grew : v.seen ≡ middle ++ w.seen
     grew = ended.left.placed.grew ∙ sym (append_assoc ended.left.placed.later _ w.seen)
 
-    since : OnOk answer (IsDurable w.setup w.number held.file.stream (Some (range_of held)) w.seen x.seen)
+    since : OnOk answer (IsDurable w.setup w.number held.file.stream (Some (held_range held)) w.seen x.seen)
     since =
-        durable-answer w.setup w.number held.file.stream (Some (range_of held)) middle w.seen x.seen answer
-        (subst (λ (past : List Entry). OnOk answer (IsDurable w.setup w.number held.file.stream (Some (range_of held)) past x.seen)) grew
+        durable-answer w.setup w.number held.file.stream (Some (held_range held)) middle w.seen x.seen answer
+        (subst (λ (past : List Entry). OnOk answer (IsDurable w.setup w.number held.file.stream (Some (held_range held)) past x.seen)) grew
         (subst (λ (r : Range). OnOk answer (IsDurable w.setup w.number held.file.stream (Some r) v.seen x.seen)) is
         (rw (same-setup, same-number) at flushed.durable)))
 

@@ -32,11 +32,11 @@ use Rattle.cc_turns.specs.Standing.{Standing}
 use Rattle.cc_writes.specs.Fetch.{CanCall, WentOn}
 use Rattle.cc_calls.specs.Answers.{IsFree}
 use Rattle.cc_calls.specs.Pages.{StaysGood}
-use Rattle.cc_calls.specs.PageWrites.{IsFullPage, IsWritten, IsWrittenOf, told_of}
-use Rattle.cc_calls.specs.Ticks.{AllLeft, AreCutOff, ArePicked, AreWritten, IsFullAmong, counted, has_disk, pages_counted}
-use Rattle.cc_calls.specs.declared.page_writes.PageWrite.{PageWrite}
-use Rattle.cc_calls.specs.declared.page_writes.PageWrite.TheVariants as write
-use Rattle.cc_calls.specs.declared.ticks.Counts.{Counts}
+use Rattle.cc_calls.specs.PageWrites.{IsFullPage, IsWrittenAmong, IsWrittenOf, told_page_write}
+use Rattle.cc_calls.specs.Ticks.{AllLeft, AreCutOff, ArePicked, AreWritten, IsFullAmong, counted_page, has_disk, pages_counted}
+use Rattle.cc_calls.specs.declared.page_writes.PageWriteAnswer.{PageWriteAnswer}
+use Rattle.cc_calls.specs.declared.page_writes.PageWriteAnswer.TheVariants as write
+use Rattle.cc_calls.specs.declared.ticks.TickCounts.{TickCounts}
 use Rattle.cc_calls.proofs.OnePage.{IsNone, IsOne, none-of, one-of, same-page}
 
 -- Pages that are in order stay so with one more to choose from.
@@ -208,10 +208,10 @@ false-of true never = absurd (never refl)
 false-of false never = refl
 
 -- it is counted once, by what is told of it
-count-one : (told : PageWrite) (one : Became) → told ≡ told_of one → (counts : Counts)
-    → ((counted told counts).written ≡ counts.written + cond (is_written one) 1 0)
-    × (((counted told counts).skipped ≡ counts.skipped + cond (is_skipped one) 1 0)
-    × ((counted told counts).failed ≡ counts.failed + cond (is_failed_page one) 1 0))
+count-one : (told : PageWriteAnswer) (one : Became) → told ≡ told_page_write one → (counts : TickCounts)
+    → ((counted_page told counts).written ≡ counts.written + cond (is_written one) 1 0)
+    × (((counted_page told counts).skipped ≡ counts.skipped + cond (is_skipped one) 1 0)
+    × ((counted_page told counts).failed ≡ counts.failed + cond (is_failed_page one) 1 0))
 count-one told Written is counts = rw is (refl, (omega arith, omega arith))
 count-one told Skipped is counts = rw is (omega arith, (refl, omega arith))
 count-one told NotWritten is counts = rw is (omega arith, (omega arith, refl))
@@ -273,7 +273,7 @@ so-next me pages error.NoMemory later during want so memory fewer =
 so-next me pages other later during want so memory fewer = absurd want
 
 -- One more was written, or was not.
-module _ (me : ℕ) (pages first : List Page) (counts : Counts) (old between new : List Entry) (all : AreWritten me pages first counts old between)
+module _ (me : ℕ) (pages first : List Page) (counts : TickCounts) (old between new : List Entry) (all : AreWritten me pages first counts old between)
     (page : Page) (apart : AllByRecursion (λ other. is_same_page other page ≡ false) first) where
   ended-next : (during : List Entry) → ((other : Page) → is_same_page other page ≡ false → has_end (λ how. true) me other during ≡ false) → (other : Page) → has_end (λ how. true) me other (during ++ all.during) ≡ true → list_any (is_same_page other) (first ++ page ∷ []) ≡ true
   ended-next during others other has = go (is_same_page other page) refl
@@ -293,7 +293,7 @@ module _ (me : ℕ) (pages first : List Page) (counts : Counts) (old between new
   more-logs : (one : ℕ) (n m a b logged : ℕ) → n ≡ m + one → logged ≡ a + b → one ≤ a → m ≤ b → n ≤ logged
   more-logs one n m a b logged is sum here before = omega (arith, is, sum, here, before)
 
-  pub written-next : (told : PageWrite) → IsWrittenOf me pages page (Ok told) between new → AreWritten me pages (first ++ page ∷ []) (counted told counts) old new
+  pub written-next : (told : PageWriteAnswer) → IsWrittenOf me pages page (Ok told) between new → AreWritten me pages (first ++ page ∷ []) (counted_page told counts) old new
   written-next told is =
       let one = one-of me page told is.during between is.placed in
       let here : IsOne me page one.0 is.during (all.during ++ old) = subst (λ (past : List Entry). IsOne me page one.0 is.during past) all.grew one.2 in
@@ -362,7 +362,7 @@ sum-ends (one ∷ ends) =
     parts : (a b c x y z : ℕ) {l m n : ℕ} → l ≡ x + a → m ≡ y + b → n ≡ z + c → x + y + z ≡ 1 → a + b + c ≡ length ends → l + m + n ≡ suc (length ends)
     parts a b c x y z first second third one rest = omega (arith, first, second, third, one, rest)
 
-pub counts-sum : (me : ℕ) (pages first : List Page) (counts : Counts) (old new : List Entry) → AreWritten me pages first counts old new → pages_counted counts ≡ length first
+pub counts-sum : (me : ℕ) (pages first : List Page) (counts : TickCounts) (old new : List Entry) → AreWritten me pages first counts old new → pages_counted counts ≡ length first
 counts-sum me pages first counts old new all =
     all-parts _ _ _ _ all.written all.skipped all.failed (sum-ends all.ends) (length-became me first all.ends all.during old all.became)
   where
@@ -370,7 +370,7 @@ counts-sum me pages first counts old new all =
     all-parts a b c n first_is second_is third_is sum long = omega (arith, first_is, second_is, third_is, sum, long)
 
 -- The pages are written so far, and the pass goes on as it stood.
-pub record WritesOn (w v : Standing) (pages : List Page) (done : ℕ) (counts : Counts) : Type 0 where
+pub record WritesOn (w v : Standing) (pages : List Page) (done : ℕ) (counts : TickCounts) : Type 0 where
   pub went : WentOn w v
   pub good : StaysGood w v
   pub written : AreWritten w.number pages (take done pages) counts w.seen v.seen
@@ -379,7 +379,7 @@ pub writes-begin : (w : Standing) (pages : List Page) → WritesOn w w pages 0 (
 writes-begin w pages = record { went = record { same = refl }; good = λ is. is; written = written-none w.number pages w.seen }
 
 -- how many are counted by then
-pub few-counted : (w v : Standing) (pages : List Page) (done : ℕ) (counts : Counts) → done ≤ length pages → length pages ≤ 16384 → WritesOn w v pages done counts → pages_counted counts ≤ 16384
+pub few-counted : (w v : Standing) (pages : List Page) (done : ℕ) (counts : TickCounts) → done ≤ length pages → length pages ≤ 16384 → WritesOn w v pages done counts → pages_counted counts ≤ 16384
 few-counted w v pages done counts within most on =
     omega (arith, within, most, counts-sum w.number pages (take done pages) counts w.seen v.seen on.written, length-take-le done pages within)
 
@@ -388,7 +388,7 @@ split-at : (pages : List Page) (done : ℕ) (page : Page) → done < length page
 split-at pages done page below is =
     sym (take-append-drop done pages) ∙ ap (λ (l : List Page). take done pages ++ l) (drop-cons pages done page below ∙ ap (λ (p : Page). p ∷ drop (suc done) pages) is)
 
-module _ (w v x : Standing) (pages : List Page) (done : ℕ) (counts : Counts) (page : Page) (picked : ArePicked w.streams pages) (on : WritesOn w v pages done counts)
+module _ (w v x : Standing) (pages : List Page) (done : ℕ) (counts : TickCounts) (page : Page) (picked : ArePicked w.streams pages) (on : WritesOn w v pages done counts)
     (below : done < length pages) (is_page : get_or pages done page ≡ page) where
   split : pages ≡ take done pages ++ page ∷ drop (suc done) pages
   split = split-at pages done page below is_page
@@ -421,17 +421,17 @@ module _ (w v x : Standing) (pages : List Page) (done : ℕ) (counts : Counts) (
   writes-good is was = subst (λ (u : Setup). IsGood u x.seen) (ap (λ (y : Standing). y.setup) on.went.same) is
 
   -- it was written, or was not
-  pub writes-more : (told : PageWrite) → WentOn v x → IsGood v.setup x.seen → IsWritten v.number page (Ok told) v.seen x.seen → WritesOn w x pages (done + 1) (counted told counts)
+  pub writes-more : (told : PageWriteAnswer) → WentOn v x → IsGood v.setup x.seen → IsWrittenAmong v.number page (Ok told) v.seen x.seen → WritesOn w x pages (done + 1) (counted_page told counts)
   writes-more told more good is = record {
     went = went_more more;
     good = writes-good good;
-    written = subst (λ (l : List Page). AreWritten w.number pages l (counted told counts) w.seen x.seen) (sym (take_more pages done page below ∙ ap (λ (p : Page). take done pages ++ p ∷ []) is_page))
+    written = subst (λ (l : List Page). AreWritten w.number pages l (counted_page told counts) w.seen x.seen) (sym (take_more pages done page below ∙ ap (λ (p : Page). take done pages ++ p ∷ []) is_page))
         (written-next w.number pages (take done pages) counts w.seen v.seen x.seen on.written page apart told
         (subst (λ (n : ℕ). IsWrittenOf n pages page (Ok told) v.seen x.seen) number_same (is pages among)));
   }
 
   -- room or memory was wanting
-  pub writes-cut : (e : CcError) → IsWritten v.number page (Err e) v.seen x.seen → AllLeft w.number pages (Err e) w.seen x.seen
+  pub writes-cut : (e : CcError) → IsWrittenAmong v.number page (Err e) v.seen x.seen → AllLeft w.number pages (Err e) w.seen x.seen
   writes-cut e is =
       cut-off-next w.number pages (take done pages) counts w.seen v.seen x.seen on.written page apart e (drop (suc done) pages) split
       (subst (λ (n : ℕ). IsWrittenOf n pages page (Err e) v.seen x.seen) number_same (is pages among))
@@ -444,5 +444,5 @@ module _ (w v x : Standing) (pages : List Page) (done : ℕ) (counts : Counts) (
   writes-went more = went_more more
 
 -- all of them were
-pub writes-all : (w v : Standing) (pages : List Page) (done : ℕ) (counts : Counts) → length pages ≤ done → WritesOn w v pages done counts → AllLeft w.number pages (Ok counts) w.seen v.seen
+pub writes-all : (w v : Standing) (pages : List Page) (done : ℕ) (counts : TickCounts) → length pages ≤ done → WritesOn w v pages done counts → AllLeft w.number pages (Ok counts) w.seen v.seen
 writes-all w v pages done counts over on = subst (λ (l : List Page). AreWritten w.number pages l counts w.seen v.seen) (take_all done pages over) on.written

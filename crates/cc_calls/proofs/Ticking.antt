@@ -23,11 +23,11 @@ use Rattle.cc_writes.specs.Ways.{IsFull}
 use Rattle.cc_calls.specs.Answers.{IsFree}
 use Rattle.cc_calls.specs.Pages.{StaysGood}
 use Rattle.cc_calls.specs.Ticks.{AllLeft, AreCutOff, ArePicked, AreWritten, IsFullAmong, IsFullTick, ScanLeft, TickEnds}
-use Rattle.cc_calls.specs.declared.ticks.Counts.{Counts}
+use Rattle.cc_calls.specs.declared.ticks.TickCounts.{TickCounts}
 use Rattle.cc_calls.proofs.LogCalls.{idle-grows}
 
 -- how a tick is answered that picked these pages and counted them so
-abbrev pub ticked : List Page → Counts → Tick
+abbrev pub ticked : List Page → TickCounts → Tick
 ticked picked counts = record { picked = picked; written = counts.written; skipped = counts.skipped; failed = counts.failed }
 
 -- the pass goes on behind the scan as it stood
@@ -74,7 +74,7 @@ scanned-behind w picked seen new scan during grew works in_order = record {
   in_order = in_order;
 }
 
-ticked-behind : (w : Standing) (picked : List Page) (counts : Counts) (seen new : List Entry) → HasPlaced w (entry.Scan w.number picked) seen → AreWritten w.number picked picked counts seen new → HasTicked w.number (ticked picked counts) w.seen new
+ticked-behind : (w : Standing) (picked : List Page) (counts : TickCounts) (seen new : List Entry) → HasPlaced w (entry.Scan w.number picked) seen → AreWritten w.number picked picked counts seen new → HasTicked w.number (ticked picked counts) w.seen new
 ticked-behind w picked counts seen new scan all = record {
   during = all.during;
   scanned = scanned-behind w picked seen new scan all.during all.grew all.works all.in_order;
@@ -99,7 +99,7 @@ module _ (w x z : Standing) (picked : List Page) (went : Went w x) (scan : HasPl
   number_is : x.number ≡ w.number
   number_is = ap (λ (y : Standing). y.number) went.same
 
-  pub tick-counted : (counts : Counts) → AllLeft x.number picked (Ok counts) x.seen z.seen → TickEnds w z (Ok (ticked picked counts))
+  pub tick-counted : (counts : TickCounts) → AllLeft x.number picked (Ok counts) x.seen z.seen → TickEnds w z (Ok (ticked picked counts))
   tick-counted counts left = record {
     left = ticked-behind w picked counts x.seen z.seen scan (subst (λ (n : ℕ). AreWritten n picked picked counts x.seen z.seen) number_is left);
     full = tt;

@@ -22,7 +22,7 @@ use Rattle.cc_own.proofs.OwnHolds.{filed-grows}
 use Rattle.cc_step.specs.Step.{asked_now, most_asked}
 use Rattle.cc_step.proofs.Asking.{most}
 use Rattle.cc_step.proofs.Placed.{so-far}
-use Rattle.cc_turns.specs.Standing.{Standing, Held, nothing}
+use Rattle.cc_turns.specs.Standing.{Standing, TurnsHeld, nothing}
 use Rattle.cc_turns.specs.Takes.{Takes, with_book, without_book}
 use Rattle.cc_writes.specs.Hands.{HasBook, Went}
 use Rattle.cc_writes.specs.Visits.{IsFiledNow, IsFullTried, TriedLeft}
@@ -48,7 +48,7 @@ module _ (w v : Standing) (s : ℕ) (b : BookState) (took : Takes (with_book s) 
   -- the book that was taken is in hand
   pub has-book : CanCall w s → BookStands (v.setup.opening s) v.seen b → HasBook v b.stream b
   has-book can stands = record {
-    held = let at : v.held ≡ record nothing { book = Some s } = ap (λ x. x.held) took.same ∙ ap (λ (h : Held). record h { book = Some s }) can.free in rw (b_is, at) refl;
+    held = let at : v.held ≡ record nothing { book = Some s } = ap (λ x. x.held) took.same ∙ ap (λ (h : TurnsHeld). record h { book = Some s }) can.free in rw (b_is, at) refl;
     stream = refl;
     stands = subst (λ (n : ℕ). BookStands (v.setup.opening n) v.seen b) (sym b_is) stands;
     good = took.good;

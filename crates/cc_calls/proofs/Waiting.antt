@@ -8,7 +8,7 @@ use Rattle.cc_entry.specs.Place.{Range}
 use Rattle.cc_entry.specs.declared.call.Call.{Call}
 use Rattle.cc_entry.specs.declared.call.Call.TheVariants as call
 use Rattle.cc_entry.specs.declared.entry.Entry.{Entry}
-use Rattle.cc_effects.specs.Asked.{brings_in, is_of, range_has, reaches}
+use Rattle.cc_effects.specs.Asked.{brings_in, is_file_of_page, range_has, reaches}
 use Rattle.cc_laws.proofs.UnrefusedCalls.{unrefused}
 use Rattle.cc_model.specs.Acts.{file_of}
 use Rattle.cc_model.specs.History.{Effect, history}
@@ -18,7 +18,7 @@ use Rattle.cc_model.specs.Setup.{Setup}
 use Rattle.cc_model.specs.Touches.{size_of}
 use Rattle.cc_step.proofs.Waiting.{needed-range}
 use Rattle.cc_step.specs.Step.{is_stepped, least_absent, needed_range}
-use Rattle.cc_writes.specs.Visits.{IsOf, IsWaitedFor}
+use Rattle.cc_writes.specs.Visits.{CallIsOfStream, IsWaitedFor}
 use Rattle.cc_calls.specs.Paged.{is_paged}
 
 pub stepped : (it : Call) → is_paged it ≡ true → is_stepped it ≡ true
@@ -82,7 +82,7 @@ least-page h (Some r) page least =
     let k = found-page (λ p. not (is_resident h p)) r page least in
     (k.0, fails (is_resident h page) k.1)
 
-of-stream : (it : Call) (s page : ℕ) → is_paged it ≡ true → IsOf it s → is_of (file_of it) (record { stream = s; page = page }) ≡ true
+of-stream : (it : Call) (s page : ℕ) → is_paged it ≡ true → CallIsOfStream it s → is_file_of_page (file_of it) (record { stream = s; page = page }) ≡ true
 of-stream (call.CopyRead file at len wait) s page paged filed = let is = filed [] 0 in eq-eqb file.stream s (cc)
 of-stream (call.CopyWrite file at bytes) s page paged filed = let is = filed [] 0 in eq-eqb file.stream s (cc)
 of-stream (call.Zero file span) s page paged filed = let is = filed [] 0 in eq-eqb file.stream s (cc)
@@ -99,7 +99,7 @@ pub record IsMissed (it : Call) (s page : ℕ) (past : List Entry) : Type 0 wher
   pub reached : reaches it (record { stream = s; page = page }) past ≡ true
   pub absent : is_resident (history past s) page ≡ false
 
-pub missed-page : (u : Setup) (it : Call) (s page : ℕ) (past : List Entry) → is_paged it ≡ true → IsOf it s → IsWaitedFor u s it page past → IsMissed it s page past
+pub missed-page : (u : Setup) (it : Call) (s page : ℕ) (past : List Entry) → is_paged it ≡ true → CallIsOfStream it s → IsWaitedFor u s it page past → IsMissed it s page past
 missed-page u it s page past paged filed waits = by (needed_range h it) refl waits.least
   where
     h : List Effect

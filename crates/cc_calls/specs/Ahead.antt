@@ -41,7 +41,7 @@ AskedAt other was now = now ≡ was
 
 -- The queue is full for a call for read-ahead: nothing refuses it, the reads of its object lead to a request, and its entry, which
 -- says that it failed so, stands last.
-pub record IsTurnedAway {Q : Type 0} (u : Setup) (pass : ℕ) (file : File) (at len : ℕ) (b c : BookState) (j k : JournalState Q)
+pub record AskIsTurnedAway {Q : Type 0} (u : Setup) (pass : ℕ) (file : File) (at len : ℕ) (b c : BookState) (j k : JournalState Q)
     : Type 0 where
   pub admitted : refusal u j.entries (history j.entries b.stream) (call.AskAhead file at len) ≡ None
   pub wanted : is_some (ahead_of (history j.entries b.stream) file at len) ≡ true
@@ -50,7 +50,7 @@ pub record IsTurnedAway {Q : Type 0} (u : Setup) (pass : ℕ) (file : File) (at 
   pub same : c ≡ b
 
 -- no room for the entry, or no memory, and nothing changed
-pub record IsStopped {Q : Type 0} (e : CcError) (b c : BookState) (j k : JournalState Q) : Type 0 where
+pub record AheadIsStopped {Q : Type 0} (e : CcError) (b c : BookState) (j k : JournalState Q) : Type 0 where
   pub stop : IsStop 1 e j
   pub same_book : c ≡ b
   pub same_journal : k ≡ j
@@ -60,9 +60,9 @@ pub record IsStopped {Q : Type 0} (e : CcError) (b c : BookState) (j k : Journal
 abbrev pub AskedIn : {Q : Type 0} → Setup → ℕ → File → ℕ → ℕ → Result (Option Request) CcError
     → BookState → BookState → JournalState Q → JournalState Q → Type 0
 AskedIn u pass file at len (Ok request) b c j k = AttemptDone u pass (call.AskAhead file at len) (reply.Ahead request) b c j k
-AskedIn u pass file at len (Err error.QueueFull) b c j k = IsTurnedAway u pass file at len b c j k
-AskedIn u pass file at len (Err (error.JournalFull entries)) b c j k = IsStopped (error.JournalFull entries) b c j k
-AskedIn u pass file at len (Err error.NoMemory) b c j k = IsStopped error.NoMemory b c j k
+AskedIn u pass file at len (Err error.QueueFull) b c j k = AskIsTurnedAway u pass file at len b c j k
+AskedIn u pass file at len (Err (error.JournalFull entries)) b c j k = AheadIsStopped (error.JournalFull entries) b c j k
+AskedIn u pass file at len (Err error.NoMemory) b c j k = AheadIsStopped error.NoMemory b c j k
 AskedIn u pass file at len (Err e) b c j k = AttemptRefused u pass (call.AskAhead file at len) e b c j k
 
 -- What a call for read-ahead is to answer, given what the queue did with its request: what refuses it; the request that its
@@ -82,7 +82,7 @@ whole_outcome (Ok whole) = outcome.Done (reply.Whole whole)
 whole_outcome (Err e) = outcome.Failed e
 
 -- A request was served, and answered so.
-pub record Served (old new : Standing) (request : Request) (answer : Result Bool CcError) : Type 0 where
+pub record RequestServed (old new : Standing) (request : Request) (answer : Result Bool CcError) : Type 0 where
   pub left : CallLeft old.setup old.number (call.AheadStep request) (whole_outcome answer) old.seen new.seen
   pub full : IsFullFor (call.AheadStep request) old new answer
   pub missed : TookDeviceFor (call.AheadStep request) old new
@@ -91,9 +91,9 @@ pub record Served (old new : Standing) (request : Request) (answer : Result Bool
 
 -- A request was served by a step that was answered so.
 abbrev pub IsServed : Standing → Standing → Request → Result (Option AheadDone) CcError → Type 0
-IsServed old new request (Ok (Some done)) = (done.request ≡ request) × Served old new request (Ok done.whole)
+IsServed old new request (Ok (Some done)) = (done.request ≡ request) × RequestServed old new request (Ok done.whole)
 IsServed old new request (Ok None) = ⊥
-IsServed old new request (Err e) = Served old new request (Err e)
+IsServed old new request (Err e) = RequestServed old new request (Err e)
 
 -- The entry of a step was placed in a journal that tells that it brought nothing in; or there was no room or no memory, and
 -- nothing changed.
@@ -105,9 +105,9 @@ PassedOver pass request (Err e) j k = IsStop 1 e j × (k ≡ j)
 
 -- Where a read-ahead step finds the journal full that took this request, there is no room as for every call that needs
 -- pages. One that took none asks for none.
-abbrev pub IsFullStep : Option Request → Standing → Standing → Result (Option AheadDone) CcError → Type 0
-IsFullStep None old new answer = Unit {0}
-IsFullStep (Some request) old new answer = IsFullFor (call.AheadStep request) old new answer
+abbrev pub IsFullAheadStep : Option Request → Standing → Standing → Result (Option AheadDone) CcError → Type 0
+IsFullAheadStep None old new answer = Unit {0}
+IsFullAheadStep (Some request) old new answer = IsFullFor (call.AheadStep request) old new answer
 
 -- A step that took this request took the turn of a disk only for a page of it that was not resident. One that took none took
 -- no turn at all, and has seen nothing more.
@@ -123,7 +123,7 @@ pub record StepEnds (old new : Standing) (was now : PlaceState Request) (answer 
   pub taken : Option Request
   pub popped : PopLeft taken was now
   pub left : AheadLeft old.setup old.number taken answer old.seen new.seen
-  pub full : IsFullStep taken old new answer
+  pub full : IsFullAheadStep taken old new answer
   pub turns : TookFor taken old new
   pub goes_on : WentOn old new
   pub good : StaysGood old new

@@ -41,27 +41,27 @@ pub record IsUnheld (h : List Effect) (file : File) (span : Option Range) : Type
   pub unheld : least_id (has_page_of span) (holds_of h) ≡ None
 
 -- And of each dirty page of the span the image is known.
-pub record IsSettled (h : List Effect) (file : File) (span : Option Range) : Type 0 where
+pub record SpanIsSettled (h : List Effect) (file : File) (span : Option Range) : Type 0 where
   pub unheld : IsUnheld h file span
   pub settled : (p : ℕ) → is_dirty h p ≡ true → span_has span p ≡ true → is_known h p ≡ true
 
 -- A discard may be done: none of them has grown either, and no transfer of the stream is under way.
 pub record MayDiscard (h : List Effect) (file : File) (span : Option Range) : Type 0 where
-  pub settled : IsSettled h file span
+  pub settled : SpanIsSettled h file span
   pub none_grown : (p : ℕ) → is_dirty h p ≡ true → span_has span p ≡ true → has_grown h p ≡ false
   pub no_transfer : open_of h ≡ None
 
 -- Why a discard is refused, the first that holds: the object is not open; a hold has a page of the span, the one with the
 -- least id; the image of a dirty page of the span is not known, the least such page; or one has grown, the least such page.
-abbrev pub IsReason : List Effect → File → Option Range → CcError → Type 0
-IsReason h file span error.NotCached = is_open h file ≡ false
-IsReason h file span (error.Held id) = (is_open h file ≡ true) × (least_id (has_page_of span) (holds_of h) ≡ Some id)
-IsReason h file span (error.Unsettled page) = IsUnheld h file span × IsLeastDirty h span (λ p. not (is_known h p)) page
-IsReason h file span (error.Grown page) = IsSettled h file span × IsLeastDirty h span (has_grown h) page
-IsReason h file span other = ⊥
+abbrev pub IsDiscardReason : List Effect → File → Option Range → CcError → Type 0
+IsDiscardReason h file span error.NotCached = is_open h file ≡ false
+IsDiscardReason h file span (error.Held id) = (is_open h file ≡ true) × (least_id (has_page_of span) (holds_of h) ≡ Some id)
+IsDiscardReason h file span (error.Unsettled page) = IsUnheld h file span × IsLeastDirty h span (λ p. not (is_known h p)) page
+IsDiscardReason h file span (error.Grown page) = SpanIsSettled h file span × IsLeastDirty h span (has_grown h) page
+IsDiscardReason h file span other = ⊥
 
 -- After others went on, the pass placed the entry of its discard, and nothing else.
-pub record IsPlaced (me : ℕ) (file : File) (span : Option Range) (ended : Outcome) (old new : List Entry) : Type 0 where
+pub record DiscardIsPlaced (me : ℕ) (file : File) (span : Option Range) (ended : Outcome) (old new : List Entry) : Type 0 where
   pub front : List Entry
   pub idle : IsIdle me old front
   pub nth : ℕ
@@ -86,15 +86,15 @@ pub record HasDropped (before after : List Effect) (span : Option Range) : Type 
 
 -- A discard was done: it might be done at its entry's front, and dropped the pages of its span. Other streams are as they were.
 pub record IsDiscarded (me : ℕ) (file : File) (span : Option Range) (old new : List Entry) : Type 0 where
-  pub alone : IsPlaced me file span (outcome.Done reply.Unit) old new
+  pub alone : DiscardIsPlaced me file span (outcome.Done reply.Unit) old new
   pub may : MayDiscard (history alone.front file.stream) file span
   pub dropped : HasDropped (history alone.front file.stream) (history new file.stream) span
   pub elsewhere : (s : ℕ) → (file.stream == s) ≡ false → history new s ≡ history alone.front s
 
 -- It was refused, by the first reason that holds at its entry's front.
-pub record IsRefused (me : ℕ) (file : File) (span : Option Range) (e : CcError) (old new : List Entry) : Type 0 where
-  pub alone : IsPlaced me file span (outcome.Failed e) old new
-  pub reason : IsReason (history alone.front file.stream) file span e
+pub record DiscardIsRefused (me : ℕ) (file : File) (span : Option Range) (e : CcError) (old new : List Entry) : Type 0 where
+  pub alone : DiscardIsPlaced me file span (outcome.Failed e) old new
+  pub reason : IsDiscardReason (history alone.front file.stream) file span e
 
 -- What a discard did, by cases over its answer. It asked one place, which there was not, or found no memory, and then the
 -- pass placed nothing.
@@ -102,16 +102,16 @@ abbrev pub DiscardDid : ℕ → File → Option Range → Result (Unit {0}) CcEr
 DiscardDid me file span (Ok done) old new = IsDiscarded me file span old new
 DiscardDid me file span (Err (error.JournalFull entries)) old new = IsIdle me old new
 DiscardDid me file span (Err error.NoMemory) old new = IsIdle me old new
-DiscardDid me file span (Err e) old new = IsRefused me file span e old new
+DiscardDid me file span (Err e) old new = DiscardIsRefused me file span e old new
 
 -- What a discard leaves of a book and a journal in hand, by cases over its answer: its entry, or nothing.
-abbrev pub StepLeft : {Q : Type 0} → Setup → ℕ → File → Option Range → Result (Unit {0}) CcError
+abbrev pub DiscardStepLeft : {Q : Type 0} → Setup → ℕ → File → Option Range → Result (Unit {0}) CcError
     → BookState → BookState → JournalState Q → JournalState Q → Type 0
-StepLeft u pass file span (Ok done) b c j k = AttemptDone u pass (call.Discard file span) reply.Unit b c j k
-StepLeft u pass file span (Err (error.JournalFull entries)) b c j k =
+DiscardStepLeft u pass file span (Ok done) b c j k = AttemptDone u pass (call.Discard file span) reply.Unit b c j k
+DiscardStepLeft u pass file span (Err (error.JournalFull entries)) b c j k =
     IsStop 1 (error.JournalFull entries) j × FoundNone u b c j k
-StepLeft u pass file span (Err error.NoMemory) b c j k = IsStop 1 error.NoMemory j × FoundNone u b c j k
-StepLeft u pass file span (Err e) b c j k = AttemptRefused u pass (call.Discard file span) e b c j k
+DiscardStepLeft u pass file span (Err error.NoMemory) b c j k = IsStop 1 error.NoMemory j × FoundNone u b c j k
+DiscardStepLeft u pass file span (Err e) b c j k = AttemptRefused u pass (call.Discard file span) e b c j k
 
 -- A discard of a span was answered so: it left what explains its answer; where it finds the journal full, there is no room
 -- for one entry; it took the turn of a disk once; the pass goes on as it stood and may call again, and what it has seen is

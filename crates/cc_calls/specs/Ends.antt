@@ -24,8 +24,8 @@ use Rattle.cc_writes.specs.Hands.{Went}
 use Rattle.cc_writes.specs.Ways.{IsFull, IsFullOn}
 use Rattle.cc_calls.specs.Answers.{CallEnds, outcome_of}
 use Rattle.cc_calls.specs.Flushes.{IsDurable}
-use Rattle.cc_calls.specs.Pages.{IsFullFor, PagesLeft, StaysGood, WentOn}
-use Rattle.cc_calls.specs.Held.{IsHolding, range_of}
+use Rattle.cc_calls.specs.Pages.{IsFullFor, CallWithPagesLeft, StaysGood, WentOn}
+use Rattle.cc_calls.specs.Held.{IsHolding, held_range}
 use Rattle.cc_calls.specs.declared.held.Held.{Held}
 use Rattle.cc_model.specs.Room.{owes_set_dirty}
 
@@ -35,8 +35,8 @@ hold_outcome (Ok held) = outcome.Done (reply.Hold held.id)
 hold_outcome (Err e) = outcome.Failed e
 
 -- what a caller holds of a range
-abbrev pub held_at : File → ℕ → ℕ → ℕ → Held
-held_at file at len id = record { file = file; id = id; at = at; len = len }
+abbrev pub held_of_range : File → ℕ → ℕ → ℕ → Held
+held_of_range file at len id = record { file = file; id = id; at = at; len = len }
 
 -- the kind of the hold that a call makes of a range that it names
 abbrev pub kind_made : Call → HoldKind
@@ -75,9 +75,9 @@ writes_through other = false
 -- has it, of such a kind.
 pub record MakingEnds (old new : Standing) (of_kind : HoldKind → Bool) (file : File) (at len : ℕ) (it : Call)
     (answer : Result Held CcError) : Type 0 where
-  pub pages : PagesLeft old new it (hold_outcome answer)
+  pub pages : CallWithPagesLeft old new it (hold_outcome answer)
   pub full : IsFullFor it old new answer
-  pub range : IfOk answer (λ held. held ≡ held_at file at len held.id)
+  pub range : IfOk answer (λ held. held ≡ held_of_range file at len held.id)
   pub holding : IfOk answer (IsHolding new of_kind)
 
 -- A call on a hold was answered so, and the pass has the hold still. It finds the journal full only where there is no room for
@@ -140,7 +140,7 @@ pub record HoldEnded (old new : Standing) (held : Held) : Type 0 where
 -- A repin of a pin was answered so: it has a range of its own, and the pass has both.
 pub record RepinEnds (old new : Standing) (of_kind : HoldKind → Bool) (pinned : Held) (answer : Result Held CcError) : Type 0 where
   pub call_ends : CallEnds hold_outcome old new (call.Repin pinned.id) answer
-  pub range : IfOk answer (λ held. held ≡ held_at pinned.file pinned.at pinned.len held.id)
+  pub range : IfOk answer (λ held. held ≡ held_of_range pinned.file pinned.at pinned.len held.id)
   pub holding : IfOk answer (IsHolding new of_kind)
   pub pinned_still : IsHolding new is_pin pinned
 
@@ -149,10 +149,10 @@ pub record RepinEnds (old new : Standing) (of_kind : HoldKind → Bool) (pinned 
 -- settled each touch of it that was there as the call began.
 pub record UnpinEnds (old new : Standing) (repinned : Held) (through : Bool) (answer : Result (Unit {0}) CcError) : Type 0 where
   pub left : UnpinLeft old.setup old.number repinned.id through (outcome_of answer) old.seen new.seen
-  pub full : IsFullWriting (call.Flush repinned.file (Some (range_of repinned))) new answer
+  pub full : IsFullWriting (call.Flush repinned.file (Some (held_range repinned))) new answer
   pub goes_on : WentOn old new
   pub good : IsGood old.setup new.seen
   pub ascending : BeginsAscending old.number 0 (2 ^ 51) old.seen new.seen
   pub sure : through ≡ false → IsOk answer
   pub durable : through ≡ true →
-      OnOk answer (IsDurable old.setup old.number repinned.file.stream (Some (range_of repinned)) old.seen new.seen)
+      OnOk answer (IsDurable old.setup old.number repinned.file.stream (Some (held_range repinned)) old.seen new.seen)

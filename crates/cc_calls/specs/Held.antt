@@ -9,12 +9,12 @@ use Rattle.cc_turns.specs.Standing.{Standing}
 use Rattle.cc_calls.specs.declared.held.Held.{Held}
 
 -- whether so many bytes at a place lie in what is held
-abbrev pub covers : Held → ℕ → ℕ → Bool
-covers held at n = nat_le held.at at && nat_le (at + n) (held.at + held.len)
+abbrev pub held_covers : Held → ℕ → ℕ → Bool
+held_covers held at n = nat_le held.at at && nat_le (at + n) (held.at + held.len)
 
 -- the range of what is held
-abbrev pub range_of : Held → Range
-range_of held = record { from = held.at; to = held.at + held.len }
+abbrev pub held_range : Held → Range
+held_range held = record { from = held.at; to = held.at + held.len }
 
 -- A pass has what a caller holds, after a past: the hold of this id is open, was made by the pass, for the file and with
 -- the range, and is of such a kind.

@@ -36,14 +36,14 @@ NoPlace logs handle (error.NoLog missing) = (missing ≡ handle) × (logs ≤ ha
 NoPlace logs handle other = IsWant other
 
 -- A place is reserved for the entry of a log that there is, or nothing was done.
-abbrev pub PlaceLeft : ℕ → Result (Unit {0}) CcError → Standing → Standing → Type 0
-PlaceLeft handle (Ok done) old new = (handle < old.setup.logs) × WentWith (suc old.in_flight) old new
-PlaceLeft handle (Err e) old new = NoPlace old.setup.logs handle e × Went old new
+abbrev pub LogPlaceLeft : ℕ → Result (Unit {0}) CcError → Standing → Standing → Type 0
+LogPlaceLeft handle (Ok done) old new = (handle < old.setup.logs) × WentWith (suc old.in_flight) old new
+LogPlaceLeft handle (Err e) old new = NoPlace old.setup.logs handle e × Went old new
 
 -- The place that is reserved in a journal is kept where there is a log of the handle, else it is given back.
-abbrev pub PlaceOf : {Q : Type 0} → ℕ → Result (Unit {0}) CcError → JournalState Q → JournalState Q → Type 0
-PlaceOf handle (Ok done) j k = (handle < j.logs) × (k ≡ j)
-PlaceOf handle (Err e) j k = (e ≡ error.NoLog handle) × (j.logs ≤ handle) × (k ≡ record j { reserved = j.reserved - 1 })
+abbrev pub LogPlaceKept : {Q : Type 0} → ℕ → Result (Unit {0}) CcError → JournalState Q → JournalState Q → Type 0
+LogPlaceKept handle (Ok done) j k = (handle < j.logs) × (k ≡ j)
+LogPlaceKept handle (Err e) j k = (e ≡ error.NoLog handle) × (j.logs ≤ handle) × (k ≡ record j { reserved = j.reserved - 1 })
 
 -- Why no place is reserved in a journal: there was room for it, and there is no log of the handle; or there was no room, and
 -- the refusal says so; or memory was wanting.

@@ -18,33 +18,33 @@ use Rattle.cc_turns.specs.Standing.{Standing}
 use Rattle.cc_writes.specs.Fetch.{WentOn}
 use Rattle.cc_writes.specs.Ways.{IsFullError}
 use Rattle.cc_writes.specs.Writes.{IsToWrite}
-use Rattle.cc_writes.specs.declared.writes.PageWrite.{PageWrite as Transferred}
-use Rattle.cc_writes.specs.declared.writes.PageWrite.TheVariants as transferred
-use Rattle.cc_calls.specs.declared.page_writes.PageWrite.{PageWrite}
-use Rattle.cc_calls.specs.declared.page_writes.PageWrite.TheVariants as write
+use Rattle.cc_writes.specs.declared.writes.PageTransfer.{PageTransfer as Transferred}
+use Rattle.cc_writes.specs.declared.writes.PageTransfer.TheVariants as transferred
+use Rattle.cc_calls.specs.declared.page_writes.PageWriteAnswer.{PageWriteAnswer}
+use Rattle.cc_calls.specs.declared.page_writes.PageWriteAnswer.TheVariants as write
 
 -- what is told of a page of which this became: not whether the disk failed or the log
-abbrev pub told_of : Became → PageWrite
-told_of Written = write.Written
-told_of Skipped = write.Skipped
-told_of NotWritten = write.Failed
-told_of NotLogged = write.Failed
+abbrev pub told_page_write : Became → PageWriteAnswer
+told_page_write Written = write.Written
+told_page_write Skipped = write.Skipped
+told_page_write NotWritten = write.Failed
+told_page_write NotLogged = write.Failed
 
 -- What the writing of a page left, by cases over its answer: this became of the page, and is told; or room or memory was
 -- wanting.
-abbrev pub WriteOneLeft : ℕ → Page → Result PageWrite CcError → Between
-WriteOneLeft me page (Ok told) old new = (became : Became) × (told ≡ told_of became) × PageWriteLeft me page (Ok became) old new
+abbrev pub WriteOneLeft : ℕ → Page → Result PageWriteAnswer CcError → Between
+WriteOneLeft me page (Ok told) old new = (became : Became) × (told ≡ told_page_write became) × PageWriteLeft me page (Ok became) old new
 WriteOneLeft me page (Err e) old new = PageWriteLeft me page (Err e) old new
 
 -- Where the writing of a page finds the journal full, the page is to be written as it finds that, and there is no room for
 -- the begin of its transfer with the end.
-abbrev pub IsFullPage : Page → Standing → Result PageWrite CcError → Type 0
+abbrev pub IsFullPage : Page → Standing → Result PageWriteAnswer CcError → Type 0
 IsFullPage page w (Err (error.JournalFull entries)) = IsToWrite page w.seen × IsFullError 2 w (error.JournalFull entries)
 IsFullPage page w other = Unit {0}
 
 -- The writing of a page was answered so: it left what explains its answer, a journal that is full is full, the pass goes on as
 -- it stood and may call again, and what it has seen is good.
-pub record WriteOneEnds (old new : Standing) (page : Page) (answer : Result PageWrite CcError) : Type 0 where
+pub record WriteOneEnds (old new : Standing) (page : Page) (answer : Result PageWriteAnswer CcError) : Type 0 where
   pub left : WriteOneLeft old.number page answer old.seen new.seen
   pub full : IsFullPage page new answer
   pub goes_on : WentOn old new
@@ -66,7 +66,7 @@ pub record AreOfFailure (me : ℕ) (page : Page) (during old : List Entry) : Typ
   pub only : own me during ≡ entry.LogFailed me failed.handle ∷ []
 
 -- What the pass placed for a page, by cases over the answer. One that was skipped was not to be written at a moment.
-abbrev pub PlacedFor : ℕ → Page → Result PageWrite CcError → List Entry → List Entry → Type 0
+abbrev pub PlacedFor : ℕ → Page → Result PageWriteAnswer CcError → List Entry → List Entry → Type 0
 PlacedFor me page (Ok write.Written) during old = AreOfTransfer me page how.Good (own me during)
 PlacedFor me page (Ok write.Skipped) during old =
     (own me during ≡ []) × AtSome (λ moment. is_passed_over page moment ≡ true) old (during ++ old)
@@ -78,7 +78,7 @@ PlacedFor me page (Err error.NoMemory) during old =
 PlacedFor me page (Err other) during old = ⊥
 
 -- One of the pages that are to be written was written, or not, as the answer says.
-pub record IsWrittenOf (me : ℕ) (pages : List Page) (page : Page) (answer : Result PageWrite CcError)
+pub record IsWrittenOf (me : ℕ) (pages : List Page) (page : Page) (answer : Result PageWriteAnswer CcError)
     (old new : List Entry) : Type 0 where
   pub during : List Entry
   pub grew : new ≡ during ++ old
@@ -86,13 +86,13 @@ pub record IsWrittenOf (me : ℕ) (pages : List Page) (page : Page) (answer : Re
   pub placed : PlacedFor me page answer during old
 
 -- So of whichever pages it is among.
-abbrev pub IsWritten : ℕ → Page → Result PageWrite CcError → Between
-IsWritten me page answer old new =
+abbrev pub IsWrittenAmong : ℕ → Page → Result PageWriteAnswer CcError → Between
+IsWrittenAmong me page answer old new =
     (pages : List Page) → list_any (is_same_page page) pages ≡ true → IsWrittenOf me pages page answer old new
 
 -- what is answered of a page whose writing ended so
-abbrev pub answer_of : Result Transferred CcError → Result PageWrite CcError
-answer_of (Ok transferred.Written) = Ok write.Written
-answer_of (Ok transferred.NotWritten) = Ok write.Failed
-answer_of (Ok (transferred.NotLogged handle)) = Ok write.Failed
-answer_of (Err e) = Err e
+abbrev pub page_write_answer : Result Transferred CcError → Result PageWriteAnswer CcError
+page_write_answer (Ok transferred.Written) = Ok write.Written
+page_write_answer (Ok transferred.NotWritten) = Ok write.Failed
+page_write_answer (Ok (transferred.NotLogged handle)) = Ok write.Failed
+page_write_answer (Err e) = Err e

@@ -17,11 +17,12 @@ use Rattle.cc_model.specs.Passes.{calls_of}
 use Rattle.cc_model.specs.Residency.{is_resident}
 use Rattle.cc_turns.specs.Standing.{Standing}
 use Rattle.cc_writes.specs.Ways.{IsFull, IsFullCall}
-use Rattle.cc_writes.specs.Calls.{HasToWrite}
+use Rattle.cc_writes.specs.Calls.{CallHasToWrite}
 use Rattle.cc_ranges.specs.Flush.{outcome_of}
 -- A pass goes on as it stood: it has seen more, what others have reserved may be other, and it may have taken the
 -- turn of a disk.
 pub use Rattle.cc_writes.specs.Fetch.{WentOn}
+use Rattle.cc_ranges.specs.ReadVisits.{KeepsBehind, outcome_of_read}
 
 -- What the pass has seen stays good.
 abbrev pub StaysGood : Standing → Standing → Type 0
@@ -45,11 +46,11 @@ TookDeviceFor it old new = (new.device_turns ≡ old.device_turns) ⊎ HadMissed
 abbrev pub IsFullFor : {A : Type 0} → Call → Standing → Standing → Result A CcError → Type 0
 IsFullFor it old new answer =
     IsFullCall it new answer
-    ⊎ (HadMissed old.number it old.seen new.seen × HasToWrite it new.seen × IsFull 2 new answer)
+    ⊎ (HadMissed old.number it old.seen new.seen × CallHasToWrite it new.seen × IsFull 2 new answer)
 
 -- What a call that needs pages left: what explains that it ended so, the pass as it stood, what it has seen
 -- still good, and a turn of a disk taken only for a page that was not resident.
-pub record PagesLeft (old new : Standing) (it : Call) (ended : Outcome) : Type 0 where
+pub record CallWithPagesLeft (old new : Standing) (it : Call) (ended : Outcome) : Type 0 where
   pub left : CallLeft old.setup old.number it ended old.seen new.seen
   pub goes_on : WentOn old new
   pub good : StaysGood old new
@@ -57,23 +58,13 @@ pub record PagesLeft (old new : Standing) (it : Call) (ended : Outcome) : Type 0
 
 -- A call that changes bytes was answered so.
 pub record ChangeEnds (old new : Standing) (it : Call) (answer : Result (Unit {0}) CcError) : Type 0 where
-  pub pages : PagesLeft old new it (outcome_of answer)
+  pub pages : CallWithPagesLeft old new it (outcome_of answer)
   pub full : IsFullFor it old new answer
-
--- how the entry of a read says that it ended, whose caller was answered so, with these bytes in what it handed in
-abbrev pub read_outcome : Result ℕ CcError → List ℕ → Outcome
-read_outcome (Ok n) out = outcome.Done (reply.Read (take n out))
-read_outcome (Err e) out = outcome.Failed e
-
--- what the caller handed in is as it was beyond the answer, and as a whole where there is none
-abbrev pub KeepsRest : Result ℕ CcError → List ℕ → List ℕ → Type 0
-KeepsRest (Ok n) was now = (n ≤ length was) × (drop n now ≡ drop n was)
-KeepsRest (Err e) was now = now ≡ was
 
 -- A read into so many bytes was answered so; one that may not wait took no turn of a disk.
 pub record ReadEnds (old new : Standing) (file : File) (at : ℕ) (wait : Bool) (answer : Result ℕ CcError)
     (was now : List ℕ) : Type 0 where
-  pub pages : PagesLeft old new (call.CopyRead file at (length was) wait) (read_outcome answer now)
+  pub pages : CallWithPagesLeft old new (call.CopyRead file at (length was) wait) (outcome_of_read answer now)
   pub full : IsFullFor (call.CopyRead file at (length was) wait) old new answer
-  pub rest : KeepsRest answer was now
+  pub rest : KeepsBehind answer was now
   pub no_wait : wait ≡ false → new.device_turns ≡ old.device_turns

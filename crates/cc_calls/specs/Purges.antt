@@ -15,7 +15,7 @@ use Rattle.cc_model.specs.Good.{IsGood}
 use Rattle.cc_model.specs.History.{history}
 use Rattle.cc_model.specs.Ranges.{span_has}
 use Rattle.cc_model.specs.Residency.{is_resident}
-use Rattle.cc_ranges.specs.Purge.{CameSoFar, WasEmptiedAlone}
+use Rattle.cc_ranges.specs.Purge.{PurgeCameSoFar, WasEmptiedAlone}
 use Rattle.cc_turns.specs.Standing.{Standing}
 use Rattle.cc_writes.specs.Calls.{IsFullWriting}
 use Rattle.cc_calls.specs.Answers.{outcome_of}
@@ -46,4 +46,4 @@ pub record PurgeEnds (old new : Standing) (file : File) (span : Option Range)
   pub good : IsGood old.setup new.seen
   pub purged : OnOk answer (IsPurged old.number file span old.seen new.seen)
   pub emptied : OnOk answer (WasEmptiedAlone old.number file.stream old.seen new.seen)
-  pub failed : IfErr answer (λ error. CameSoFar old.number file.stream old.seen new.seen)
+  pub failed : IfErr answer (λ error. PurgeCameSoFar old.number file.stream old.seen new.seen)

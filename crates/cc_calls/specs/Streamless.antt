@@ -46,13 +46,13 @@ TableOf logs handle past (Err (error.NoLog missing)) = (missing ≡ handle) × (
 TableOf logs handle past (Err e) = e ≡ error.NoMemory
 
 -- It ended as the definitions say, and its entry was placed.
-pub record HasEnded {Q : Type 0} (pass : ℕ) (it : Call) (ended : Outcome) (j k : JournalState Q) : Type 0 where
+pub record StreamlessHasEnded {Q : Type 0} (pass : ℕ) (it : Call) (ended : Outcome) (j k : JournalState Q) : Type 0 where
   pub is : (u : Setup) → u.logs ≡ j.logs → IsOutcome u j.entries pass None it ended
   pub placed : AddsOwing (streamless pass j.entries it ended) j k
 
 -- It ended so, or was refused, for there is no such log, or there was no room or no memory, and nothing changed.
 abbrev pub StreamlessLeft : {Q A : Type 0} → (Result A CcError → Outcome) → ℕ → Call → Result A CcError
     → JournalState Q → JournalState Q → Type 0
-StreamlessLeft ended pass it (Ok a) j k = HasEnded pass it (ended (Ok a)) j k
-StreamlessLeft ended pass it (Err (error.NoLog handle)) j k = HasEnded pass it (outcome.Failed (error.NoLog handle)) j k
+StreamlessLeft ended pass it (Ok a) j k = StreamlessHasEnded pass it (ended (Ok a)) j k
+StreamlessLeft ended pass it (Err (error.NoLog handle)) j k = StreamlessHasEnded pass it (outcome.Failed (error.NoLog handle)) j k
 StreamlessLeft ended pass it (Err e) j k = IsStop 1 e j × (k ≡ j)

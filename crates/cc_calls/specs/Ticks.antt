@@ -23,9 +23,9 @@ use Rattle.cc_writes.specs.Logs.{IsStopAt, IsWant}
 use Rattle.cc_writes.specs.Visits.{HasPlaced}
 use Rattle.cc_writes.specs.Ways.{IsFullError}
 use Rattle.cc_writes.specs.Writes.{IsToWrite}
-use Rattle.cc_calls.specs.declared.page_writes.PageWrite.{PageWrite}
-use Rattle.cc_calls.specs.declared.page_writes.PageWrite.TheVariants as write
-use Rattle.cc_calls.specs.declared.ticks.Counts.{Counts}
+use Rattle.cc_calls.specs.declared.page_writes.PageWriteAnswer.{PageWriteAnswer}
+use Rattle.cc_calls.specs.declared.page_writes.PageWriteAnswer.TheVariants as write
+use Rattle.cc_calls.specs.declared.ticks.TickCounts.{TickCounts}
 
 -- A page that a scan of the pass picked since a moment is to be written: it is dirty, and no pin owes it a stamp.
 pub record HasPicked (me : ℕ) (old new : List Entry) : Type 0 where
@@ -89,7 +89,7 @@ ScanIn pass streams (Ok picked) j k = HasScannedIn pass streams picked j k
 ScanIn pass streams (Err e) j k = IsStopAt 1 j e × (k ≡ j)
 
 -- Of pages that are to be written the first were written, or not, in their order, and each is counted by what became of it.
-pub record AreWritten (me : ℕ) (pages first : List Page) (counts : Counts) (old new : List Entry) : Type 0 where
+pub record AreWritten (me : ℕ) (pages first : List Page) (counts : TickCounts) (old new : List Entry) : Type 0 where
   pub during : List Entry
   pub grew : new ≡ during ++ old
   pub works : Works me (Writes pages) during old
@@ -105,13 +105,13 @@ pub record AreWritten (me : ℕ) (pages first : List Page) (counts : Counts) (ol
   pub by_logs : count_by is_not_logged ends ≤ count_by is_log_failure (own me during)
 
 -- what is counted with one page more, by what is told of it
-abbrev pub counted : PageWrite → Counts → Counts
-counted write.Written counts = record counts { written = counts.written + 1 }
-counted write.Skipped counts = record counts { skipped = counts.skipped + 1 }
-counted write.Failed counts = record counts { failed = counts.failed + 1 }
+abbrev pub counted_page : PageWriteAnswer → TickCounts → TickCounts
+counted_page write.Written counts = record counts { written = counts.written + 1 }
+counted_page write.Skipped counts = record counts { skipped = counts.skipped + 1 }
+counted_page write.Failed counts = record counts { failed = counts.failed + 1 }
 
 -- how many pages are counted
-abbrev pub pages_counted : Counts → ℕ
+abbrev pub pages_counted : TickCounts → ℕ
 pages_counted counts = counts.written + counts.skipped + counts.failed
 
 -- Room or memory was wanting while they were written.
@@ -124,12 +124,12 @@ pub record AreCutOff (me : ℕ) (pages : List Page) (e : CcError) (old new : Lis
   pub so : CutOffSo me pages e during
 
 -- What the writing of pages left, by cases over how it was counted.
-abbrev pub AllLeft : ℕ → List Page → Result Counts CcError → Between
+abbrev pub AllLeft : ℕ → List Page → Result TickCounts CcError → Between
 AllLeft me pages (Ok counts) old new = AreWritten me pages pages counts old new
 AllLeft me pages (Err e) old new = AreCutOff me pages e old new
 
 -- Where it finds the journal full, one of the pages is to be written, and there is no room for the entries of its transfer.
-abbrev pub IsFullAmong : List Page → Standing → Result Counts CcError → Type 0
+abbrev pub IsFullAmong : List Page → Standing → Result TickCounts CcError → Type 0
 IsFullAmong pages w (Err (error.JournalFull entries)) =
     ((page : Page) × (list_any (is_same_page page) pages ≡ true) × IsToWrite page w.seen)
     × IsFullError 2 w (error.JournalFull entries)

@@ -9,7 +9,7 @@ ghost use Rattle.cc_model.specs.Setup.{Setup};
 ghost use Rattle.cc_step.specs.Step.{MayStep, StandUnder};
 ghost use Rattle.cc_writes.specs.Hands.{HasBook};
 ghost use Rattle.cc_calls.specs.Answers.{CallEnds, CanCall, IsFree};
-ghost use Rattle.cc_calls.specs.Ahead.{AskedAt, AskedIn, IsDecided, PassedOver, Served, StepEnds, IsServed, ahead_outcome};
+ghost use Rattle.cc_calls.specs.Ahead.{AskedAt, AskedIn, IsDecided, PassedOver, RequestServed, StepEnds, IsServed, ahead_outcome};
 
 use crate::turned::call_paged;
 use cc_book::Book;
@@ -248,7 +248,7 @@ fn push_one<R: Wait>(
 // Serves a request, and answers whether all its pages below the size are there.
 fn serve<T: Turns>(alloc: Global, turns: &mut T, request: Request) -> Result<bool, CcError>
     requires can { IsFree (T.standing turns.old) }
-    ensures { Served (T.standing turns.old) (T.standing turns.new) request result }
+    ensures { RequestServed (T.standing turns.old) (T.standing turns.new) request result }
 {
     if request.file.stream().number() < turns.streams() {
         bring(alloc, turns, request)
@@ -260,7 +260,7 @@ fn serve<T: Turns>(alloc: Global, turns: &mut T, request: Request) -> Result<boo
 // Serves a request of a stream that there is.
 fn bring<T: Turns>(alloc: Global, turns: &mut T, request: Request) -> Result<bool, CcError>
     requires can { CanCall (T.standing turns.old) request.file.stream }
-    ensures { Served (T.standing turns.old) (T.standing turns.new) request result }
+    ensures { RequestServed (T.standing turns.old) (T.standing turns.new) request result }
 {
     let stream = request.file.stream();
     match call_paged(alloc, turns, stream, Call::AheadStep { request }, &mut []) {
@@ -276,7 +276,7 @@ fn bring<T: Turns>(alloc: Global, turns: &mut T, request: Request) -> Result<boo
 fn pass_over<T: Turns>(turns: &mut T, request: Request) -> Result<bool, CcError>
     requires can { IsFree (T.standing turns.old) }
     requires unknown { (T.standing turns.old).streams ≤ request.file.stream }
-    ensures { Served (T.standing turns.old) (T.standing turns.new) request result }
+    ensures { RequestServed (T.standing turns.old) (T.standing turns.new) request result }
 {
     let mut journal = turns.take_journal();
     let pass = turns.me();

@@ -4,10 +4,10 @@ ghost use Rattle.std.specs.Prelude.{◌≡◌, true, length};
 ghost use Rattle.cc_entry.specs.Kinds.{is_read_chain, is_write_chain};
 ghost use Rattle.cc_entry.specs.declared.call.Call.TheVariants as call;
 ghost use Rattle.cc_calls.specs.Answers.{CanCall};
-ghost use Rattle.cc_calls.specs.Held.{IsHolding, covers};
+ghost use Rattle.cc_calls.specs.Held.{IsHolding, held_covers};
 ghost use Rattle.cc_calls.specs.Ends.{HeldReadEnds, HoldEnded, MakingEnds, UseEnds};
 
-use crate::{Held, Hold, end_hold, hold_range, read_hold, write_hold};
+use crate::{Held, HoldHandle, end_hold, hold_range, read_hold, write_hold};
 use cc_entry::{Bytes, Call, CcError, FileId};
 use cc_turns::Turns;
 use std::alloc::Global;
@@ -27,7 +27,7 @@ impl Model for ReadChain {
     ghost view = { λ c. c.held };
 }
 
-impl Hold for ReadChain {
+impl HoldHandle for ReadChain {
     ghost held = { λ chain. chain };
 
     fn held(&self) -> Held {
@@ -49,7 +49,7 @@ impl Model for WriteChain {
     ghost view = { λ c. c.held };
 }
 
-impl Hold for WriteChain {
+impl HoldHandle for WriteChain {
     ghost held = { λ chain. chain };
 
     fn held(&self) -> Held {
@@ -112,7 +112,7 @@ pub fn mdl_bytes<T: Turns>(
 ) -> Result<(), CcError>
     requires can { CanCall (T.standing turns.old) chain.now.file.stream }
     requires holding { IsHolding (T.standing turns.old) is_read_chain chain.now }
-    requires covers { covers chain.now at (length out.old) ≡ true }
+    requires covers { held_covers chain.now at (length out.old) ≡ true }
     ensures ends { HeldReadEnds (T.standing turns.old) (T.standing turns.new) is_read_chain chain.now
         (call.MdlBytes chain.now.id at (length out.old)) result out.old out.new }
 {
@@ -137,7 +137,7 @@ pub fn mdl_store<T: Turns>(
 ) -> Result<(), CcError>
     requires can { CanCall (T.standing turns.old) chain.now.file.stream }
     requires holding { IsHolding (T.standing turns.old) is_write_chain chain.now }
-    requires covers { covers chain.now at (length piece.now) ≡ true }
+    requires covers { held_covers chain.now at (length piece.now) ≡ true }
     ensures ends { UseEnds (T.standing turns.old) (T.standing turns.new) is_write_chain chain.now
         (call.MdlStore chain.now.id at piece.now) result }
 {

@@ -4,11 +4,11 @@ ghost use Rattle.std.specs.Prelude.{◌≡◌, true, length};
 ghost use Rattle.cc_entry.specs.Kinds.{is_map};
 ghost use Rattle.cc_entry.specs.declared.call.Call.TheVariants as call;
 ghost use Rattle.cc_calls.specs.Answers.{CanCall};
-ghost use Rattle.cc_calls.specs.Held.{IsHolding, covers};
+ghost use Rattle.cc_calls.specs.Held.{IsHolding, held_covers};
 ghost use Rattle.cc_calls.specs.Ends.{HeldReadEnds, HoldEnded, MakingEnds, PinMappedEnds};
 
 use crate::call_at_once;
-use crate::held::{Held, Hold};
+use crate::held::{Held, HoldHandle};
 use crate::held_calls::{end_hold, hold_range, read_hold};
 use crate::pins::Pinned;
 use cc_entry::{Call, CcError, FileId};
@@ -30,7 +30,7 @@ impl Model for Mapped {
     ghost view = { λ m. m.held };
 }
 
-impl Hold for Mapped {
+impl HoldHandle for Mapped {
     ghost held = { λ mapped. mapped };
 
     fn held(&self) -> Held {
@@ -97,7 +97,7 @@ pub fn mapped_read<T: Turns>(
 ) -> Result<(), CcError>
     requires can { CanCall (T.standing turns.old) hold.now.file.stream }
     requires holding { IsHolding (T.standing turns.old) is_map hold.now }
-    requires covers { covers hold.now at (length out.old) ≡ true }
+    requires covers { held_covers hold.now at (length out.old) ≡ true }
     ensures ends { HeldReadEnds (T.standing turns.old) (T.standing turns.new) is_map hold.now
         (call.MappedRead hold.now.id at (length out.old)) result out.old out.new }
 {

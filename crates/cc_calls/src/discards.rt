@@ -10,7 +10,7 @@ ghost use Rattle.cc_writes.specs.Hands.{HasBook, IsAtRest, SameDisk, Went};
 ghost use Rattle.cc_writes.specs.Ways.{IsFull};
 ghost use Rattle.cc_ranges.specs.FlushSteps.{without_one};
 ghost use Rattle.cc_calls.specs.Answers.{CanCall, outcome_of};
-ghost use Rattle.cc_calls.specs.Discards.{DiscardDid, DiscardEnds, StepLeft};
+ghost use Rattle.cc_calls.specs.Discards.{DiscardDid, DiscardEnds, DiscardStepLeft};
 
 use cc_book::Book;
 use cc_entry::{Call, CcError, FileId, NoMemory, Reply, Span};
@@ -82,7 +82,7 @@ fn discard_in<Q>(
 ) -> Result<(), CcError>
     requires may { (u : Setup) × MayFill u pass (call.Discard file span) book.old journal.old }
     ensures left { (u : Setup) → MayFill u pass (call.Discard file span) book.old journal.old →
-        StepLeft u pass file span result book.old book.new journal.old journal.new }
+        DiscardStepLeft u pass file span result book.old book.new journal.old journal.new }
 {
     match journal.reserve(1) {
         Ok(()) => decide(alloc, book, journal, pass, file, span),
@@ -102,7 +102,7 @@ fn decide<Q>(
     requires reserved { 0 < journal.old.reserved }
     requires may { (u : Setup) × MayFill u pass (call.Discard file span) book.old (without_one journal.old) }
     ensures left { (u : Setup) → MayFill u pass (call.Discard file span) book.old (without_one journal.old) →
-        StepLeft u pass file span result book.old book.new (without_one journal.old) journal.new }
+        DiscardStepLeft u pass file span result book.old book.new (without_one journal.old) journal.new }
 {
     let call = Call::Discard { file, span };
     let owed = journal.owed_end(pass);

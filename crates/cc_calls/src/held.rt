@@ -1,7 +1,7 @@
 //! What every hold tells of itself.
 
 ghost use Rattle.std.specs.Prelude.{◌≡◌};
-ghost use Rattle.cc_calls.specs.Held.{covers};
+ghost use Rattle.cc_calls.specs.Held.{held_covers};
 ghost use Rattle.cc_calls.specs.declared.held.Held.{Held};
 
 use cc_entry::FileId;
@@ -18,7 +18,7 @@ pub struct Held {
 impl Held {
     /// Whether so many bytes at a place lie in the hold.
     pub fn covers(&self, at: u64, len: u64) -> bool
-        ensures { result ≡ covers self.now at len }
+        ensures { result ≡ held_covers self.now at len }
     {
         let end = u128::from(at) + u128::from(len);
         self.at <= at && end <= u128::from(self.at) + u128::from(self.len)
@@ -26,7 +26,7 @@ impl Held {
 }
 
 /// A hold of a kind of its own: a map, a pin, a repin or a chain.
-pub trait Hold {
+pub trait HoldHandle {
     // What it holds.
     ghost held: { Self → Held };
 
@@ -64,7 +64,7 @@ pub trait Hold {
 
     /// Whether so many bytes at a place lie in it.
     fn covers(&self, at: u64, len: u64) -> bool
-        ensures { result ≡ covers (held self.now) at len }
+        ensures { result ≡ held_covers (held self.now) at len }
     {
         self.held().covers(at, len)
     }

@@ -9,7 +9,7 @@ ghost use Rattle.cc_turns.specs.Takes.{Grows};
 ghost use Rattle.cc_writes.specs.Hands.{WentWith};
 ghost use Rattle.cc_writes.specs.Ways.{IsFull};
 ghost use Rattle.cc_calls.specs.Answers.{IsFree};
-ghost use Rattle.cc_calls.specs.Logs.{HadRoom, IsNotFull, LogEnds, PlaceIn, PlaceLeft, PlaceOf};
+ghost use Rattle.cc_calls.specs.Logs.{HadRoom, IsNotFull, LogEnds, PlaceIn, LogPlaceLeft, LogPlaceKept};
 
 use cc_entry::{Bytes, CcError, Entry, Lsn};
 use cc_journal::Journal;
@@ -60,7 +60,7 @@ fn reserve_for<T: Turns>(turns: &mut T, handle: u8) -> Result<(), CcError>
     requires none { (T.standing turns.old).in_flight ≡ 0 }
     ensures grows { Grows (T.standing turns.old) (T.standing turns.new).seen }
     ensures good { IsGood (T.standing turns.new).setup (T.standing turns.new).seen }
-    ensures left { PlaceLeft handle result (T.standing turns.old) (T.standing turns.new) }
+    ensures left { LogPlaceLeft handle result (T.standing turns.old) (T.standing turns.new) }
     ensures full { IsFull 1 (T.standing turns.new) result }
     ensures room { HadRoom (T.standing turns.new) result }
 {
@@ -83,7 +83,7 @@ fn reserve_in<Q>(journal: &mut Journal<Q>, handle: u8) -> Result<(), CcError>
 // The place that is reserved stays where there is such a log, and is given back where there is none.
 fn place_of<Q>(journal: &mut Journal<Q>, handle: u8) -> Result<(), CcError>
     requires { 0 < journal.old.reserved }
-    ensures { PlaceOf handle result journal.old journal.new }
+    ensures { LogPlaceKept handle result journal.old journal.new }
 {
     if handle < journal.logs() {
         return Ok(());

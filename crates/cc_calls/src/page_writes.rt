@@ -9,7 +9,7 @@ ghost use Rattle.cc_writes.specs.Hands.{HasBook, IsAtRest, SameDisk, Went};
 ghost use Rattle.cc_writes.specs.Writes.{HasBoth};
 ghost use Rattle.cc_calls.specs.Answers.{CanCall};
 ghost use Rattle.cc_calls.specs.Pages.{WentOn};
-ghost use Rattle.cc_calls.specs.PageWrites.{IsFullPage, IsWritten, WriteOneEnds, answer_of};
+ghost use Rattle.cc_calls.specs.PageWrites.{IsFullPage, IsWrittenAmong, WriteOneEnds, page_write_answer};
 
 use cc_book::Book;
 use cc_entry::{CcError, PageId};
@@ -19,7 +19,7 @@ use cc_writes::write_page;
 
 /// What became of a page that was to be written.
 #[derive(Clone, Copy)]
-pub enum PageWrite {
+pub enum PageWriteAnswer {
     Written,
     /// The page was clean, or a pin owes it a stamp, so that it is not written as it stands.
     Skipped,
@@ -31,7 +31,7 @@ pub enum PageWrite {
 /// lazy writer writes each page that it picked so. Nothing is synced, and no call's entry is left.
 ///
 /// `JournalFull`, `NoMemory`.
-pub fn write_one<T: Turns>(turns: &mut T, page: PageId) -> Result<PageWrite, CcError>
+pub fn write_one<T: Turns>(turns: &mut T, page: PageId) -> Result<PageWriteAnswer, CcError>
     requires can { CanCall (T.standing turns.old) page.stream }
     ensures ends { WriteOneEnds (T.standing turns.old) (T.standing turns.new) page result }
 {
@@ -39,9 +39,12 @@ pub fn write_one<T: Turns>(turns: &mut T, page: PageId) -> Result<PageWrite, CcE
 }
 
 /// The same of one of the pages that are to be written.
-pub(crate) fn write_picked<T: Turns>(turns: &mut T, page: PageId) -> Result<PageWrite, CcError>
+pub(crate) fn write_picked<T: Turns>(
+    turns: &mut T,
+    page: PageId,
+) -> Result<PageWriteAnswer, CcError>
     requires can { CanCall (T.standing turns.old) page.stream }
-    ensures left { IsWritten (T.standing turns.old).number page result (T.standing turns.old).seen (T.standing turns.new).seen }
+    ensures left { IsWrittenAmong (T.standing turns.old).number page result (T.standing turns.old).seen (T.standing turns.new).seen }
     ensures full { IsFullPage page (T.standing turns.new) result }
     ensures goes_on { WentOn (T.standing turns.old) (T.standing turns.new) }
     ensures good { IsGood (T.standing turns.old).setup (T.standing turns.new).seen }
@@ -61,20 +64,20 @@ fn write_held<T: Turns>(
     disk: &mut T::Disk,
     book: Book,
     page: PageId,
-) -> (Book, Result<PageWrite, CcError>)
+) -> (Book, Result<PageWriteAnswer, CcError>)
     requires known { page.stream < (T.standing turns.old).streams }
     requires both { HasBoth T.Disk.told T.Disk.faults (T.standing turns.old) page.stream book disk.old }
     requires none { (T.standing turns.old).in_flight ≡ 0 }
     ensures both { HasBoth T.Disk.told T.Disk.faults (T.standing turns.new) page.stream result.0 disk.new }
     ensures went { Went (T.standing turns.old) (T.standing turns.new) }
-    ensures left { IsWritten (T.standing turns.old).number page result.1 (T.standing turns.old).seen (T.standing turns.new).seen }
+    ensures left { IsWrittenAmong (T.standing turns.old).number page result.1 (T.standing turns.old).seen (T.standing turns.new).seen }
     ensures full { IsFullPage page (T.standing turns.new) result.1 }
 {
     if is_to_write_at(turns, &book, page) {
         let (book, written) = write_page(turns, disk, book, page.page(), false);
         (book, answer_of(written))
     } else {
-        (book, Ok(PageWrite::Skipped))
+        (book, Ok(PageWriteAnswer::Skipped))
     }
 }
 
@@ -106,13 +109,13 @@ fn is_to_write<Q>(book: &Book, journal: &Journal<Q>, page: PageId) -> bool
 }
 
 // What is answered of a page whose writing ended so.
-fn answer_of(written: Result<cc_writes::PageWrite, CcError>) -> Result<PageWrite, CcError>
-    ensures { result ≡ answer_of written }
+fn answer_of(written: Result<cc_writes::PageTransfer, CcError>) -> Result<PageWriteAnswer, CcError>
+    ensures { result ≡ page_write_answer written }
 {
     match written {
-        Ok(cc_writes::PageWrite::Written) => Ok(PageWrite::Written),
-        Ok(cc_writes::PageWrite::NotWritten) => Ok(PageWrite::Failed),
-        Ok(cc_writes::PageWrite::NotLogged(_)) => Ok(PageWrite::Failed),
+        Ok(cc_writes::PageTransfer::Written) => Ok(PageWriteAnswer::Written),
+        Ok(cc_writes::PageTransfer::NotWritten) => Ok(PageWriteAnswer::Failed),
+        Ok(cc_writes::PageTransfer::NotLogged(_)) => Ok(PageWriteAnswer::Failed),
         Err(error) => Err(error),
     }
 }

@@ -4,10 +4,10 @@ ghost use Rattle.std.specs.Prelude.{◌≡◌, true, length};
 ghost use Rattle.cc_entry.specs.Kinds.{is_pin};
 ghost use Rattle.cc_entry.specs.declared.call.Call.TheVariants as call;
 ghost use Rattle.cc_calls.specs.Answers.{CanCall};
-ghost use Rattle.cc_calls.specs.Held.{IsHolding, covers};
+ghost use Rattle.cc_calls.specs.Held.{IsHolding, held_covers};
 ghost use Rattle.cc_calls.specs.Ends.{HeldReadEnds, HoldEnded, MakingEnds, SetDirtyEnds, UseEnds};
 
-use crate::held::{Held, Hold};
+use crate::held::{Held, HoldHandle};
 use crate::held_calls::{end_hold, hold_range, read_hold, write_hold};
 use cc_entry::{Bytes, Call, CcError, FileId, Lsn};
 use cc_turns::Turns;
@@ -37,7 +37,7 @@ impl Pinned {
     }
 }
 
-impl Hold for Pinned {
+impl HoldHandle for Pinned {
     ghost held = { λ pinned. pinned };
 
     fn held(&self) -> Held {
@@ -116,7 +116,7 @@ pub fn pinned_read<T: Turns>(
 ) -> Result<(), CcError>
     requires can { CanCall (T.standing turns.old) hold.now.file.stream }
     requires holding { IsHolding (T.standing turns.old) is_pin hold.now }
-    requires covers { covers hold.now at (length out.old) ≡ true }
+    requires covers { held_covers hold.now at (length out.old) ≡ true }
     ensures ends { HeldReadEnds (T.standing turns.old) (T.standing turns.new) is_pin hold.now
         (call.PinnedRead hold.now.id at (length out.old)) result out.old out.new }
 {
@@ -142,7 +142,7 @@ pub fn pinned_write<T: Turns>(
 ) -> Result<(), CcError>
     requires can { CanCall (T.standing turns.old) hold.now.file.stream }
     requires holding { IsHolding (T.standing turns.old) is_pin hold.now }
-    requires covers { covers hold.now at (length piece.now) ≡ true }
+    requires covers { held_covers hold.now at (length piece.now) ≡ true }
     ensures ends { UseEnds (T.standing turns.old) (T.standing turns.new) is_pin hold.now
         (call.PinnedWrite hold.now.id at piece.now) result }
 {

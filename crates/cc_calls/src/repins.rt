@@ -4,10 +4,10 @@ ghost use Rattle.std.specs.Prelude.{◌≡◌, ◌+◌, ◌<◌, ◌^◌};
 ghost use Rattle.cc_entry.specs.Kinds.{is_pin, is_repin};
 ghost use Rattle.cc_entry.specs.declared.call.Call.TheVariants as call;
 ghost use Rattle.cc_calls.specs.Answers.{CanCall};
-ghost use Rattle.cc_calls.specs.Held.{IsHolding, range_of};
+ghost use Rattle.cc_calls.specs.Held.{IsHolding, held_range};
 ghost use Rattle.cc_calls.specs.Ends.{RepinEnds, UnpinEnds};
 
-use crate::held::{Held, Hold};
+use crate::held::{Held, HoldHandle};
 use crate::held_calls::end_hold;
 use crate::pins::Pinned;
 use crate::{call_at_once, flush};
@@ -31,7 +31,7 @@ impl Model for Repinned {
     ghost view = { λ r. r.held };
 }
 
-impl Hold for Repinned {
+impl HoldHandle for Repinned {
     ghost held = { λ repinned. repinned };
 
     fn held(&self) -> Held {
@@ -85,7 +85,7 @@ pub fn unpin_repinned<T: Turns>(
 // The span of what is held, which ends below 2^64.
 fn span_of(held: &Held) -> Span
     requires below { held.now.at + held.now.len < 2 ^ 64 }
-    ensures { result ≡ range_of held.now }
+    ensures { result ≡ held_range held.now }
 {
     Span::new(held.at, held.at + held.len).unwrap()
 }

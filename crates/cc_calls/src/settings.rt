@@ -2,7 +2,7 @@
 
 ghost use Rattle.std.specs.Prelude.{◌≡◌, true};
 ghost use Rattle.cc_entry.specs.declared.call.Call.TheVariants as call;
-ghost use Rattle.cc_writes.specs.Visits.{IsOf};
+ghost use Rattle.cc_writes.specs.Visits.{CallIsOfStream};
 ghost use Rattle.cc_calls.specs.Answers.{CanCall, CallSets, is_setting};
 
 use crate::turned::call_at_once;
@@ -119,7 +119,7 @@ pub(crate) fn set<T: Turns>(
 ) -> Result<(), CcError>
     requires can { CanCall (T.standing turns.old) stream }
     requires sets { is_setting call ≡ true }
-    requires filed { IsOf call stream }
+    requires filed { CallIsOfStream call stream }
     ensures { CallSets (T.standing turns.old) (T.standing turns.new) call result }
 {
     call_at_once(alloc, turns, stream, call, &mut [])?;

@@ -146,7 +146,7 @@ fn reserve_deferral<Q>(book: &Book, journal: &mut Journal<Q>, file: FileId) -> R
 {
     if journal.room() == 0 {
         return Err(CcError::JournalFull {
-            entries: journal.entries().len() as u64,
+            entries: journal.len(),
         });
     }
     if !book.is_open(file.object()) {

@@ -8,9 +8,9 @@ ghost use Rattle.cc_writes.specs.Hands.{Went};
 ghost use Rattle.cc_writes.specs.Ways.{IsFull};
 ghost use Rattle.cc_calls.specs.Answers.{IsFree};
 ghost use Rattle.cc_calls.specs.Pages.{StaysGood, WentOn};
-ghost use Rattle.cc_calls.specs.Ticks.{AddsUp, AllLeft, ArePicked, IsFullAmong, IsPickedTwice, ScanIn, ScanLeft, TickEnds, counted, has_disk, pages_counted};
+ghost use Rattle.cc_calls.specs.Ticks.{AddsUp, AllLeft, ArePicked, IsFullAmong, IsPickedTwice, ScanIn, ScanLeft, TickEnds, counted_page, has_disk, pages_counted};
 
-use crate::page_writes::{PageWrite, write_picked};
+use crate::page_writes::{PageWriteAnswer, write_picked};
 use cc_entry::{CcError, Entry, NoMemory, PageId, Pages, Tick};
 use cc_journal::Journal;
 use cc_turns::Turns;
@@ -43,22 +43,22 @@ pub fn tick<T: Turns>(alloc: Global, turns: &mut T) -> Result<Tick, CcError>
 
 /// How many pages were written, skipped, and not written because the disk or the log failed.
 #[derive(Clone, Copy)]
-pub(crate) struct Counts {
+pub(crate) struct TickCounts {
     written: u32,
     skipped: u32,
     failed: u32,
 }
 
-impl Counts {
+impl TickCounts {
     // Counts one page more, by what is told of it.
-    fn count(&mut self, told: PageWrite)
+    fn count(&mut self, told: PageWriteAnswer)
         requires few { pages_counted self.old ≤ 16384 }
-        ensures { self.new ≡ counted told self.old }
+        ensures { self.new ≡ counted_page told self.old }
     {
         match told {
-            PageWrite::Written => self.written += 1,
-            PageWrite::Skipped => self.skipped += 1,
-            PageWrite::Failed => self.failed += 1,
+            PageWriteAnswer::Written => self.written += 1,
+            PageWriteAnswer::Skipped => self.skipped += 1,
+            PageWriteAnswer::Failed => self.failed += 1,
         }
     }
 }
@@ -138,7 +138,7 @@ fn copy_of(alloc: Global, pages: &[PageId]) -> Result<Vec<PageId>, NoMemory>
 }
 
 // Writes pages, one after the other, and counts what became of them.
-fn write_all<T: Turns>(turns: &mut T, pages: &[PageId]) -> Result<Counts, CcError>
+fn write_all<T: Turns>(turns: &mut T, pages: &[PageId]) -> Result<TickCounts, CcError>
     requires can { IsFree (T.standing turns.old) }
     requires picked { ArePicked (T.standing turns.old).streams pages.now }
     ensures left { AllLeft (T.standing turns.old).number pages.now result (T.standing turns.old).seen (T.standing turns.new).seen }
@@ -146,7 +146,7 @@ fn write_all<T: Turns>(turns: &mut T, pages: &[PageId]) -> Result<Counts, CcErro
     ensures goes_on { WentOn (T.standing turns.old) (T.standing turns.new) }
     ensures good { StaysGood (T.standing turns.old) (T.standing turns.new) }
 {
-    let mut counts = Counts {
+    let mut counts = TickCounts {
         written: 0,
         skipped: 0,
         failed: 0,

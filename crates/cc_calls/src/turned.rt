@@ -7,8 +7,8 @@ ghost use Rattle.cc_model.specs.Good.{IsGood};
 ghost use Rattle.cc_model.specs.Ranges.{range_of};
 ghost use Rattle.cc_step.specs.Step.{is_stepped};
 ghost use Rattle.cc_writes.specs.Hands.{Went};
-ghost use Rattle.cc_writes.specs.Ways.{FitsIn, IsFullOn};
-ghost use Rattle.cc_writes.specs.Visits.{IsFiledNow, IsOf, IsFullTried, TriedLeft};
+ghost use Rattle.cc_writes.specs.Ways.{ReadFitsIn, IsFullOn};
+ghost use Rattle.cc_writes.specs.Visits.{IsFiledNow, CallIsOfStream, IsFullTried, TriedLeft};
 ghost use Rattle.cc_writes.specs.Fetch.{CanCall};
 ghost use Rattle.cc_calls.specs.Paged.{CalledAtOnce, Paged, is_paged};
 
@@ -29,7 +29,7 @@ pub fn call_at_once<T: Turns>(
     requires stepped { is_stepped call ≡ true }
     requires pageless { (size : ℕ) → range_of size call ≡ None }
     requires filed { IsFiledNow (T.standing turns.old) stream call }
-    requires fits { FitsIn call out.old }
+    requires fits { ReadFitsIn call out.old }
     ensures ends { CalledAtOnce (T.standing turns.old) (T.standing turns.new) call result out.old out.new }
     ensures full { IsFullOn stream call (T.standing turns.new) result }
 {
@@ -50,8 +50,8 @@ pub fn call_paged<T: Turns>(
 ) -> Result<Returned, CcError>
     requires can { CanCall (T.standing turns.old) stream }
     requires paged { is_paged call ≡ true }
-    requires filed { IsOf call stream }
-    requires fits { FitsIn call out.old }
+    requires filed { CallIsOfStream call stream }
+    requires fits { ReadFitsIn call out.old }
     ensures { Paged (T.standing turns.old) (T.standing turns.new) call result out.old out.new }
 {
     match turned(alloc, turns, stream, call, out) {
@@ -71,7 +71,7 @@ fn turned<T: Turns>(
     requires can { CanCall (T.standing turns.old) stream }
     requires stepped { is_stepped call ≡ true }
     requires filed { IsFiledNow (T.standing turns.old) stream call }
-    requires fits { FitsIn call out.old }
+    requires fits { ReadFitsIn call out.old }
     ensures went { Went (T.standing turns.old) (T.standing turns.new) }
     ensures good { IsGood (T.standing turns.old).setup (T.standing turns.new).seen }
     ensures left { (begun : List Entry) →

@@ -1,6 +1,6 @@
 -- What sources and sinks tell, over several calls.
 use Rattle.std.proofs.Common.{◌≡◌, ℕ, List, [], ◌++◌, append-nil, append_assoc, refl, sym, ◌∙◌, ap, Option, Some, None}
-use Rattle.cc_traits.specs.Told.{Both, IfTold, Gave, Took}
+use Rattle.cc_traits.specs.Told.{Both, IfTold, Gave, SinkTook}
 use Rattle.cc_command.specs.Taken.{TookPart}
 
 -- these bytes were given
@@ -41,7 +41,7 @@ pub taken-none : (text : List ℕ) (a : Option (List ℕ)) → HasTaken text tex
 taken-none text None = tt
 taken-none text (Some a) = ([], refl, sym (append-nil a))
 
-pub taken-more : (text rest front more : List ℕ) (a b c : Option (List ℕ)) → HasTaken text rest a b → Both b c (Took front) → rest ≡ front ++ more → HasTaken text more a c
+pub taken-more : (text rest front more : List ℕ) (a b c : Option (List ℕ)) → HasTaken text rest a b → Both b c (SinkTook front) → rest ≡ front ++ more → HasTaken text more a c
 taken-more text rest front more None None None first second is = tt
 taken-more text rest front more None None (Some c) first second is = absurd second
 taken-more text rest front more None (Some b) c first second is = absurd first
@@ -59,7 +59,7 @@ taken-part text rest None (Some b) taken = absurd taken
 taken-part text rest (Some a) None taken = absurd taken
 taken-part text rest (Some a) (Some b) taken = record { part = taken.0; rest = rest; text_is = taken.1; taken = taken.2 }
 
-pub taken-whole : (text rest : List ℕ) (a b : Option (List ℕ)) → HasTaken text rest a b → rest ≡ [] → Both a b (Took text)
+pub taken-whole : (text rest : List ℕ) (a b : Option (List ℕ)) → HasTaken text rest a b → rest ≡ [] → Both a b (SinkTook text)
 taken-whole text rest None None taken none = tt
 taken-whole text rest None (Some b) taken none = absurd taken
 taken-whole text rest (Some a) None taken none = absurd taken

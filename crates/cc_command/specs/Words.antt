@@ -3,7 +3,7 @@ use Rattle.std.specs.Prelude.{ℕ, Bool, true, false, not, ◌==◌, ◌&&◌, i
 use Rattle.std.specs.declared.option.Option.{Option}
 use Rattle.std.specs.declared.option.Option.TheVariants.{Some, None}
 use Rattle.std.specs.Str.{bytes_eq}
-use Rattle.cc_script.specs.Words.{number_of}
+use Rattle.cc_script.specs.Words.{parsed_number}
 use Rattle.cc_script.specs.declared.script.Mode.{Mode}
 use Rattle.cc_script.specs.declared.script.Mode.TheVariants as mode
 use Rattle.cc_command.specs.declared.words.Command.{Command}
@@ -26,7 +26,7 @@ abbrev pub command_by : List ℕ → List ℕ → Option Command
 command_by word argument =
     if bytes_eq word (codes "run") then Some (command.Read mode.Run)
     else (if bytes_eq word (codes "steps") then Some (command.Read mode.Steps)
-    else (if bytes_eq word (codes "gen") then option_map command.Generate (number_of argument) else None))
+    else (if bytes_eq word (codes "gen") then option_map command.Generate (parsed_number argument) else None))
 
 -- the command of a row of words
 abbrev pub command_in : List (List ℕ) → Option Command

@@ -1,7 +1,7 @@
 //! The words of the command line: which command they are.
 
 ghost use Rattle.std.specs.Prelude.{◌≡◌, None, Some, ◌⊎◌, map, string_bytes, IfOk, IfErr};
-ghost use Rattle.cc_script.specs.Words.{number_of, number_onto};
+ghost use Rattle.cc_script.specs.Words.{parsed_number, number_onto};
 ghost use Rattle.cc_command.specs.Words.{command_by as the_command_by, command_in as the_command_in, command_of, is_argument as is_an_argument, is_line as is_a_line, mode_by};
 
 use crate::command_line::parse;
@@ -85,9 +85,9 @@ fn command_by(word: &str, argument: &str) -> Option<Command>
 }
 
 /// A decimal number below 2^64, without a leading zero.
-#[tactic(auto, unfolding(cc_script::specs::Words::number_of))]
+#[tactic(auto, unfolding(cc_script::specs::Words::parsed_number))]
 fn number(word: &str) -> Option<u64>
-    ensures { result ≡ number_of word.now }
+    ensures { result ≡ parsed_number word.now }
 {
     match word.as_bytes() {
         [] | [b'0', _, ..] => None,

@@ -6,7 +6,7 @@ use Rattle.std.specs.List.{list_any, IsDistinct, AllByRecursion}
 use Rattle.std.specs.Set.{distinct_count, is_member}
 use Rattle.cc_entry.specs.Pages.{block_of, pages_of}
 use Rattle.cc_entry.specs.Place.{File, Range}
-use Rattle.cc_views.specs.Views.{Mapped}
+use Rattle.cc_views.specs.Views.{MappedViews}
 use Rattle.cc_resident.specs.Residents.{blocks, is_resident as is_kept, all_resident as all_kept, all_mapped}
 use Rattle.cc_model.specs.History.{Effect}
 use Rattle.cc_model.specs.Numbers.{is_among}
@@ -48,7 +48,7 @@ IsDistinct-more : (b : ℕ) (xs : List ℕ) → is_among b xs ≡ false → IsDi
 unfolding IsDistinct
 IsDistinct-more b xs absent distinct = (apart b xs absent, distinct)
 
-module _ (opening : Option (ℕ → List ℕ)) (h : List Effect) (m : Mapped)
+module _ (opening : Option (ℕ → List ℕ)) (h : List Effect) (m : MappedViews)
     (stands : PagesStand opening h m) where
   -- each page of a range is kept, where each is resident
   pub all_kept-resident : (r : Range) → all_resident h r ≡ true → all_kept m r ≡ true

@@ -5,9 +5,9 @@ use Rattle.cc_entry.specs.Pages.{has_byte, whole_range}
 use Rattle.cc_entry.specs.Place.{Range}
 use Rattle.cc_entry.specs.declared.call.Call.{Call}
 use Rattle.cc_entry.specs.declared.reply.Reply.{Reply}
-use Rattle.cc_views.specs.Views.{Mapped}
+use Rattle.cc_views.specs.Views.{MappedViews}
 use Rattle.cc_resident.specs.Residents.{byte_at, is_shared, blocks, used as used_after}
-use Rattle.cc_resident.specs.Changes.{Covers}
+use Rattle.cc_resident.specs.Changes.{CoversRange}
 use Rattle.cc_model.specs.Acts.{act_of, Writes, Zeroes}
 use Rattle.cc_model.specs.Bytes.{content}
 use Rattle.cc_model.specs.History.{Effect, Did}
@@ -19,7 +19,7 @@ use Rattle.cc_laws.proofs.QuotaSteps.{quota_of-writes, quota_of-zeroes}
 use Rattle.cc_laws.proofs.ResidencySteps.{residents-writes, residents-zeroes}
 use Rattle.cc_laws.proofs.SizeSteps.{sizes-writes, sizes-zeroes}
 use Rattle.cc_content.specs.Contents.{PagesStand}
-use Rattle.cc_content.specs.Done.{IsMapped, Uses}
+use Rattle.cc_content.specs.Done.{IsMapped, UsesBlocks}
 use Rattle.cc_content.proofs.DoneBytes.{IsByteOf-changed}
 use Rattle.cc_content.proofs.KeptBlocks.{used-same}
 use Rattle.cc_content.proofs.LooksStand.{SamePages, SamePages-byte, order-left, blocks-mapped}
@@ -37,8 +37,8 @@ pub record Changes (h : List Effect) (pass : ℕ) (call : Call) (reply : Reply) 
       → content pages (Did pass call reply ∷ h) i ≡ content pages h i
 
 -- what became of the pages that are kept
-pub record Changed (m n : Mapped) (r : Range) (given : ℕ → ℕ) (o : Option Range) : Type 0 where
-  pub bytes : Covers m n r given
+pub record Changed (m n : MappedViews) (r : Range) (given : ℕ → ℕ) (o : Option Range) : Type 0 where
+  pub bytes : CoversRange m n r given
   pub blocks : blocks n ≡ used_after (blocks_of_range o) (blocks m)
   pub quota : n.quota ≡ m.quota
   pub size : n.size ≡ m.size
@@ -49,7 +49,7 @@ given-byte None value byte is = cc
 given-byte (Some old) value byte is = cc
 
 module _ (opening : Option (ℕ → List ℕ)) (h : List Effect) (pass : ℕ) (call : Call) (reply : Reply)
-    (m n : Mapped) where
+    (m n : MappedViews) where
   pub stands-changed : (r : Range) (given : ℕ → ℕ) (o : Option Range) → Changes h pass call reply r given
       → Changed m n r given o → r.from ≤ valid_of h → PagesStand opening h m → IsMapped m o
       → used_by (Did pass call reply) h ≡ blocks_of_range o → is_mapped (Did pass call reply ∷ h) ≡ true
@@ -73,7 +73,7 @@ module _ (opening : Option (ℕ → List ℕ)) (h : List Effect) (pass : ℕ) (c
   pub stands-written : (at : ℕ) (bytes : List ℕ) (o : Option Range)
       → Changed m n (whole_range at (length bytes)) (λ i. get_or bytes (i - at) 0) o → PagesStand opening h m
       → IsMapped m o
-      → act_of call ≡ Writes at bytes → Uses h pass call reply o → at ≤ valid_of h
+      → act_of call ≡ Writes at bytes → UsesBlocks h pass call reply o → at ≤ valid_of h
       → is_mapped (Did pass call reply ∷ h) ≡ true → PagesStand opening (Did pass call reply ∷ h) n
   stands-written at bytes o w was there is uses starts mapped =
       stands-changed (whole_range at (length bytes)) (λ i. get_or bytes (i - at) 0) o (record {
@@ -87,7 +87,7 @@ module _ (opening : Option (ℕ → List ℕ)) (h : List Effect) (pass : ℕ) (c
 
   pub stands-zeroed : (from to : ℕ) (o : Option Range)
       → Changed m n (record { from = from; to = to }) (λ _. 0) o → PagesStand opening h m → IsMapped m o
-      → act_of call ≡ Zeroes from to → Uses h pass call reply o → from ≤ valid_of h
+      → act_of call ≡ Zeroes from to → UsesBlocks h pass call reply o → from ≤ valid_of h
       → is_mapped (Did pass call reply ∷ h) ≡ true → PagesStand opening (Did pass call reply ∷ h) n
   stands-zeroed from to o w was there is uses starts mapped =
       stands-changed (record { from = from; to = to }) (λ _. 0) o (record {
@@ -100,7 +100,7 @@ module _ (opening : Option (ℕ → List ℕ)) (h : List Effect) (pass : ℕ) (c
       }) w starts was there uses.blocks mapped
 
 -- a change, and then a use of blocks
-pub Changed-then : (m k n : Mapped) (r : Range) (given : ℕ → ℕ) (o : Option Range) → Covers m k r given
+pub Changed-then : (m k n : MappedViews) (r : Range) (given : ℕ → ℕ) (o : Option Range) → CoversRange m k r given
     → blocks k ≡ blocks m → k.quota ≡ m.quota → k.size ≡ m.size → SamePages k n
     → blocks n ≡ used_after (blocks_of_range o) (blocks k) → ((p : ℕ) → is_shared n p ≡ is_shared k p)
     → Changed m n r given o

@@ -6,8 +6,8 @@ use Rattle.std.specs.List.{filter, list_any}
 use Rattle.std.specs.Option.{option_map}
 use Rattle.cc_entry.specs.Pages.{block_of}
 use Rattle.cc_entry.specs.declared.entry.End.{End}
-use Rattle.cc_views.specs.Views.{Mapped}
-use Rattle.cc_resident.specs.Residents.{page_at, byte_at, is_resident as is_kept, blocks, has_pages, used}
+use Rattle.cc_views.specs.Views.{MappedViews}
+use Rattle.cc_resident.specs.Residents.{page_bytes_at, byte_at, is_resident as is_kept, blocks, has_pages, used}
 use Rattle.cc_resident.specs.Changes.{KeepsOthers}
 use Rattle.cc_model.specs.Bytes.{byte_of}
 use Rattle.cc_model.specs.Numbers.{is_empty, is_among}
@@ -28,20 +28,20 @@ use Rattle.cc_laws.proofs.QuotaSteps.{quota_of-opens_mapped, quota_of-opens_anew
 use Rattle.cc_laws.proofs.ByteSteps.{content-opens, byte_of-above, byte_of-same, byte_of-came_in, byte_of-went_out, byte_of-began, byte_of-ended, byte_of-synced}
 use Rattle.cc_laws.proofs.PlacesResident.{among-in, among-without}
 use Rattle.cc_laws.proofs.ResidencySteps.{residents-unmapped, residents-opens, residents-came_in, residents-went_out, residents-began, residents-ended, residents-synced, order_of_use-came_in, order_of_use-went_out, order_of_use-began, order_of_use-ended, order_of_use-synced, order_of_use-unused}
-use Rattle.cc_content.specs.Contents.{Contents, ContentsStand, MapStands, PagesStand, IsByteOf}
+use Rattle.cc_content.specs.Contents.{Contents, ContentsStand, MapStands, PagesStand, IsByteOfContents}
 use Rattle.cc_content.specs.Filling.{IsReadFrom, IsClearedFrom, Fills}
-use Rattle.cc_content.specs.Leaves.{Leaves}
+use Rattle.cc_content.specs.Leaves.{LeavesContents}
 use Rattle.cc_content.proofs.Found.{filter-all, filter-same}
 use Rattle.cc_content.proofs.Orders.{order_of_use-none}
 use Rattle.cc_content.proofs.Kept.{pages_stand, no_map, has_pages-mapped}
 
 -- a byte of a history is one of another that says the same of it
-pub IsByteOf-same : (opening : Option (ℕ → List ℕ)) (h g : List Effect) (i byte : ℕ) → valid_of g ≡ valid_of h → ((pages : ℕ → List ℕ) → byte_of pages g i ≡ byte_of pages h i) → IsByteOf opening h i byte → IsByteOf opening g i byte
+pub IsByteOf-same : (opening : Option (ℕ → List ℕ)) (h g : List Effect) (i byte : ℕ) → valid_of g ≡ valid_of h → ((pages : ℕ → List ℕ) → byte_of pages g i ≡ byte_of pages h i) → IsByteOfContents opening h i byte → IsByteOfContents opening g i byte
 IsByteOf-same None h g i byte valid same is = λ past. is (subst (λ n. n ≤ i) valid past)
 IsByteOf-same (Some pages) h g i byte valid same is = is ∙ sym (same pages)
 
 -- pages that stand for a history stand for a later one that left them
-pub PagesStand-left : (opening : Option (ℕ → List ℕ)) (h g : List Effect) (m : Mapped) → Leaves h g → is_mapped g ≡ true → PagesStand opening h m → PagesStand opening g m
+pub PagesStand-left : (opening : Option (ℕ → List ℕ)) (h g : List Effect) (m : MappedViews) → LeavesContents h g → is_mapped g ≡ true → PagesStand opening h m → PagesStand opening g m
 PagesStand-left opening h g m left mapped stands =
     record {
       mapped = mapped;
@@ -52,12 +52,12 @@ PagesStand-left opening h g m left mapped stands =
       bytes = λ i byte there. IsByteOf-same opening h g i byte (ap (λ (s : Sizes). s.valid) left.sizes) (λ pages. left.bytes pages i) (stands.bytes i byte there);
     }
 
-MapStands-left : (opening : Option (ℕ → List ℕ)) (h g : List Effect) (o : Option Mapped) → Leaves h g → is_mapped g ≡ is_mapped h → MapStands opening h o → MapStands opening g o
+MapStands-left : (opening : Option (ℕ → List ℕ)) (h g : List Effect) (o : Option MappedViews) → LeavesContents h g → is_mapped g ≡ is_mapped h → MapStands opening h o → MapStands opening g o
 MapStands-left opening h g None left same stands = same ∙ stands
 MapStands-left opening h g (Some m) left same stands = PagesStand-left opening h g m left (same ∙ stands.mapped) stands
 
 -- what is kept stands for a later history that left it, and its map
-pub stands-left : (opening : Option (ℕ → List ℕ)) (h g : List Effect) (c : Contents) → Leaves h g → is_mapped g ≡ is_mapped h → ContentsStand opening h c → ContentsStand opening g c
+pub stands-left : (opening : Option (ℕ → List ℕ)) (h g : List Effect) (c : Contents) → LeavesContents h g → is_mapped g ≡ is_mapped h → ContentsStand opening h c → ContentsStand opening g c
 stands-left opening h g c left same stands =
     record {
       valid_is = stands.valid_is ∙ sym (ap (λ (s : Sizes). s.valid) left.sizes);
@@ -65,12 +65,12 @@ stands-left opening h g c left same stands =
     }
 
 -- and without its pages for one in which the map is gone
-pub stands-gone : (opening : Option (ℕ → List ℕ)) (h g : List Effect) (c : Contents) → Leaves h g → is_mapped g ≡ false → ContentsStand opening h c → ContentsStand opening g (record { valid = c.valid; pages = None })
+pub stands-gone : (opening : Option (ℕ → List ℕ)) (h g : List Effect) (c : Contents) → LeavesContents h g → is_mapped g ≡ false → ContentsStand opening h c → ContentsStand opening g (record { valid = c.valid; pages = None })
 stands-gone opening h g c left gone stands =
     record { valid_is = stands.valid_is ∙ sym (ap (λ (s : Sizes). s.valid) left.sizes); map_is = gone }
 
 -- a map that is there was there
-pub mapped-before : (h g : List Effect) → Leaves h g → is_mapped g ≡ true → is_mapped g ≡ is_mapped h
+pub mapped-before : (h g : List Effect) → LeavesContents h g → is_mapped g ≡ true → is_mapped g ≡ is_mapped h
 mapped-before h g left mapped = go (is_mapped h) refl
   where
     go : (t : Bool) → is_mapped h ≡ t → is_mapped g ≡ is_mapped h
@@ -78,7 +78,7 @@ mapped-before h g left mapped = go (is_mapped h) refl
     go false is = absurd (true≢false (sym mapped ∙ left.gone is))
 
 -- the begin of a transfer and a sync leave everything
-pub leaves-began : (pass page : ℕ) (h : List Effect) → Leaves h (Began pass page ∷ h)
+pub leaves-began : (pass page : ℕ) (h : List Effect) → LeavesContents h (Began pass page ∷ h)
 leaves-began pass page h =
     record {
       gone = λ gone. is_mapped-began pass page h ∙ gone;
@@ -89,7 +89,7 @@ leaves-began pass page h =
       bytes = λ pages i. byte_of-began pages pass page h i;
     }
 
-pub leaves-synced : (pass : ℕ) (how : End) (h : List Effect) → Leaves h (Synced pass how ∷ h)
+pub leaves-synced : (pass : ℕ) (how : End) (h : List Effect) → LeavesContents h (Synced pass how ∷ h)
 leaves-synced pass how h =
     record {
       gone = λ gone. is_mapped-synced pass how h ∙ gone;
@@ -130,7 +130,7 @@ is_mapped-ended_gone pass page how h gone =
     let parts = or_parts (not (is_empty (objects h))) (list_any (is_dirty h) (touched h)) gone in
     or_from (not (is_empty (objects h))) (list_any (is_dirty (Ended pass page how ∷ h)) (touched h)) parts.0 (none-dirty pass page how h (touched h) parts.1)
 
-pub leaves-ended : (pass page : ℕ) (how : End) (h : List Effect) → Leaves h (Ended pass page how ∷ h)
+pub leaves-ended : (pass page : ℕ) (how : End) (h : List Effect) → LeavesContents h (Ended pass page how ∷ h)
 leaves-ended pass page how h =
     record {
       gone = is_mapped-ended_gone pass page how h;
@@ -142,7 +142,7 @@ leaves-ended pass page how h =
     }
 
 -- an initialise that joins the map leaves everything
-pub leaves-joined : (pass : ℕ) (file : File) (given : FileSizes) (quota : ℕ) (temporary : Bool) (reply : Reply) (h : List Effect) → is_mapped h ≡ true → Leaves h (Did pass (call.Initialise file given quota temporary) reply ∷ h)
+pub leaves-joined : (pass : ℕ) (file : File) (given : FileSizes) (quota : ℕ) (temporary : Bool) (reply : Reply) (h : List Effect) → is_mapped h ≡ true → LeavesContents h (Did pass (call.Initialise file given quota temporary) reply ∷ h)
 leaves-joined pass file given quota temporary reply h mapped =
     record {
       gone = λ gone. absurd (true≢false (sym mapped ∙ gone));
@@ -164,20 +164,20 @@ stands-joined opening pass file given quota temporary reply h c mapped stands =
     stands-left opening h (Did pass (call.Initialise file given quota temporary) reply ∷ h) c (leaves-joined pass file given quota temporary reply h mapped) (is_mapped-opens pass (call.Initialise file given quota temporary) reply h refl ∙ sym mapped) stands
 
 -- a page went out
-page-gone : (m n : Mapped) (page : ℕ) → page_at n page ≡ None → KeepsOthers m n page → (i byte : ℕ) → byte_at n i ≡ Some byte → byte_at m i ≡ Some byte
+page-gone : (m n : MappedViews) (page : ℕ) → page_bytes_at n page ≡ None → KeepsOthers m n page → (i byte : ℕ) → byte_at n i ≡ Some byte → byte_at m i ≡ Some byte
 unfolding byte_at
 page-gone m n page none others i byte there = go (i / 4096 == page) refl
   where
     byte_in : Option (List ℕ) → Option ℕ
     byte_in o = option_map (λ bytes. slice_index_or bytes (i % 4096) 0) o
 
-    go : (t : Bool) → (i / 4096 == page) ≡ t → option_map (λ bytes. slice_index_or bytes (i % 4096) 0) (page_at m (i / 4096)) ≡ Some byte
+    go : (t : Bool) → (i / 4096 == page) ≡ t → option_map (λ bytes. slice_index_or bytes (i % 4096) 0) (page_bytes_at m (i / 4096)) ≡ Some byte
     go true is =
-        let gone : page_at n (i / 4096) ≡ None = ap (page_at n) (eqb-true (i / 4096) page is) ∙ none in
+        let gone : page_bytes_at n (i / 4096) ≡ None = ap (page_bytes_at n) (eqb-true (i / 4096) page is) ∙ none in
         absurd (true≢false (sym (ap is_some (sym (ap (option_map (λ bytes. slice_index_or bytes (i % 4096) 0)) gone) ∙ there))))
     go false is = ap (option_map (λ bytes. slice_index_or bytes (i % 4096) 0)) (sym (others (i / 4096) (eqb-false (i / 4096) page is))) ∙ there
 
-pub PagesStand-went_out : (opening : Option (ℕ → List ℕ)) (pass page : ℕ) (h : List Effect) (m n : Mapped) → PagesStand opening h m → page_at n page ≡ None → KeepsOthers m n page → blocks n ≡ filter (has_pages n) (blocks m) → n.quota ≡ m.quota → n.size ≡ m.size → PagesStand opening (WentOut pass page ∷ h) n
+pub PagesStand-went_out : (opening : Option (ℕ → List ℕ)) (pass page : ℕ) (h : List Effect) (m n : MappedViews) → PagesStand opening h m → page_bytes_at n page ≡ None → KeepsOthers m n page → blocks n ≡ filter (has_pages n) (blocks m) → n.quota ≡ m.quota → n.size ≡ m.size → PagesStand opening (WentOut pass page ∷ h) n
 PagesStand-went_out opening pass page h m n stands none others left quota size =
     record {
       mapped = is_mapped-went_out pass page h ∙ stands.mapped;
@@ -192,10 +192,10 @@ PagesStand-went_out opening pass page h m n stands none others left quota size =
     resident p = go (page == p) refl ∙ sym (ap (is_among p) (residents-went_out pass page h) ∙ among-without page p (residents h))
       where
         go : (t : Bool) → (page == p) ≡ t → is_kept n p ≡ (not (page == p) && is_among p (residents h))
-        go true is = ap is_some (ap (page_at n) (sym (eqb-true page p is)) ∙ none) ∙ ap (λ b. not b && is_among p (residents h)) (sym is)
+        go true is = ap is_some (ap (page_bytes_at n) (sym (eqb-true page p is)) ∙ none) ∙ ap (λ b. not b && is_among p (residents h)) (sym is)
         go false is = ap is_some (others p (λ e. eqb-false page p is (sym e))) ∙ (stands.resident p ∙ ap (λ b. not b && is_among p (residents h)) (sym is))
 
-pub stands-went_out : (opening : Option (ℕ → List ℕ)) (pass page : ℕ) (h : List Effect) (c : Contents) (m n : Mapped) → ContentsStand opening h c → c.pages ≡ Some m → page_at n page ≡ None → KeepsOthers m n page → blocks n ≡ filter (has_pages n) (blocks m) → n.quota ≡ m.quota → n.size ≡ m.size → ContentsStand opening (WentOut pass page ∷ h) (record { valid = c.valid; pages = Some n })
+pub stands-went_out : (opening : Option (ℕ → List ℕ)) (pass page : ℕ) (h : List Effect) (c : Contents) (m n : MappedViews) → ContentsStand opening h c → c.pages ≡ Some m → page_bytes_at n page ≡ None → KeepsOthers m n page → blocks n ≡ filter (has_pages n) (blocks m) → n.quota ≡ m.quota → n.size ≡ m.size → ContentsStand opening (WentOut pass page ∷ h) (record { valid = c.valid; pages = Some n })
 stands-went_out opening pass page h c m n stands is none others left quota size =
     record {
       valid_is = stands.valid_is ∙ sym (ap (λ (s : Sizes). s.valid) (sizes-went_out pass page h));
@@ -211,7 +211,7 @@ stands-went_out_unmapped opening pass page h c stands is =
     }
 
 -- a byte of a page that came in
-pub IsByteOf-filled : (opening : Option (ℕ → List ℕ)) (h : List Effect) (page j : ℕ) (raw bytes : List ℕ) → j < 4096 → IsReadFrom opening h page raw → IsClearedFrom (valid_of h - 4096 * page) raw bytes → IsByteOf opening h (4096 * page + j) (slice_index bytes j)
+pub IsByteOf-filled : (opening : Option (ℕ → List ℕ)) (h : List Effect) (page j : ℕ) (raw bytes : List ℕ) → j < 4096 → IsReadFrom opening h page raw → IsClearedFrom (valid_of h - 4096 * page) raw bytes → IsByteOfContents opening h (4096 * page + j) (slice_index bytes j)
 IsByteOf-filled None h page j raw bytes inside read cleared = λ past. cleared.above j (omega arith)
 IsByteOf-filled (Some pages) h page j raw bytes inside read cleared = go (nat_lt (4096 * page + j) (valid_of h)) refl
   where
@@ -223,17 +223,17 @@ IsByteOf-filled (Some pages) h page j raw bytes inside read cleared = go (nat_lt
         let high = ltb-false (4096 * page + j) (valid_of h) is in
         cleared.above j (omega arith) ∙ sym (byte_of-above pages h (4096 * page + j) is)
 
-byte-of_page : (m : Mapped) (page i byte : ℕ) (bytes : List ℕ) → page_at m page ≡ Some bytes → i / 4096 ≡ page → byte_at m i ≡ Some byte → slice_index bytes (i % 4096) ≡ byte
+byte-of_page : (m : MappedViews) (page i byte : ℕ) (bytes : List ℕ) → page_bytes_at m page ≡ Some bytes → i / 4096 ≡ page → byte_at m i ≡ Some byte → slice_index bytes (i % 4096) ≡ byte
 unfolding byte_at
 byte-of_page m page i byte bytes is here there =
-    let known : Some (slice_index bytes (i % 4096)) ≡ Some byte = sym (ap (option_map (λ bs. slice_index_or bs (i % 4096) 0)) (ap (page_at m) here ∙ is)) ∙ there in
+    let known : Some (slice_index bytes (i % 4096)) ≡ Some byte = sym (ap (option_map (λ bs. slice_index_or bs (i % 4096) 0)) (ap (page_bytes_at m) here ∙ is)) ∙ there in
     cc
 
-byte-of_others : (m n : Mapped) (i byte : ℕ) → page_at n (i / 4096) ≡ page_at m (i / 4096) → byte_at n i ≡ Some byte → byte_at m i ≡ Some byte
+byte-of_others : (m n : MappedViews) (i byte : ℕ) → page_bytes_at n (i / 4096) ≡ page_bytes_at m (i / 4096) → byte_at n i ≡ Some byte → byte_at m i ≡ Some byte
 unfolding byte_at
 byte-of_others m n i byte same there = ap (option_map (λ bytes. slice_index_or bytes (i % 4096) 0)) (sym same) ∙ there
 
-PagesStand-came_in : (opening : Option (ℕ → List ℕ)) (pass page : ℕ) (from_disk : Bool) (h : List Effect) (m n : Mapped) (raw : List ℕ) → PagesStand opening h m → Fills m n page (valid_of h - 4096 * page) raw → IsReadFrom opening h page raw → PagesStand opening (CameIn pass page from_disk ∷ h) n
+PagesStand-came_in : (opening : Option (ℕ → List ℕ)) (pass page : ℕ) (from_disk : Bool) (h : List Effect) (m n : MappedViews) (raw : List ℕ) → PagesStand opening h m → Fills m n page (valid_of h - 4096 * page) raw → IsReadFrom opening h page raw → PagesStand opening (CameIn pass page from_disk ∷ h) n
 PagesStand-came_in opening pass page from_disk h m n raw stands fills read =
     record {
       mapped = is_mapped-came_in pass page from_disk h ∙ stands.mapped;
@@ -251,20 +251,20 @@ PagesStand-came_in opening pass page from_disk h m n raw stands fills read =
     resident p = go (page == p) refl ∙ sym (ap (is_among p) (residents-came_in pass page from_disk h stands.mapped) ∙ among-in page p (residents h))
       where
         go : (t : Bool) → (page == p) ≡ t → is_kept n p ≡ ((page == p) || is_among p (residents h))
-        go true is = ap is_some (ap (page_at n) (sym (eqb-true page p is)) ∙ fills.page_is) ∙ ap (λ b. b || is_among p (residents h)) (sym is)
+        go true is = ap is_some (ap (page_bytes_at n) (sym (eqb-true page p is)) ∙ fills.page_is) ∙ ap (λ b. b || is_among p (residents h)) (sym is)
         go false is = ap is_some (fills.others p (λ e. eqb-false page p is (sym e))) ∙ (stands.resident p ∙ ap (λ b. b || is_among p (residents h)) (sym is))
 
-    bytes : (i byte : ℕ) (t : Bool) → (i / 4096 == page) ≡ t → byte_at n i ≡ Some byte → IsByteOf opening h i byte
+    bytes : (i byte : ℕ) (t : Bool) → (i / 4096 == page) ≡ t → byte_at n i ≡ Some byte → IsByteOfContents opening h i byte
     bytes i byte true is there =
         let here : i / 4096 ≡ page = eqb-true (i / 4096) page is in
         let at : 4096 * page + i % 4096 ≡ i = omega arith in
         let filled = IsByteOf-filled opening h page (i % 4096) raw fills.bytes (omega arith) read fills.cleared in
-        subst (λ k. IsByteOf opening h k byte) at (subst (IsByteOf opening h (4096 * page + i % 4096)) (byte-of_page n page i byte fills.bytes fills.page_is here there) filled)
+        subst (λ k. IsByteOfContents opening h k byte) at (subst (IsByteOfContents opening h (4096 * page + i % 4096)) (byte-of_page n page i byte fills.bytes fills.page_is here there) filled)
     bytes i byte false is there =
         stands.bytes i byte (byte-of_others m n i byte (fills.others (i / 4096) (eqb-false (i / 4096) page is)) there)
 
 -- a page came in
-pub stands-came_in : (opening : Option (ℕ → List ℕ)) (pass page : ℕ) (from_disk : Bool) (h : List Effect) (c : Contents) (m n : Mapped) (raw : List ℕ) → ContentsStand opening h c → c.pages ≡ Some m → Fills m n page (c.valid - 4096 * page) raw → IsReadFrom opening h page raw → ContentsStand opening (CameIn pass page from_disk ∷ h) (record { valid = c.valid; pages = Some n })
+pub stands-came_in : (opening : Option (ℕ → List ℕ)) (pass page : ℕ) (from_disk : Bool) (h : List Effect) (c : Contents) (m n : MappedViews) (raw : List ℕ) → ContentsStand opening h c → c.pages ≡ Some m → Fills m n page (c.valid - 4096 * page) raw → IsReadFrom opening h page raw → ContentsStand opening (CameIn pass page from_disk ∷ h) (record { valid = c.valid; pages = Some n })
 stands-came_in opening pass page from_disk h c m n raw stands is fills read =
     record {
       valid_is = stands.valid_is ∙ sym (ap (λ (s : Sizes). s.valid) (sizes-came_in pass page from_disk h));
@@ -272,7 +272,7 @@ stands-came_in opening pass page from_disk h c m n raw stands is fills read =
     }
 
 -- an initialise made the map, with no page
-pub stands-opened : (opening : Option (ℕ → List ℕ)) (pass : ℕ) (file : File) (given : FileSizes) (quota : ℕ) (temporary : Bool) (reply : Reply) (h : List Effect) (m : Mapped) → is_mapped h ≡ false → ((p : ℕ) → page_at m p ≡ None) → blocks m ≡ [] → m.quota ≡ quota → m.size ≡ given.size → ContentsStand opening (Did pass (call.Initialise file given quota temporary) reply ∷ h) (record { valid = given.valid; pages = Some m })
+pub stands-opened : (opening : Option (ℕ → List ℕ)) (pass : ℕ) (file : File) (given : FileSizes) (quota : ℕ) (temporary : Bool) (reply : Reply) (h : List Effect) (m : MappedViews) → is_mapped h ≡ false → ((p : ℕ) → page_bytes_at m p ≡ None) → blocks m ≡ [] → m.quota ≡ quota → m.size ≡ given.size → ContentsStand opening (Did pass (call.Initialise file given quota temporary) reply ∷ h) (record { valid = given.valid; pages = Some m })
 unfolding byte_at
 stands-opened opening pass file given quota temporary reply h m unmapped none order same_quota size =
     record {

@@ -7,9 +7,9 @@ use Rattle.std.specs.Option.{option_map}
 use Rattle.cc_entry.specs.Place.{File, Range}
 use Rattle.cc_entry.specs.declared.call.Call.{Call}
 use Rattle.cc_entry.specs.declared.reply.Reply.{Reply}
-use Rattle.cc_views.specs.Views.{Mapped}
-use Rattle.cc_resident.specs.Residents.{page_at, byte_at, blocks, has_pages, is_resident as is_kept}
-use Rattle.cc_resident.specs.Changes.{Cuts, is_between}
+use Rattle.cc_views.specs.Views.{MappedViews}
+use Rattle.cc_resident.specs.Residents.{page_bytes_at, byte_at, blocks, has_pages, is_resident as is_kept}
+use Rattle.cc_resident.specs.Changes.{Cuts, is_number_between}
 use Rattle.cc_model.specs.Acts.{act_of, Closes, Resizes, Discards}
 use Rattle.cc_model.specs.Bytes.{content}
 use Rattle.cc_model.specs.History.{Effect, Did}
@@ -25,16 +25,16 @@ use Rattle.cc_laws.proofs.ByteSteps.{content-closes, content-resizes, content-di
 use Rattle.cc_laws.proofs.QuotaSteps.{quota_of-closes, quota_of-resizes, quota_of-discards}
 use Rattle.cc_laws.proofs.ResidencySteps.{residents-closes, residents-resizes, residents-discards, order_of_use-done}
 use Rattle.cc_laws.proofs.SizeSteps.{sizes-closes_cut, sizes-resizes, sizes-discards}
-use Rattle.cc_content.specs.Contents.{PagesStand, IsByteOf}
+use Rattle.cc_content.specs.Contents.{PagesStand, IsByteOfContents}
 use Rattle.cc_content.proofs.DoneBytes.{IsByteOf-agree, IsByteOf-zero}
 use Rattle.cc_content.proofs.KeptBlocks.{both_true, filter_alike, has_pages-is}
 use Rattle.cc_content.proofs.LooksStand.{used_by-closes, used_by-resizes, used_by-discards}
 use Rattle.cc_content.proofs.ChangesStand.{given-byte}
 
 -- a byte that is there is of a page that is kept
-pub byte-kept : (m : Mapped) (i byte : ℕ) → byte_at m i ≡ Some byte → is_kept m (i / 4096) ≡ true
+pub byte-kept : (m : MappedViews) (i byte : ℕ) → byte_at m i ≡ Some byte → is_kept m (i / 4096) ≡ true
 unfolding byte_at
-byte-kept m i byte is = by (page_at m (i / 4096)) is
+byte-kept m i byte is = by (page_bytes_at m (i / 4096)) is
   where
     by : (o : Option (List ℕ)) → option_map (λ bytes. get_or bytes (i % 4096) 0) o ≡ Some byte
         → is_some o ≡ true
@@ -42,13 +42,13 @@ byte-kept m i byte is = by (page_at m (i / 4096)) is
     by (Some bytes) k = refl
 
 -- the bytes of a page that is as it was
-pub byte-alike : (m n : Mapped) (i : ℕ) → page_at n (i / 4096) ≡ page_at m (i / 4096)
+pub byte-alike : (m n : MappedViews) (i : ℕ) → page_bytes_at n (i / 4096) ≡ page_bytes_at m (i / 4096)
     → byte_at n i ≡ byte_at m i
 unfolding byte_at
 byte-alike m n i same = rw same refl
 
 -- the order of use after a call that takes pages and uses no block
-pub order-taken : (h : List Effect) (pass : ℕ) (call : Call) (reply : Reply) (m n : Mapped)
+pub order-taken : (h : List Effect) (pass : ℕ) (call : Call) (reply : Reply) (m n : MappedViews)
     → used_by (Did pass call reply) h ≡ [] → ((p : ℕ) → is_kept n p ≡ is_resident (Did pass call reply ∷ h) p)
     → blocks m ≡ order_of_use h → blocks n ≡ filter (has_pages n) (blocks m)
     → blocks n ≡ order_of_use (Did pass call reply ∷ h)
@@ -67,14 +67,14 @@ pub record CutsTo (h : List Effect) (pass : ℕ) (call : Call) (reply : Reply) (
   pub unused : used_by (Did pass call reply) h ≡ []
 
 -- what became of the pages that are kept
-pub record CutPages (m n : Mapped) (size : ℕ) : Type 0 where
+pub record CutPages (m n : MappedViews) (size : ℕ) : Type 0 where
   pub cuts : Cuts m n size
   pub blocks : blocks n ≡ filter (has_pages n) (blocks m)
   pub quota : n.quota ≡ m.quota
   pub sized : n.size ≡ size
 
 module _ (opening : Option (ℕ → List ℕ)) (h : List Effect) (pass : ℕ) (call : Call) (reply : Reply)
-    (m n : Mapped) where
+    (m n : MappedViews) where
   module _ (size : ℕ) (c : CutsTo h pass call reply size) (w : CutPages m n size)
       (was : PagesStand opening h m) where
     resident-cut : (p : ℕ) → is_kept n p ≡ is_resident (Did pass call reply ∷ h) p
@@ -102,18 +102,18 @@ module _ (opening : Option (ℕ → List ℕ)) (h : List Effect) (pass : ℕ) (c
     valid-cut : valid_of (Did pass call reply ∷ h) ≡ min (valid_of h) size
     valid-cut = ap (λ s. s.valid) c.sizes
 
-    bytes-cut : (i byte : ℕ) → byte_at n i ≡ Some byte → IsByteOf opening (Did pass call reply ∷ h) i byte
+    bytes-cut : (i byte : ℕ) → byte_at n i ≡ Some byte → IsByteOfContents opening (Did pass call reply ∷ h) i byte
     bytes-cut i byte is = by (nat_lt i size) refl
       where
         past : size ≤ i → (t : Bool) → nat_lt (4096 * (i / 4096)) size ≡ t
-            → IsByteOf opening (Did pass call reply ∷ h) i byte
+            → IsByteOfContents opening (Did pass call reply ∷ h) i byte
         past above true t =
             IsByteOf-zero opening (Did pass call reply ∷ h) i byte (omega (arith, valid-cut, above))
             (given-byte (byte_at m i) 0 byte (sym (w.cuts.past i above (ltb-true _ _ t)) ∙ is))
         past above false t =
             absurd (true≢false (sym (byte-kept n i byte is) ∙ ap is_some (w.cuts.gone (i / 4096) (ltb-false _ _ t))))
 
-        by : (t : Bool) → nat_lt i size ≡ t → IsByteOf opening (Did pass call reply ∷ h) i byte
+        by : (t : Bool) → nat_lt i size ≡ t → IsByteOfContents opening (Did pass call reply ∷ h) i byte
         by true t =
             let inside : i < size = ltb-true i size t in
             IsByteOf-agree opening h (Did pass call reply ∷ h) i byte
@@ -163,27 +163,27 @@ module _ (opening : Option (ℕ → List ℕ)) (h : List Effect) (pass : ℕ) (c
   -- a discard: the pages of its span go, and no other page does
   module _ {span : Option Range} (from to : ℕ) (is : act_of call ≡ Discards span)
       (mapped : is_mapped (Did pass call reply ∷ h) ≡ true) (was : PagesStand opening h m)
-      (spans : (p : ℕ) → is_kept m p ≡ true → is_between from to p ≡ span_has span p)
-      (gone : (p : ℕ) → from ≤ p → p < to → page_at n p ≡ None)
-      (others : (p : ℕ) → (p < from) ⊎ (to ≤ p) → page_at n p ≡ page_at m p)
+      (spans : (p : ℕ) → is_kept m p ≡ true → is_number_between from to p ≡ span_has span p)
+      (gone : (p : ℕ) → from ≤ p → p < to → page_bytes_at n p ≡ None)
+      (others : (p : ℕ) → (p < from) ⊎ (to ≤ p) → page_bytes_at n p ≡ page_bytes_at m p)
     where
-      left : (p : ℕ) → is_between from to p ≡ false → page_at n p ≡ page_at m p
+      left : (p : ℕ) → is_number_between from to p ≡ false → page_bytes_at n p ≡ page_bytes_at m p
       left p out = others p (apart from to p out)
         where
-          apart : (a b q : ℕ) → is_between a b q ≡ false → (q < a) ⊎ (b ≤ q)
+          apart : (a b q : ℕ) → is_number_between a b q ≡ false → (q < a) ⊎ (b ≤ q)
           apart a b q out = elim (cases_lt q a) [ inl below ↦ inl below | inr above ↦ inr (past above) ]
             where
               past : a ≤ q → b ≤ q
               past above = grind (arith, nat_tests)
 
-      taken : (p : ℕ) → is_between from to p ≡ true → page_at n p ≡ None
+      taken : (p : ℕ) → is_number_between from to p ≡ true → page_bytes_at n p ≡ None
       taken p in_span =
           let parts = both_true (nat_le from p) (nat_lt p to) in_span in
           gone p (leb-true from p parts.0) (ltb-true p to parts.1)
 
       resident-left : (p : ℕ) → is_kept n p ≡ is_resident (Did pass call reply ∷ h) p
       resident-left p =
-          by (is_between from to p) refl (is_kept m p) refl
+          by (is_number_between from to p) refl (is_kept m p) refl
           ∙ sym (rw (residents-discards pass call reply h is mapped) after)
         where
           after : is_among p (filter (λ q. not (span_has span q)) (residents h)) ≡ (is_kept m p && not (span_has span p))
@@ -195,7 +195,7 @@ module _ (opening : Option (ℕ → List ℕ)) (h : List Effect) (pass : ℕ) (c
           and_true true = refl
           and_true false = refl
 
-          by : (t : Bool) → is_between from to p ≡ t → (k : Bool) → is_kept m p ≡ k
+          by : (t : Bool) → is_number_between from to p ≡ t → (k : Bool) → is_kept m p ≡ k
               → is_kept n p ≡ (is_kept m p && not (span_has span p))
           by true t true k = ap is_some (taken p t) ∙ sym (rw (k, sym (spans p k) ∙ t) refl)
           by true t false k = ap is_some (taken p t) ∙ sym (rw k refl)
@@ -204,11 +204,11 @@ module _ (opening : Option (ℕ → List ℕ)) (h : List Effect) (pass : ℕ) (c
               ∙ sym (ap (λ b. is_kept m p && not b) (sym (spans p k) ∙ t) ∙ and_true (is_kept m p))
           by false t false k = ap is_some (left p t) ∙ k ∙ sym (rw k refl)
 
-      bytes-left : (i byte : ℕ) → byte_at n i ≡ Some byte → IsByteOf opening (Did pass call reply ∷ h) i byte
-      bytes-left i byte there = by (is_between from to (i / 4096)) refl
+      bytes-left : (i byte : ℕ) → byte_at n i ≡ Some byte → IsByteOfContents opening (Did pass call reply ∷ h) i byte
+      bytes-left i byte there = by (is_number_between from to (i / 4096)) refl
         where
-          by : (t : Bool) → is_between from to (i / 4096) ≡ t
-              → IsByteOf opening (Did pass call reply ∷ h) i byte
+          by : (t : Bool) → is_number_between from to (i / 4096) ≡ t
+              → IsByteOfContents opening (Did pass call reply ∷ h) i byte
           by true t = absurd (true≢false (sym (byte-kept n i byte there) ∙ ap is_some (taken (i / 4096) t)))
           by false t =
               let old = sym (byte-alike m n i (left (i / 4096) t)) ∙ there in

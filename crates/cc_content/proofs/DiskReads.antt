@@ -6,7 +6,7 @@ use Rattle.cc_model.specs.History.{Effect}
 use Rattle.cc_model.specs.Images.{image}
 use Rattle.cc_model.specs.Residency.{is_resident}
 use Rattle.cc_model.specs.Touches.{valid_of, is_dirty}
-use Rattle.cc_laws.specs.Facts.{IsOnDisk, IsSound}
+use Rattle.cc_laws.specs.Facts.{IsOnDisk, IsSoundHistory}
 use Rattle.cc_content.specs.Filling.{IsReadFrom}
 
 -- over a disk that tells nothing, nothing is asked
@@ -18,7 +18,7 @@ pub read-past : (opening : Option (ℕ → List ℕ)) (h : List Effect) (page : 
 read-past opening h page raw past = λ pages told i inside below. absurd (omega arith)
 
 -- a page that is not resident is not dirty
-clean-absent : (h : List Effect) (page : ℕ) → IsSound h → is_resident h page ≡ false → is_dirty h page ≡ false
+clean-absent : (h : List Effect) (page : ℕ) → IsSoundHistory h → is_resident h page ≡ false → is_dirty h page ≡ false
 clean-absent h page sound absent = go (is_dirty h page) refl
   where
     go : (t : Bool) → is_dirty h page ≡ t → is_dirty h page ≡ false
@@ -35,6 +35,6 @@ on_disk pages h page i raw known is =
     of_some x y e = cc
 
 -- the image of a page that is not resident is the plain file, where what holds of a good journal holds
-pub read-image : (opening : Option (ℕ → List ℕ)) (h : List Effect) (page : ℕ) (raw : List ℕ) → IsSound h → is_resident h page ≡ false → ((pages : ℕ → List ℕ) → opening ≡ Some pages → image pages h page ≡ Some raw) → IsReadFrom opening h page raw
+pub read-image : (opening : Option (ℕ → List ℕ)) (h : List Effect) (page : ℕ) (raw : List ℕ) → IsSoundHistory h → is_resident h page ≡ false → ((pages : ℕ → List ℕ) → opening ≡ Some pages → image pages h page ≡ Some raw) → IsReadFrom opening h page raw
 read-image opening h page raw sound absent known = λ pages told i inside below.
     on_disk pages h page i raw (known pages told) (sound.clean_is_on_disk pages page (4096 * page + i) (clean-absent h page sound absent) (omega arith) (omega arith) below)

@@ -12,7 +12,7 @@ use Rattle.cc_entry.specs.declared.entry.Entry.TheVariants as entry
 use Rattle.cc_entry.specs.declared.reply.Outcome.TheVariants as outcome
 use Rattle.cc_entry.specs.declared.reply.Reply.{Reply}
 use Rattle.cc_entry.specs.declared.reply.Reply.TheVariants as reply
-use Rattle.cc_views.specs.Views.{Mapped}
+use Rattle.cc_views.specs.Views.{MappedViews}
 use Rattle.cc_model.specs.Acts.{Act, act_of, Resizes, Writes, Zeroes, Stores, Stamps, Discards, Looks}
 use Rattle.cc_model.specs.Allowed.{IsAllowedSoFar}
 use Rattle.cc_model.specs.History.{Effect, Did, history}
@@ -28,17 +28,17 @@ use Rattle.cc_laws.proofs.SafeHistory.{IsActSafe}
 use Rattle.cc_laws.proofs.Steady.{needs_no_map}
 use Rattle.cc_laws.proofs.UnrefusedCalls.{refuse_if-none}
 use Rattle.cc_content.specs.Contents.{Contents, ContentsStand, MapStands}
-use Rattle.cc_content.specs.Done.{is_look, Uses}
+use Rattle.cc_content.specs.Done.{is_look, UsesBlocks}
 use Rattle.cc_content.specs.Filling.{HasRoomAmong}
-use Rattle.cc_content.specs.Filling.{HasRoomFor as HasRoomForPage}
-use Rattle.cc_content.specs.Following.{MayFollow, Finds, FindsOpen, AllKept, AllMapped, IsCutWithin, truncated_by, span_below, looked_range}
+use Rattle.cc_content.specs.Filling.{HasRoomToKeepPage as HasRoomForPage}
+use Rattle.cc_content.specs.Following.{MayFollowContents, Finds, FindsOpen, AllKept, AllMapped, IsCutWithin, truncated_by, span_below, looked_range}
 use Rattle.cc_content.proofs.Allowed.{all_kept-resident, all_mapped-resident, starts-below, truncation-within, room-for}
 use Rattle.cc_content.proofs.DoneFacts.{IsDone, IsDone-good, history-called, valid-within, written-resident, written-fits, written-starts, zeroed-resident, zeroed-fits, zeroed-starts, stored-starts, finds-map, map-resizes, map-writes, map-zeroes, map-stores, map-discards, map-looks, map-stamps}
 use Rattle.cc_content.proofs.Orders.{order_of_use-distinct}
 
 -- the facts of a call that may be followed
 pub done-of : {u : Setup} {past : List Entry} {pass nth s : ℕ} {call : Call} {reply : Reply} {c : Contents}
-    {size : ℕ} {cut : Option ℕ} {mapped : Bool} → MayFollow u past pass nth s call reply c size cut mapped
+    {size : ℕ} {cut : Option ℕ} {mapped : Bool} → MayFollowContents u past pass nth s call reply c size cut mapped
     → IsDone past (history past s) pass call reply
 done-of {u} {past} {pass} {nth} {s} {call} {reply} may = IsDone-good u past pass nth s call reply may.good
 
@@ -50,22 +50,22 @@ called u past pass nth s call reply c stands =
     subst (λ h. ContentsStand (u.opening s) h c) (sym (history-called past pass nth s call reply)) stands
 
 -- the pages of a range that are resident are kept, where pages are, and its blocks mapped
-kept-pages : (opening : Option (ℕ → List ℕ)) (h : List Effect) (o : Option Mapped) (r : Range)
+kept-pages : (opening : Option (ℕ → List ℕ)) (h : List Effect) (o : Option MappedViews) (r : Range)
     → MapStands opening h o → all_resident h r ≡ true → AllKept o r
 kept-pages opening h None r stands all = tt
 kept-pages opening h (Some m) r stands all = all_kept-resident opening h m stands r all
 
-mapped-pages : (opening : Option (ℕ → List ℕ)) (h : List Effect) (o : Option Mapped) (r : Range)
+mapped-pages : (opening : Option (ℕ → List ℕ)) (h : List Effect) (o : Option MappedViews) (r : Range)
     → MapStands opening h o → all_resident h r ≡ true → AllMapped o (Some r)
 mapped-pages opening h None r stands all = tt
 mapped-pages opening h (Some m) r stands all = all_mapped-resident opening h m stands r all
 
-none-mapped : (o : Option Mapped) → AllMapped o None
+none-mapped : (o : Option MappedViews) → AllMapped o None
 none-mapped None = tt
 none-mapped (Some m) = tt
 
 -- the pages of what lies below the size
-below-mapped : (opening : Option (ℕ → List ℕ)) (h : List Effect) (o : Option Mapped) (size at n : ℕ)
+below-mapped : (opening : Option (ℕ → List ℕ)) (h : List Effect) (o : Option MappedViews) (size at n : ℕ)
     → MapStands opening h o → all_resident h (cut_range size at n) ≡ true → AllMapped o (span_below size at n)
 below-mapped opening h o size at n stands all = by (nat_le at (min (at + n) size))
   where
@@ -97,15 +97,15 @@ whole-below size at n within = ap (λ to. record { from = at; to = to }) same
     same = omega (arith, ends)
 
 -- what a call that changes nothing uses
-pub record LooksAt (h : List Effect) (pass : ℕ) (call : Call) (reply : Reply) (o : Option Mapped)
+pub record LooksAt (h : List Effect) (pass : ℕ) (call : Call) (reply : Reply) (o : Option MappedViews)
     (used : Option Range) : Type 0 where
-  pub uses : Uses h pass call reply used
+  pub uses : UsesBlocks h pass call reply used
   pub mapped : AllMapped o used
 
-module _ (opening : Option (ℕ → List ℕ)) (past : List Entry) (h : List Effect) (pass : ℕ) (o : Option Mapped)
+module _ (opening : Option (ℕ → List ℕ)) (past : List Entry) (h : List Effect) (pass : ℕ) (o : Option MappedViews)
     (stands : MapStands opening h o) where
   looks-below : (call : Call) (reply : Reply) (at n : ℕ)
-      → Uses h pass call reply (Some (cut_range (size_of h) at n))
+      → UsesBlocks h pass call reply (Some (cut_range (size_of h) at n))
       → all_resident h (cut_range (size_of h) at n) ≡ true
       → LooksAt h pass call reply o (span_below (size_of h) at n)
   looks-below call reply at n uses all =
@@ -115,11 +115,11 @@ module _ (opening : Option (ℕ → List ℕ)) (past : List Entry) (h : List Eff
       }
 
   looks-whole : (call : Call) (reply : Reply) (at n : ℕ) → past_size (size_of h) (at + n) ≡ None
-      → Uses h pass call reply (Some (whole_range at n)) → all_resident h (whole_range at n) ≡ true
+      → UsesBlocks h pass call reply (Some (whole_range at n)) → all_resident h (whole_range at n) ≡ true
       → LooksAt h pass call reply o (span_below (size_of h) at n)
   looks-whole call reply at n within uses all =
       let same = whole-below (size_of h) at n within in
-      looks-below call reply at n (subst (λ r. Uses h pass call reply (Some r)) same uses)
+      looks-below call reply at n (subst (λ r. UsesBlocks h pass call reply (Some r)) same uses)
       (subst (λ r. all_resident h r ≡ true) same all)
 
   looks-ahead : (call : Call) (reply : Reply) → IsDone past h pass call reply → is_look (act_of call) ≡ true
@@ -151,7 +151,7 @@ module _ (opening : Option (ℕ → List ℕ)) (past : List Entry) (h : List Eff
   looks-ahead other r done look = record { uses = record { blocks = refl }; mapped = none-mapped o }
 
 -- an uninitialise sets a size within that of the pages
-cut-within : (opening : Option (ℕ → List ℕ)) (h : List Effect) (o : Option Mapped) (cut : Option ℕ)
+cut-within : (opening : Option (ℕ → List ℕ)) (h : List Effect) (o : Option MappedViews) (cut : Option ℕ)
     (file : File) (truncate : Option ℕ) → MapStands opening h o
     → truncation (objects h) (size_of h) file truncate ≡ cut → IsCutWithin o cut
 cut-within opening h None None file truncate stands is = tt
@@ -161,7 +161,7 @@ cut-within opening h (Some m) (Some size) file truncate stands is =
     truncation-within opening h m stands file truncate size is
 
 -- a stored page has room
-room-stored : (opening : Option (ℕ → List ℕ)) (h : List Effect) (o : Option Mapped) (page : ℕ)
+room-stored : (opening : Option (ℕ → List ℕ)) (h : List Effect) (o : Option MappedViews) (page : ℕ)
     → MapStands opening h o → is_mapped h ≡ true → 4096 * page < size_of h
     → mapped_blocks_with h page ≤ quota_of h → HasRoomAmong o page
 room-stored opening h None page stands mapped below within = true≢false (sym mapped ∙ stands)
@@ -184,8 +184,8 @@ whole-allowed u past pass nth s file page bytes reply allowed =
 
 -- what a call uses that is this one
 pub uses-of : (h : List Effect) (pass : ℕ) (call this : Call) (reply : Reply) (o : Option Range) → call ≡ this
-    → Uses h pass this reply o → Uses h pass call reply o
-uses-of h pass call this reply o is uses = subst (λ k. Uses h pass k reply o) (sym is) uses
+    → UsesBlocks h pass this reply o → UsesBlocks h pass call reply o
+uses-of h pass call this reply o is uses = subst (λ k. UsesBlocks h pass k reply o) (sym is) uses
 
 -- a prepare that is no look zeroes its range
 pub prepared : (call : Call) (file : File) (at len : ℕ) (zero exclusive : Bool)
@@ -197,7 +197,7 @@ prepared call file at len false exclusive is look =
 
 module _ {u : Setup} {past : List Entry} {pass nth s : ℕ} {call : Call} {reply : Reply} {c : Contents}
     {size : ℕ} {cut : Option ℕ} {mapped : Bool}
-    (may : MayFollow u past pass nth s call reply c size cut mapped) where
+    (may : MayFollowContents u past pass nth s call reply c size cut mapped) where
   -- what a look uses and finds
   pub looks : is_look (act_of call) ≡ true
       → LooksAt (history past s) pass call reply c.pages (looked_range size call reply)

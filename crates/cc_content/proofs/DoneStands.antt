@@ -2,7 +2,7 @@
 use Rattle.std.proofs.Common.{◌≡◌, ℕ, true, List, ◌∷◌, Option, None, Some, Result, Ok, Err, OnOk, refl, sym, ap, subst, ◌∙◌, true≢false}
 use Rattle.cc_entry.specs.declared.call.Call.{Call}
 use Rattle.cc_entry.specs.declared.reply.Reply.{Reply}
-use Rattle.cc_views.specs.Views.{Mapped}
+use Rattle.cc_views.specs.Views.{MappedViews}
 use Rattle.cc_model.specs.Acts.{Act, act_of, Stamps, Looks}
 use Rattle.cc_model.specs.History.{Effect, Did}
 use Rattle.cc_model.specs.Touches.{valid_of, is_mapped}
@@ -26,16 +26,16 @@ valid-looks h pass call reply looks = by (act_of call) refl looks
 module _ (opening : Option (ℕ → List ℕ)) (h : List Effect) (pass : ℕ) (call : Call) (reply : Reply)
     (c : Contents) (finds : Finds opening h pass call reply c) where
   -- the pages that are kept stand, and there is a map after the call
-  pub found : (m : Mapped) → c.pages ≡ Some m → PagesStand opening h m
+  pub found : (m : MappedViews) → c.pages ≡ Some m → PagesStand opening h m
   found m is = pages_stand opening h c m finds.stands is
 
-  pub found-mapped : (m : Mapped) → c.pages ≡ Some m → is_mapped (Did pass call reply ∷ h) ≡ true
+  pub found-mapped : (m : MappedViews) → c.pages ≡ Some m → is_mapped (Did pass call reply ∷ h) ≡ true
   found-mapped m is =
       let was = found m is in
       finds.same_map ∙ was.mapped
 
   -- with pages kept, and with none
-  pub done-mapped : (m : Mapped) (valid : ℕ) → valid ≡ valid_of (Did pass call reply ∷ h)
+  pub done-mapped : (m : MappedViews) (valid : ℕ) → valid ≡ valid_of (Did pass call reply ∷ h)
       → PagesStand opening (Did pass call reply ∷ h) m
       → ContentsStand opening (Did pass call reply ∷ h) (record { valid = valid; pages = Some m })
   done-mapped m valid is stands = record { valid_is = is; map_is = stands }
@@ -57,7 +57,7 @@ closed-kept opening h pass call reply c finds mapped =
       map_is = by c.pages refl;
     }
   where
-    by : (o : Option Mapped) → c.pages ≡ o → MapStands opening (Did pass call reply ∷ h) c.pages
+    by : (o : Option MappedViews) → c.pages ≡ o → MapStands opening (Did pass call reply ∷ h) c.pages
     by None none = absurd (true≢false (sym finds.was_mapped ∙ no_map opening h c finds.stands none))
     by (Some m) some =
         subst (MapStands opening (Did pass call reply ∷ h)) (sym some)

@@ -8,31 +8,31 @@ use Rattle.std.specs.Bool.{then_some}
 use Rattle.std.specs.Map.{keys_of}
 use Rattle.std.specs.Option.{option_map}
 use Rattle.cc_entry.specs.Pages.{block_of, pages_of}
-use Rattle.cc_pages.specs.Pages.{Page, page_at as page_in}
-use Rattle.cc_views.specs.Views.{Mapped, Pages, frames_at}
-use Rattle.cc_resident.specs.Residents.{frame_at, page_at, byte_at, is_resident as is_kept, blocks, has_pages, pages_in_block}
+use Rattle.cc_pages.specs.Pages.{PageFrame, page_at as page_in}
+use Rattle.cc_views.specs.Views.{MappedViews, ViewFrames, frames_at}
+use Rattle.cc_resident.specs.Residents.{frame_at, page_bytes_at, byte_at, is_resident as is_kept, blocks, has_pages, pages_in_block}
 use Rattle.cc_model.specs.Numbers.{is_among}
 use Rattle.cc_model.specs.History.{Effect}
 use Rattle.cc_model.specs.Conditions.{MayComeIn}
 use Rattle.cc_model.specs.Touches.{is_mapped}
 use Rattle.cc_model.specs.Settings.{quota_of}
-use Rattle.cc_model.specs.Residency.{residents, is_resident, block_is_mapped, mapped_blocks, mapped_blocks_with, order_of_use}
+use Rattle.cc_model.specs.Residency.{residents, is_resident, block_is_mapped, mapped_block_count, mapped_blocks_with, order_of_use}
 use Rattle.cc_laws.proofs.BlockPages.{is_member-among}
 use Rattle.cc_laws.proofs.Lists1.{among-all, among-any, among-range}
-use Rattle.cc_content.specs.Contents.{Contents, ContentsStand, MapStands, PagesStand, IsByteOf}
-use Rattle.cc_content.specs.Filling.{HasRoomAmong, HasRoomFor}
+use Rattle.cc_content.specs.Contents.{Contents, ContentsStand, MapStands, PagesStand, IsByteOfContents}
+use Rattle.cc_content.specs.Filling.{HasRoomAmong, HasRoomToKeepPage}
 use Rattle.cc_content.proofs.Found.{same_answer, Found-any, among-within}
 use Rattle.cc_content.proofs.Orders.{is_resident-unmapped, length-mapped, length-with}
 
 -- the two cases of what stands
-pub pages_stand : (opening : Option (ℕ → List ℕ)) (h : List Effect) (c : Contents) (m : Mapped) → ContentsStand opening h c → c.pages ≡ Some m → PagesStand opening h m
+pub pages_stand : (opening : Option (ℕ → List ℕ)) (h : List Effect) (c : Contents) (m : MappedViews) → ContentsStand opening h c → c.pages ≡ Some m → PagesStand opening h m
 pages_stand opening h c m stands is = subst (MapStands opening h) is stands.map_is
 
 pub no_map : (opening : Option (ℕ → List ℕ)) (h : List Effect) (c : Contents) → ContentsStand opening h c → c.pages ≡ None → is_mapped h ≡ false
 no_map opening h c stands is = subst (MapStands opening h) is stands.map_is
 
 -- a block has a kept page where it is mapped
-pub has_pages-mapped : (m : Mapped) (h : List Effect) → ((p : ℕ) → is_kept m p ≡ is_resident h p) → (b : ℕ) → has_pages m b ≡ block_is_mapped h b
+pub has_pages-mapped : (m : MappedViews) (h : List Effect) → ((p : ℕ) → is_kept m p ≡ is_resident h p) → (b : ℕ) → has_pages m b ≡ block_is_mapped h b
 unfolding has_pages
 has_pages-mapped m h same b = same_answer (list_any (is_kept m) (pages_in_block b)) (block_is_mapped h b) goes comes
   where
@@ -55,16 +55,16 @@ has_pages-mapped m h same b = same_answer (list_any (is_kept m) (pages_in_block 
         within p is = among-range p (64 * b) 64 (omega arith) (omega arith)
 
 -- the block of a kept page is among the mapped ones
-among-blocks : (m : Mapped) (p : ℕ) → is_kept m p ≡ true → is_among (block_of p) (blocks m) ≡ true
-unfolding page_at frame_at
+among-blocks : (m : MappedViews) (p : ℕ) → is_kept m p ≡ true → is_among (block_of p) (blocks m) ≡ true
+unfolding page_bytes_at frame_at
 among-blocks m p kept = sym (is_member-among (block_of p) (keys_of m.views)) ∙ (sym (is_some-lookup (nat_eq (block_of p)) m.views) ∙ go (frames_at m (block_of p)) kept)
   where
-    go : (o : Option Pages) → is_some (option_map (λ (frame : Page). frame.bytes) (option_and_then (λ (frames : Pages). page_in frames (p % 64)) o)) ≡ true → is_some o ≡ true
+    go : (o : Option ViewFrames) → is_some (option_map (λ (frame : PageFrame). frame.bytes) (option_and_then (λ (frames : ViewFrames). page_in frames (p % 64)) o)) ≡ true → is_some o ≡ true
     go None some = some
     go (Some frames) some = refl
 
 -- so the mapped blocks are those of the history
-pub among-mapped : (m : Mapped) (h : List Effect) → ((p : ℕ) → is_kept m p ≡ is_resident h p) → list_all (has_pages m) (blocks m) ≡ true → (b : ℕ) → is_among b (blocks m) ≡ block_is_mapped h b
+pub among-mapped : (m : MappedViews) (h : List Effect) → ((p : ℕ) → is_kept m p ≡ is_resident h p) → list_all (has_pages m) (blocks m) ≡ true → (b : ℕ) → is_among b (blocks m) ≡ block_is_mapped h b
 among-mapped m h same all b = same_answer (is_among b (blocks m)) (block_is_mapped h b) goes comes
   where
     goes : is_among b (blocks m) ≡ true → block_is_mapped h b ≡ true
@@ -75,18 +75,18 @@ among-mapped m h same all b = same_answer (is_among b (blocks m)) (block_is_mapp
         let found = Found-any (λ p. block_of p == b) (residents h) some in
         sym (ap (λ k. is_among k (blocks m)) (eqb-true (block_of found.at) b found.passes)) ∙ among-blocks m found.at (same found.at ∙ found.among)
 
-pub count-mapped : (opening : Option (ℕ → List ℕ)) (h : List Effect) (m : Mapped) → PagesStand opening h m → IsDistinct nat_eq (blocks m) → list_all (has_pages m) (blocks m) ≡ true → length (blocks m) ≡ mapped_blocks h
+pub count-mapped : (opening : Option (ℕ → List ℕ)) (h : List Effect) (m : MappedViews) → PagesStand opening h m → IsDistinct nat_eq (blocks m) → list_all (has_pages m) (blocks m) ≡ true → length (blocks m) ≡ mapped_block_count h
 count-mapped opening h m stands distinct all = length-mapped h (blocks m) distinct (among-mapped m h stands.resident all)
 
 -- the bytes of a kept page
-pub byte_at-is : (m : Mapped) (page i : ℕ) (bytes : List ℕ) → page_at m page ≡ Some bytes → i < 4096 → byte_at m (4096 * page + i) ≡ Some (slice_index bytes i)
+pub byte_at-is : (m : MappedViews) (page i : ℕ) (bytes : List ℕ) → page_bytes_at m page ≡ Some bytes → i < 4096 → byte_at m (4096 * page + i) ≡ Some (slice_index bytes i)
 unfolding byte_at
 byte_at-is m page i bytes is below =
     let there : (4096 * page + i) / 4096 ≡ page = omega arith in
     let at : (4096 * page + i) % 4096 ≡ i = omega arith in
-    ap (option_map (λ bs. slice_index_or bs ((4096 * page + i) % 4096) 0)) (ap (page_at m) there ∙ is) ∙ ap (λ k. Some (slice_index_or bytes k 0)) at
+    ap (option_map (λ bs. slice_index_or bs ((4096 * page + i) % 4096) 0)) (ap (page_bytes_at m) there ∙ is) ∙ ap (λ k. Some (slice_index_or bytes k 0)) at
 
-pub bytes-are : {R : Type 0} (bytes_of : R → List ℕ) (r : Option R) (opening : Option (ℕ → List ℕ)) (h : List Effect) (m : Mapped) (page : ℕ) → PagesStand opening h m → option_map bytes_of r ≡ page_at m page → IfSome r (λ x. (i : ℕ) → i < 4096 → IsByteOf opening h (4096 * page + i) (slice_index (bytes_of x) i))
+pub bytes-are : {R : Type 0} (bytes_of : R → List ℕ) (r : Option R) (opening : Option (ℕ → List ℕ)) (h : List Effect) (m : MappedViews) (page : ℕ) → PagesStand opening h m → option_map bytes_of r ≡ page_bytes_at m page → IfSome r (λ x. (i : ℕ) → i < 4096 → IsByteOfContents opening h (4096 * page + i) (slice_index (bytes_of x) i))
 bytes-are bytes_of None opening h m page stands is = tt
 bytes-are bytes_of (Some x) opening h m page stands is =
     λ i below. stands.bytes (4096 * page + i) (slice_index (bytes_of x) i) (byte_at-is m page i (bytes_of x) (sym is) below)
@@ -107,7 +107,7 @@ first_absent-unmapped h from to unmapped = go (nat_lt from to) refl
     go false is = refl
 
 -- a page that may come in has room
-room-among : (opening : Option (ℕ → List ℕ)) (h : List Effect) (o : Option Mapped) (page : ℕ) (from_disk : Bool) → MapStands opening h o → MayComeIn h page from_disk → HasRoomAmong o page
+room-among : (opening : Option (ℕ → List ℕ)) (h : List Effect) (o : Option MappedViews) (page : ℕ) (from_disk : Bool) → MapStands opening h o → MayComeIn h page from_disk → HasRoomAmong o page
 room-among opening h None page from_disk stands may = true≢false (sym may.mapped ∙ stands)
 room-among opening h (Some m) page from_disk stands may =
     record {
@@ -123,5 +123,5 @@ room-among opening h (Some m) page from_disk stands may =
     go false is =
         inr (rw (stands.order, stands.quota) (fewer (length (order_of_use h)) (mapped_blocks_with h page) (quota_of h) (length-with h page (sym (ap (is_among (block_of page)) stands.order) ∙ is)) may.in_quota))
 
-pub room-may_come_in : (opening : Option (ℕ → List ℕ)) (h : List Effect) (c : Contents) (page : ℕ) (from_disk : Bool) → ContentsStand opening h c → MayComeIn h page from_disk → HasRoomFor c page
+pub room-may_come_in : (opening : Option (ℕ → List ℕ)) (h : List Effect) (c : Contents) (page : ℕ) (from_disk : Bool) → ContentsStand opening h c → MayComeIn h page from_disk → HasRoomToKeepPage c page
 room-may_come_in opening h c page from_disk stands may = room-among opening h c.pages page from_disk stands.map_is may

@@ -9,9 +9,9 @@ use Rattle.cc_entry.specs.Pages.{block_of}
 use Rattle.cc_entry.specs.Place.{Range}
 use Rattle.cc_entry.specs.declared.call.Call.{Call}
 use Rattle.cc_entry.specs.declared.reply.Reply.{Reply}
-use Rattle.cc_pages.specs.Pages.{Page, page_at as page_in}
-use Rattle.cc_views.specs.Views.{Mapped, Pages, frames_at}
-use Rattle.cc_resident.specs.Residents.{frame_at, page_at, is_resident as is_kept, all_resident as all_kept, all_mapped, blocks, has_pages, is_among, used as used_after}
+use Rattle.cc_pages.specs.Pages.{PageFrame, page_at as page_in}
+use Rattle.cc_views.specs.Views.{MappedViews, ViewFrames, frames_at}
+use Rattle.cc_resident.specs.Residents.{frame_at, page_bytes_at, is_resident as is_kept, all_resident as all_kept, all_mapped, blocks, has_pages, is_block_among, used as used_after}
 use Rattle.cc_model.specs.History.{Effect, Did}
 use Rattle.cc_model.specs.Residency.{residents, is_resident, block_is_mapped, used_by, used, order_of_use}
 use Rattle.cc_laws.proofs.BlockLists.{same-flip}
@@ -30,7 +30,7 @@ tests_alike false false f g = refl
 -- a number of a list that passes
 pub record PassesIn (f : ℕ → Bool) (xs : List ℕ) : Type 0 where
   pub at : ℕ
-  pub there : is_among at xs ≡ true
+  pub there : is_block_among at xs ≡ true
   pub passes : f at ≡ true
 
 pub PassesIn-any : (f : ℕ → Bool) (xs : List ℕ) → list_any f xs ≡ true → PassesIn f xs
@@ -39,7 +39,7 @@ PassesIn-any f (x ∷ xs) some = by (f x) refl some (PassesIn-any f xs)
   where
     in_rest : PassesIn f xs → PassesIn f (x ∷ xs)
     in_rest w =
-        record { at = w.at; there = or_true (x == w.at) (is_among w.at xs) w.there; passes = w.passes }
+        record { at = w.at; there = or_true (x == w.at) (is_block_among w.at xs) w.there; passes = w.passes }
       where
         or_true : (s t : Bool) → t ≡ true → (s || t) ≡ true
         or_true true t e = refl
@@ -47,7 +47,7 @@ PassesIn-any f (x ∷ xs) some = by (f x) refl some (PassesIn-any f xs)
 
     by : (t : Bool) → f x ≡ t → (t || list_any f xs) ≡ true → (list_any f xs ≡ true → PassesIn f xs)
         → PassesIn f (x ∷ xs)
-    by true is k rest = record { at = x; there = ap (λ t. t || is_among x xs) (eq-eqb x x refl); passes = is }
+    by true is k rest = record { at = x; there = ap (λ t. t || is_block_among x xs) (eq-eqb x x refl); passes = is }
     by false is k rest = in_rest (rest k)
 
 -- what holds of each number of a range
@@ -58,15 +58,15 @@ all_range f a (suc n) h =
     ap (λ t. t && list_all f (range_with_len (a + 1) n)) (h a (omega arith) (omega arith))
     ∙ all_range f (a + 1) n (λ x low high. h x (omega arith) (omega arith))
 
-pub all_among : (f : ℕ → Bool) (x : ℕ) (xs : List ℕ) → list_all f xs ≡ true → is_among x xs ≡ true
+pub all_among : (f : ℕ → Bool) (x : ℕ) (xs : List ℕ) → list_all f xs ≡ true → is_block_among x xs ≡ true
     → f x ≡ true
 all_among f x [] all is = absurd (true≢false (sym is))
 all_among f x (y ∷ ys) all is =
     let both = both_true (f y) (list_all f ys) all in
     by (y == x) refl is both.0 (all_among f x ys both.1)
   where
-    by : (t : Bool) → (y == x) ≡ t → (t || is_among x ys) ≡ true → f y ≡ true
-        → (is_among x ys ≡ true → f x ≡ true) → f x ≡ true
+    by : (t : Bool) → (y == x) ≡ t → (t || is_block_among x ys) ≡ true → f y ≡ true
+        → (is_block_among x ys ≡ true → f x ≡ true) → f x ≡ true
     by true same k here rest = ap f (sym (eqb-true y x same)) ∙ here
     by false other k here rest = rest k
 
@@ -149,25 +149,25 @@ order-used pass call reply h bs uses new old =
     ∙ filter_all f (used bs (order_of_use h)) (all_used f bs (order_of_use h) new old)
 
 -- the block of a page that is kept is mapped
-pub kept-mapped : (m : Mapped) (p : ℕ) → is_kept m p ≡ true → is_among (block_of p) (blocks m) ≡ true
-unfolding frame_at page_at
+pub kept-mapped : (m : MappedViews) (p : ℕ) → is_kept m p ≡ true → is_block_among (block_of p) (blocks m) ≡ true
+unfolding frame_at page_bytes_at
 kept-mapped m p kept = by (frames_at m (block_of p)) refl kept
   where
-    flipped : (b : ℕ) (xs : List ℕ) → list_any (nat_eq b) xs ≡ is_among b xs
+    flipped : (b : ℕ) (xs : List ℕ) → list_any (nat_eq b) xs ≡ is_block_among b xs
     flipped b [] = refl
     flipped b (x ∷ xs) =
         ap (λ t. t || list_any (nat_eq b) xs) (same-flip b x) ∙ ap (λ t. (x == b) || t) (flipped b xs)
 
-    by : (o : Option Pages) → frames_at m (block_of p) ≡ o
-        → is_some (option_map (λ (frame : Page). frame.bytes) (option_and_then (λ (frames : Pages). page_in frames (p % 64)) o)) ≡ true
-        → is_among (block_of p) (blocks m) ≡ true
+    by : (o : Option ViewFrames) → frames_at m (block_of p) ≡ o
+        → is_some (option_map (λ (frame : PageFrame). frame.bytes) (option_and_then (λ (frames : ViewFrames). page_in frames (p % 64)) o)) ≡ true
+        → is_block_among (block_of p) (blocks m) ≡ true
     by None e k = absurd (true≢false (sym k))
     by (Some frames) e k =
         sym (flipped (block_of p) (keys_of m.views)) ∙ sym (is_some-lookup (nat_eq (block_of p)) m.views)
         ∙ ap is_some e
 
 -- a block has a page that is kept where a resident page of the history is in it
-pub has_pages-is : (m : Mapped) (h : List Effect) → ((p : ℕ) → is_kept m p ≡ is_resident h p) → (b : ℕ)
+pub has_pages-is : (m : MappedViews) (h : List Effect) → ((p : ℕ) → is_kept m p ≡ is_resident h p) → (b : ℕ)
     → has_pages m b ≡ block_is_mapped h b
 unfolding has_pages
 has_pages-is m h same b = tests_alike _ _ on back
@@ -181,12 +181,12 @@ has_pages-is m h same b = tests_alike _ _ on back
         place : (p : ℕ) → (64 * b ≤ p) × (p < 64 * b + 64) → p / 64 ≡ b
         place p is = omega (arith, is.0, is.1)
 
-        within : (p a n : ℕ) → is_among p (range_with_len a n) ≡ true → (a ≤ p) × (p < a + n)
+        within : (p a n : ℕ) → is_block_among p (range_with_len a n) ≡ true → (a ≤ p) × (p < a + n)
         within p a zero is = absurd (true≢false (sym is))
         within p a (suc n) is = by (a == p) refl is (within p (a + 1) n)
           where
-            by : (t : Bool) → (a == p) ≡ t → (t || is_among p (range_with_len (a + 1) n)) ≡ true
-                → (is_among p (range_with_len (a + 1) n) ≡ true → (a + 1 ≤ p) × (p < a + 1 + n))
+            by : (t : Bool) → (a == p) ≡ t → (t || is_block_among p (range_with_len (a + 1) n)) ≡ true
+                → (is_block_among p (range_with_len (a + 1) n) ≡ true → (a + 1 ≤ p) × (p < a + 1 + n))
                 → (a ≤ p) × (p < a + suc n)
             by true e k rest = let q : a ≡ p = eqb-true a p e in (omega (arith, q), omega (arith, q))
             by false e k rest = let w = rest k in (omega (arith, w.0), omega (arith, w.1))
@@ -199,7 +199,7 @@ has_pages-is m h same b = tests_alike _ _ on back
         (among-range w.at (64 * b) 64 (omega arith) (omega arith)) (same w.at ∙ w.there)
 
 -- the blocks of a range whose pages are kept are mapped
-pub kept-all_mapped : (m : Mapped) (r : Range) → all_kept m r ≡ true → all_mapped m r ≡ true
+pub kept-all_mapped : (m : MappedViews) (r : Range) → all_kept m r ≡ true → all_mapped m r ≡ true
 kept-all_mapped m r kept = by (nat_lt r.from r.to) refl kept
   where
     first : ℕ
@@ -219,19 +219,19 @@ kept-all_mapped m r kept = by (nat_lt r.from r.to) refl kept
 
     by : (t : Bool) → nat_lt r.from r.to ≡ t
         → list_all (is_kept m) (cond t (range_with_len first pages) []) ≡ true
-        → list_all (λ b. is_among b (blocks m)) (cond t (range_with_len (r.from / 262144) (((r.to - 1) / 262144 + 1) - r.from / 262144)) []) ≡ true
+        → list_all (λ b. is_block_among b (blocks m)) (cond t (range_with_len (r.from / 262144) (((r.to - 1) / 262144 + 1) - r.from / 262144)) []) ≡ true
     by false e k = refl
     by true e k =
-        all_range (λ b. is_among b (blocks m)) (r.from / 262144) (((r.to - 1) / 262144 + 1) - r.from / 262144)
+        all_range (λ b. is_block_among b (blocks m)) (r.from / 262144) (((r.to - 1) / 262144 + 1) - r.from / 262144)
         (λ b low high.
         let w = page_in_block b (ltb-true r.from r.to e) low high in
-        ap (λ c. is_among c (blocks m)) (sym w.3)
+        ap (λ c. is_block_among c (blocks m)) (sym w.3)
         ∙ kept-mapped m w.0
         (all_among (is_kept m) w.0 (range_with_len first pages) k (among-range w.0 first pages w.1 w.2)))
 
 -- each of a range's blocks is mapped where each is among those of an order
-pub mapped-blocks : (h : List Effect) (m : Mapped) (bs : List ℕ) → blocks m ≡ order_of_use h
-    → list_all (λ b. is_among b (blocks m)) bs ≡ true → list_all (block_is_mapped h) bs ≡ true
+pub mapped-blocks : (h : List Effect) (m : MappedViews) (bs : List ℕ) → blocks m ≡ order_of_use h
+    → list_all (λ b. is_block_among b (blocks m)) bs ≡ true → list_all (block_is_mapped h) bs ≡ true
 mapped-blocks h m bs order all =
-    all_weaker (λ b. is_among b (blocks m)) (block_is_mapped h) bs
-    (λ b is. all_among (block_is_mapped h) b (order_of_use h) (order-mapped h) (sym (ap (is_among b) order) ∙ is)) all
+    all_weaker (λ b. is_block_among b (blocks m)) (block_is_mapped h) bs
+    (λ b is. all_among (block_is_mapped h) b (order_of_use h) (order-mapped h) (sym (ap (is_block_among b) order) ∙ is)) all

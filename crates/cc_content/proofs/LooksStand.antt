@@ -6,8 +6,8 @@ use Rattle.cc_entry.specs.declared.place.FileSizes.{FileSizes}
 use Rattle.cc_entry.specs.declared.call.Call.{Call}
 use Rattle.cc_entry.specs.declared.call.Call.TheVariants as call
 use Rattle.cc_entry.specs.declared.reply.Reply.{Reply}
-use Rattle.cc_views.specs.Views.{Mapped}
-use Rattle.cc_resident.specs.Residents.{page_at, byte_at, blocks, is_among, used as used_after}
+use Rattle.cc_views.specs.Views.{MappedViews}
+use Rattle.cc_resident.specs.Residents.{page_bytes_at, byte_at, blocks, is_block_among, used as used_after}
 use Rattle.cc_model.specs.Acts.{Act, act_of, Opens, Closes, Resizes, Writes, Zeroes, Stores, Stamps, Discards, Looks}
 use Rattle.cc_model.specs.Bytes.{content}
 use Rattle.cc_model.specs.History.{Effect, Did}
@@ -26,12 +26,12 @@ use Rattle.cc_content.proofs.DoneBytes.{IsByteOf-same}
 use Rattle.cc_content.proofs.KeptBlocks.{order-used, order-mapped, mapped-blocks, used-same}
 
 -- the same pages are kept, with the same bytes
-pub record SamePages (m n : Mapped) : Type 0 where
-  pub pages : (p : ℕ) → page_at n p ≡ page_at m p
+pub record SamePages (m n : MappedViews) : Type 0 where
+  pub pages : (p : ℕ) → page_bytes_at n p ≡ page_bytes_at m p
   pub quota : n.quota ≡ m.quota
   pub size : n.size ≡ m.size
 
-pub SamePages-byte : (m n : Mapped) → SamePages m n → (i : ℕ) → byte_at n i ≡ byte_at m i
+pub SamePages-byte : (m n : MappedViews) → SamePages m n → (i : ℕ) → byte_at n i ≡ byte_at m i
 unfolding byte_at
 SamePages-byte m n same i = rw (same.pages (i / 4096)) refl
 
@@ -43,9 +43,9 @@ pub record LeavesAll (h : List Effect) (pass : ℕ) (call : Call) (reply : Reply
   pub content : (pages : ℕ → List ℕ) (i : ℕ) → content pages (Did pass call reply ∷ h) i ≡ content pages h i
 
 -- a call that leaves the residents uses blocks that are mapped
-pub order-left : (h : List Effect) (pass : ℕ) (call : Call) (reply : Reply) (m : Mapped) (bs : List ℕ)
+pub order-left : (h : List Effect) (pass : ℕ) (call : Call) (reply : Reply) (m : MappedViews) (bs : List ℕ)
     → residents (Did pass call reply ∷ h) ≡ residents h → blocks m ≡ order_of_use h
-    → used_by (Did pass call reply) h ≡ bs → list_all (λ b. is_among b (blocks m)) bs ≡ true
+    → used_by (Did pass call reply) h ≡ bs → list_all (λ b. is_block_among b (blocks m)) bs ≡ true
     → order_of_use (Did pass call reply ∷ h) ≡ used bs (order_of_use h)
 order-left h pass call reply m bs left order uses all =
     order-used pass call reply h bs uses (now bs (mapped-blocks h m bs order all))
@@ -56,13 +56,13 @@ order-left h pass call reply m bs left order uses all =
     now xs was = rw (left, block_is_mapped) was
 
 -- each of the blocks of a range, where there is one, is mapped
-pub blocks-mapped : (m : Mapped) (o : Option Range) → IsMapped m o
-    → list_all (λ b. is_among b (blocks m)) (blocks_of_range o) ≡ true
+pub blocks-mapped : (m : MappedViews) (o : Option Range) → IsMapped m o
+    → list_all (λ b. is_block_among b (blocks m)) (blocks_of_range o) ≡ true
 blocks-mapped m None is = refl
 blocks-mapped m (Some r) is = is
 
 module _ (opening : Option (ℕ → List ℕ)) (h : List Effect) (pass : ℕ) (call : Call) (reply : Reply)
-    (m n : Mapped) where
+    (m n : MappedViews) where
   pub stands-left : LeavesAll h pass call reply → PagesStand opening h m → SamePages m n → (o : Option Range)
       → IsMapped m o → used_by (Did pass call reply) h ≡ blocks_of_range o
       → blocks n ≡ used_after (blocks_of_range o) (blocks m) → is_mapped (Did pass call reply ∷ h) ≡ true
@@ -143,7 +143,7 @@ used_by-discards h pass other reply is = cc
 
 -- where nothing changes and no block is used
 module _ (opening : Option (ℕ → List ℕ)) (h : List Effect) (pass : ℕ) (call : Call) (reply : Reply)
-    (m : Mapped) where
+    (m : MappedViews) where
   pub stands-unused : LeavesAll h pass call reply → PagesStand opening h m
       → used_by (Did pass call reply) h ≡ [] → is_mapped (Did pass call reply ∷ h) ≡ true
       → PagesStand opening (Did pass call reply ∷ h) m

@@ -10,7 +10,7 @@ use Rattle.cc_entry.specs.Pages.{block_of}
 use Rattle.cc_model.specs.Numbers.{is_among}
 use Rattle.cc_model.specs.History.{Effect}
 use Rattle.cc_model.specs.Touches.{is_mapped}
-use Rattle.cc_model.specs.Residency.{residents, is_resident, block_is_mapped, mapped_blocks, mapped_blocks_with, used_by, used, order_of_use}
+use Rattle.cc_model.specs.Residency.{residents, is_resident, block_is_mapped, mapped_block_count, mapped_blocks_with, used_by, used, order_of_use}
 use Rattle.cc_laws.proofs.BlockLists.{same-flip, is_among-filter, IsDistinct-filter, IsDistinct-used}
 use Rattle.cc_laws.proofs.BlockPages.{is_member-among}
 use Rattle.cc_laws.proofs.Lists1.{count-le}
@@ -34,7 +34,7 @@ block_is_mapped-unmapped h b unmapped = ap (list_any (λ p. block_of p == b)) (r
 pub order_of_use-unmapped : (h : List Effect) → is_mapped h ≡ false → order_of_use h ≡ []
 order_of_use-unmapped h unmapped = order_of_use-none h (residents-unmapped h unmapped)
 
-pub mapped_blocks-unmapped : (h : List Effect) → is_mapped h ≡ false → mapped_blocks h ≡ 0
+pub mapped_blocks-unmapped : (h : List Effect) → is_mapped h ≡ false → mapped_block_count h ≡ 0
 mapped_blocks-unmapped h unmapped = ap (λ ps. distinct_count nat_eq (map block_of ps)) (residents-unmapped h unmapped)
 
 -- the order of use has each block once, and mapped ones alone
@@ -57,7 +57,7 @@ member-blocks b [] = refl
 member-blocks b (p ∷ ps) = rw (same-flip b (block_of p)) (ap (λ t. (block_of p == b) || t) (member-blocks b ps))
 
 -- a list that has each mapped block once, and no other, is as long as there are mapped blocks
-pub length-mapped : (h : List Effect) (order : List ℕ) → IsDistinct nat_eq order → ((b : ℕ) → is_among b order ≡ block_is_mapped h b) → length order ≡ mapped_blocks h
+pub length-mapped : (h : List Effect) (order : List ℕ) → IsDistinct nat_eq order → ((b : ℕ) → is_among b order ≡ block_is_mapped h b) → length order ≡ mapped_block_count h
 length-mapped h order distinct same =
     length-from_keys nat_eq_equiv order (map block_of (residents h)) distinct (λ b. is_member-among b order ∙ (same b ∙ sym (member-blocks b (residents h))))
 

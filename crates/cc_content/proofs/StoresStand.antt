@@ -7,8 +7,8 @@ use Rattle.cc_entry.specs.Pages.{block_of, blocks_of, has_byte}
 use Rattle.cc_entry.specs.declared.call.Call.{Call}
 use Rattle.cc_entry.specs.declared.call.Call.TheVariants as call
 use Rattle.cc_entry.specs.declared.reply.Reply.{Reply}
-use Rattle.cc_views.specs.Views.{Mapped}
-use Rattle.cc_resident.specs.Residents.{page_at, byte_at, blocks, is_resident as is_kept, used as used_after}
+use Rattle.cc_views.specs.Views.{MappedViews}
+use Rattle.cc_resident.specs.Residents.{page_bytes_at, byte_at, blocks, is_resident as is_kept, used as used_after}
 use Rattle.cc_resident.specs.Changes.{KeepsOthers}
 use Rattle.cc_model.specs.Acts.{act_of, Stores}
 use Rattle.cc_model.specs.History.{Effect, Did}
@@ -22,7 +22,7 @@ use Rattle.cc_laws.proofs.PlacesResident.{among-in}
 use Rattle.cc_laws.proofs.QuotaSteps.{quota_of-stores}
 use Rattle.cc_laws.proofs.ResidencySteps.{residents-stores}
 use Rattle.cc_laws.proofs.SizeSteps.{sizes-stores}
-use Rattle.cc_content.specs.Contents.{PagesStand, IsByteOf}
+use Rattle.cc_content.specs.Contents.{PagesStand, IsByteOfContents}
 use Rattle.cc_content.proofs.DoneBytes.{IsByteOf-changed, IsByteOf-zero, has_byte-true, has_byte-false}
 use Rattle.cc_content.proofs.KeptBlocks.{PassesIn-any, all_weaker, order-used, order-mapped, used-same}
 use Rattle.cc_content.proofs.CutsStand.{byte-alike}
@@ -57,9 +57,9 @@ stored-block page size inside =
         (ap (range_with_len (4096 * page / 262144)) one ∙ ap (λ b. b ∷ []) first)
 
 -- what became of the pages that are kept: one has these bytes up to the size, and 0 from there on
-pub record Stored (m n : Mapped) (page : ℕ) (bytes : List ℕ) : Type 0 where
+pub record Stored (m n : MappedViews) (page : ℕ) (bytes : List ℕ) : Type 0 where
   pub frame : List ℕ
-  pub here : page_at n page ≡ Some frame
+  pub here : page_bytes_at n page ≡ Some frame
   pub bytes_of : (i : ℕ)
       → get_or frame i 0 ≡ (if nat_lt i (m.size - 4096 * page) then get_or bytes i 0 else 0)
   pub others : KeepsOthers m n page
@@ -67,7 +67,7 @@ pub record Stored (m n : Mapped) (page : ℕ) (bytes : List ℕ) : Type 0 where
   pub quota : n.quota ≡ m.quota
   pub size : n.size ≡ m.size
 
-byte-here : (n : Mapped) (i byte : ℕ) (frame : List ℕ) → page_at n (i / 4096) ≡ Some frame
+byte-here : (n : MappedViews) (i byte : ℕ) (frame : List ℕ) → page_bytes_at n (i / 4096) ≡ Some frame
     → byte_at n i ≡ Some byte → byte ≡ get_or frame (i % 4096) 0
 unfolding byte_at
 byte-here n i byte frame here there =
@@ -76,7 +76,7 @@ byte-here n i byte frame here there =
     cc
 
 module _ (opening : Option (ℕ → List ℕ)) (h : List Effect) (pass : ℕ) (call : Call) (reply : Reply)
-    (m n : Mapped) (page : ℕ) (bytes : List ℕ)
+    (m n : MappedViews) (page : ℕ) (bytes : List ℕ)
     (w : Stored m n page bytes) (is : act_of call ≡ Stores page bytes) (was : PagesStand opening h m)
     (mapped : is_mapped (Did pass call reply ∷ h) ≡ true)
     (inside : 4096 * page < m.size) (starts : 4096 * page ≤ valid_of h) (ends : valid_of h ≤ size_of h)
@@ -115,7 +115,7 @@ module _ (opening : Option (ℕ → List ℕ)) (h : List Effect) (pass : ℕ) (c
             all_weaker (block_is_mapped h) (block_is_mapped (Did pass call reply ∷ h)) (order_of_use h) stays
             (order-mapped h)
 
-    bytes-stored : (i byte : ℕ) → byte_at n i ≡ Some byte → IsByteOf opening (Did pass call reply ∷ h) i byte
+    bytes-stored : (i byte : ℕ) → byte_at n i ≡ Some byte → IsByteOfContents opening (Did pass call reply ∷ h) i byte
     bytes-stored i byte there =
         IsByteOf-changed opening h (Did pass call reply ∷ h) (stored_range page (size_of h))
         (λ k. get_or bytes (k - 4096 * page) 0)
@@ -127,8 +127,8 @@ module _ (opening : Option (ℕ → List ℕ)) (h : List Effect) (pass : ℕ) (c
         end : (stored_range page (size_of h)).to ≡ min (4096 * page + 4096) (size_of h)
         end = stored-end page (size_of h) below
 
-        at_page : i / 4096 ≡ page → page_at n (i / 4096) ≡ Some w.frame
-        at_page e = ap (page_at n) e ∙ w.here
+        at_page : i / 4096 ≡ page → page_bytes_at n (i / 4096) ≡ Some w.frame
+        at_page e = ap (page_bytes_at n) e ∙ w.here
 
         new : has_byte (stored_range page (size_of h)) i ≡ true → byte ≡ get_or bytes (i - 4096 * page) 0
         new has =
@@ -141,10 +141,10 @@ module _ (opening : Option (ℕ → List ℕ)) (h : List Effect) (pass : ℕ) (c
             (lt-ltb (i % 4096) (m.size - 4096 * page) within)
             ∙ ap (λ k. get_or bytes k 0) place
 
-        old : has_byte (stored_range page (size_of h)) i ≡ false → IsByteOf opening h i byte
+        old : has_byte (stored_range page (size_of h)) i ≡ false → IsByteOfContents opening h i byte
         old out = by (i / 4096 == page) refl
           where
-            by : (t : Bool) → (i / 4096 == page) ≡ t → IsByteOf opening h i byte
+            by : (t : Bool) → (i / 4096 == page) ≡ t → IsByteOfContents opening h i byte
             by true t =
                 let e : i / 4096 ≡ page = eqb-true (i / 4096) page t in
                 let k : (stored_range page (size_of h)).to ≤ i =

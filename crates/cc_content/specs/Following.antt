@@ -8,7 +8,7 @@ use Rattle.cc_entry.specs.declared.reply.Reply.TheVariants as reply
 use Rattle.cc_entry.specs.declared.reply.Outcome.TheVariants as outcome
 use Rattle.cc_entry.specs.declared.entry.Entry.{Entry}
 use Rattle.cc_entry.specs.declared.entry.Entry.TheVariants as entry
-use Rattle.cc_views.specs.Views.{Mapped}
+use Rattle.cc_views.specs.Views.{MappedViews}
 use Rattle.cc_resident.specs.Residents.{all_resident}
 use Rattle.cc_model.specs.Acts.{act_of, Closes}
 use Rattle.cc_model.specs.Good.{IsGoodSoFar}
@@ -27,7 +27,7 @@ truncated_by h other = None
 
 -- A call of a stream may be followed: the journal with it is good so far, the contents stand for the stream
 -- before it, and so do the size and the size that it sets; the last says whether there is a map after it.
-pub record MayFollow (u : Setup) (past : List Entry) (pass nth s : ℕ) (call : Call) (reply : Reply)
+pub record MayFollowContents (u : Setup) (past : List Entry) (pass nth s : ℕ) (call : Call) (reply : Reply)
     (c : Contents) (size : ℕ) (truncation : Option ℕ) (mapped : Bool) : Type 0 where
   pub good : IsGoodSoFar u (entry.Call pass nth (Some s) call (outcome.Done reply) ∷ past)
   pub stands : ContentsStand (u.opening s) (history past s) c
@@ -37,14 +37,14 @@ pub record MayFollow (u : Setup) (past : List Entry) (pass nth s : ℕ) (call : 
       ≡ is_mapped (history (entry.Call pass nth (Some s) call (outcome.Done reply) ∷ past) s)
 
 -- there is a journal at whose end the call may be followed
-pub record IsFollowing (call : Call) (reply : Reply) (c : Contents) (size : ℕ) (truncation : Option ℕ)
+pub record IsFollowingContents (call : Call) (reply : Reply) (c : Contents) (size : ℕ) (truncation : Option ℕ)
     (mapped : Bool) : Type 0 where
   pub u : Setup
   pub past : List Entry
   pub pass : ℕ
   pub nth : ℕ
   pub s : ℕ
-  pub may : MayFollow u past pass nth s call reply c size truncation mapped
+  pub may : MayFollowContents u past pass nth s call reply c size truncation mapped
 
 -- there is a journal at whose end a pinned write of these bytes may be followed
 pub record IsFollowingWrite (at : ℕ) (bytes : List ℕ) (c : Contents) : Type 0 where
@@ -53,24 +53,24 @@ pub record IsFollowingWrite (at : ℕ) (bytes : List ℕ) (c : Contents) : Type 
   pub size : ℕ
   pub truncation : Option ℕ
   pub mapped : Bool
-  pub following : IsFollowing (call.PinnedWrite hold at bytes) reply c size truncation mapped
+  pub following : IsFollowingContents (call.PinnedWrite hold at bytes) reply c size truncation mapped
 
 -- there is an answer with which the call may be followed
 pub record IsFollowable (call : Call) (truncation : Option ℕ) (c : Contents) : Type 0 where
   pub reply : Reply
   pub size : ℕ
   pub mapped : Bool
-  pub following : IsFollowing call reply c size truncation mapped
+  pub following : IsFollowingContents call reply c size truncation mapped
 
 -- whether memory may be wanting for a call: for a map's view index, or for bytes
-abbrev pub takes_memory : Call → Bool
-takes_memory (call.Initialise file sizes quota temporary) = true
-takes_memory (call.SetSizes file allocation size) = true
-takes_memory (call.CopyWrite file at bytes) = true
-takes_memory (call.PinnedWrite hold at bytes) = true
-takes_memory (call.MdlStore hold at bytes) = true
-takes_memory (call.NcStore file page bytes) = true
-takes_memory other = false
+abbrev pub takes_content_memory : Call → Bool
+takes_content_memory (call.Initialise file sizes quota temporary) = true
+takes_content_memory (call.SetSizes file allocation size) = true
+takes_content_memory (call.CopyWrite file at bytes) = true
+takes_content_memory (call.PinnedWrite hold at bytes) = true
+takes_content_memory (call.MdlStore hold at bytes) = true
+takes_content_memory (call.NcStore file page bytes) = true
+takes_content_memory other = false
 
 -- a done call that neither makes a map nor lets one go finds these contents
 pub record Finds (opening : Option (ℕ → List ℕ)) (h : List Effect) (pass : ℕ) (call : Call) (reply : Reply)
@@ -89,17 +89,17 @@ pub record FindsOpen (opening : Option (ℕ → List ℕ)) (h : List Effect) (ca
   pub was_mapped : is_mapped h ≡ true
 
 -- where pages are kept, each page of the range is
-abbrev pub AllKept : Option Mapped → Range → Type 0
+abbrev pub AllKept : Option MappedViews → Range → Type 0
 AllKept None r = Unit {0}
 AllKept (Some m) r = all_resident m r ≡ true
 
 -- where pages are kept, each view block of the range is mapped
-abbrev pub AllMapped : Option Mapped → Option Range → Type 0
+abbrev pub AllMapped : Option MappedViews → Option Range → Type 0
 AllMapped None o = Unit {0}
 AllMapped (Some m) o = IsMapped m o
 
 -- where pages are kept and a size is set, it is within theirs
-abbrev pub IsCutWithin : Option Mapped → Option ℕ → Type 0
+abbrev pub IsCutWithin : Option MappedViews → Option ℕ → Type 0
 IsCutWithin (Some m) (Some size) = size ≤ m.size
 IsCutWithin other size = Unit {0}
 

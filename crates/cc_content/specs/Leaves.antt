@@ -8,7 +8,7 @@ use Rattle.cc_model.specs.Residency.{residents, order_of_use}
 
 -- What led from one history to a later one changed no byte and no size, and while there is a map no page and
 -- no use of a block; the map may be gone.
-pub record Leaves (h later : List Effect) : Type 0 where
+pub record LeavesContents (h later : List Effect) : Type 0 where
   pub gone : is_mapped h ≡ false → is_mapped later ≡ false
   pub quota : quota_of later ≡ quota_of h
   pub sizes : sizes later ≡ sizes h

@@ -5,7 +5,7 @@ use Rattle.cc_entry.specs.Pages.{whole_range}
 use Rattle.cc_entry.specs.Place.{Range}
 use Rattle.cc_entry.specs.declared.call.Call.{Call}
 use Rattle.cc_entry.specs.declared.call.Call.TheVariants as call
-use Rattle.cc_views.specs.Views.{Mapped}
+use Rattle.cc_views.specs.Views.{MappedViews}
 use Rattle.cc_resident.specs.Residents.{is_shared, AllOwned, rest_of_page}
 use Rattle.cc_resident.specs.Changes.{SameBytes, OwnsOnly}
 use Rattle.cc_model.specs.History.{Effect}
@@ -24,7 +24,7 @@ changed_range (call.Uninitialise file truncate) truncation = option_map rest_of_
 changed_range other truncation = None
 
 -- where pages are kept, those with bytes of the range, where there is one, are owned
-abbrev pub AllOwnedAmong : Option Mapped → Option Range → Type 0
+abbrev pub AllOwnedAmong : Option MappedViews → Option Range → Type 0
 AllOwnedAmong (Some m) (Some r) = AllOwned m r
 AllOwnedAmong other r = Unit {0}
 
@@ -33,7 +33,7 @@ abbrev pub OwnsChanged : Contents → Call → Option ℕ → Type 0
 OwnsChanged c call truncation = AllOwnedAmong c.pages (changed_range call truncation)
 
 -- where pages are kept, only those with bytes of the range, where there is one, came to be owned
-abbrev pub OwnsOnlyAmong : Option Mapped → Option Mapped → Option Range → Type 0
+abbrev pub OwnsOnlyAmong : Option MappedViews → Option MappedViews → Option Range → Type 0
 OwnsOnlyAmong (Some old) (Some new) (Some r) = OwnsOnly old new r
 OwnsOnlyAmong (Some old) (Some new) None = (p : ℕ) → is_shared new p ≡ is_shared old p
 OwnsOnlyAmong old new r = Unit {0}
@@ -43,7 +43,7 @@ abbrev pub OwnsOnlyChanged : Contents → Contents → Call → Option ℕ → T
 OwnsOnlyChanged old new call truncation = OwnsOnlyAmong old.pages new.pages (changed_range call truncation)
 
 -- there is a map with the same pages and bytes, or there was and is none
-abbrev pub SameMap : Option Mapped → Option Mapped → Type 0
+abbrev pub SameMap : Option MappedViews → Option MappedViews → Type 0
 SameMap None None = Unit {0}
 SameMap (Some old) (Some new) = SameBytes old new
 SameMap old new = ⊥

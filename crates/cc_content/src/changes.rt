@@ -8,15 +8,15 @@ ghost use Rattle.cc_entry.specs.Pages.{block_of, whole_range};
 ghost use Rattle.cc_entry.specs.Place.{File};
 ghost use Rattle.cc_entry.specs.declared.call.Call.{Call};
 ghost use Rattle.cc_entry.specs.declared.reply.Reply.{Reply};
-ghost use Rattle.cc_resident.specs.Residents.{all_resident, all_mapped, AllOwned, rest_of_page, blocks, is_among};
-ghost use Rattle.cc_resident.specs.Changes.{is_between};
+ghost use Rattle.cc_resident.specs.Residents.{all_resident, all_mapped, AllOwned, rest_of_page, blocks, is_block_among};
+ghost use Rattle.cc_resident.specs.Changes.{is_number_between};
 ghost use Rattle.cc_model.specs.Acts.{act_of, Closes, Resizes, Writes, Zeroes, Stores, Discards};
 ghost use Rattle.cc_model.specs.History.{Effect, Did};
 ghost use Rattle.cc_model.specs.Objects.{objects, truncation};
 ghost use Rattle.cc_model.specs.Ranges.{span_has};
 ghost use Rattle.cc_model.specs.Touches.{size_of, valid_of, is_mapped};
 ghost use Rattle.cc_content.specs.Contents.{PagesStand};
-ghost use Rattle.cc_content.specs.Done.{is_look, IsMapped, Uses, used_if};
+ghost use Rattle.cc_content.specs.Done.{is_look, IsMapped, UsesBlocks, used_if};
 
 use cc_entry::{NoMemory, Span};
 use cc_resident::ResidentPages;
@@ -25,7 +25,7 @@ use cc_resident::ResidentPages;
 pub(crate) fn looked(pages: &mut ResidentPages, used: Option<Span>)
     requires { IsMapped pages.old used }
     ensures { (opening : Option (ℕ → List ℕ)) (h : List Effect) (pass : ℕ) (call : Call) (reply : Reply) →
-        PagesStand opening h pages.old → is_look (act_of call) ≡ true → Uses h pass call reply used →
+        PagesStand opening h pages.old → is_look (act_of call) ≡ true → UsesBlocks h pass call reply used →
         is_mapped (Did pass call reply ∷ h) ≡ true →
         PagesStand opening (Did pass call reply ∷ h) pages.new }
 {
@@ -41,7 +41,7 @@ pub(crate) fn written(pages: &mut ResidentPages, at: u64, bytes: &[u8], uses: bo
     requires fits { at + length bytes.now ≤ 2 ^ 63 }
     ensures { (opening : Option (ℕ → List ℕ)) (h : List Effect) (pass : ℕ) (call : Call) (reply : Reply) →
         PagesStand opening h pages.old → act_of call ≡ Writes at bytes.now →
-        Uses h pass call reply (used_if uses (whole_range at (length bytes.now))) → at ≤ valid_of h →
+        UsesBlocks h pass call reply (used_if uses (whole_range at (length bytes.now))) → at ≤ valid_of h →
         is_mapped (Did pass call reply ∷ h) ≡ true →
         PagesStand opening (Did pass call reply ∷ h) pages.new }
 {
@@ -57,7 +57,7 @@ pub(crate) fn zeroed(pages: &mut ResidentPages, from: u64, to: u64)
     requires owned { AllOwned pages.old (record { from = from; to = to }) }
     ensures { (opening : Option (ℕ → List ℕ)) (h : List Effect) (pass : ℕ) (call : Call) (reply : Reply) →
         PagesStand opening h pages.old → act_of call ≡ Zeroes from to →
-        Uses h pass call reply (Some (record { from = from; to = to })) → from ≤ valid_of h →
+        UsesBlocks h pass call reply (Some (record { from = from; to = to })) → from ≤ valid_of h →
         is_mapped (Did pass call reply ∷ h) ≡ true →
         PagesStand opening (Did pass call reply ∷ h) pages.new }
 {
@@ -103,7 +103,7 @@ pub(crate) fn stored(
     bytes: &[u8; 4096],
 ) -> Result<(), NoMemory>
     requires starts { 4096 * page < pages.old.size }
-    requires room { (is_among (block_of page) (blocks pages.old) ≡ true)
+    requires room { (is_block_among (block_of page) (blocks pages.old) ≡ true)
         ⊎ (length (blocks pages.old) < pages.old.quota) }
     ensures stands { OnOk result ((opening : Option (ℕ → List ℕ)) (h : List Effect) (pass : ℕ) (call : Call)
         (reply : Reply) →
@@ -133,7 +133,7 @@ pub(crate) fn dropped(pages: &mut ResidentPages, span: Option<Span>)
 /// The pages of a span, from the first up to, and without, the second; of a stream of that many bytes, where
 /// there is none.
 fn pages_of(span: Option<Span>, size: u64) -> (u64, u64)
-    ensures { (p : ℕ) → 4096 * p < size → is_between result.0 result.1 p ≡ span_has span p }
+    ensures { (p : ℕ) → 4096 * p < size → is_number_between result.0 result.1 p ≡ span_has span p }
 {
     match span {
         None => (0, size.div_ceil(4096)),

@@ -10,12 +10,12 @@ ghost use Rattle.cc_entry.specs.declared.reply.Reply.{Reply};
 ghost use Rattle.cc_entry.specs.Pages.{pages_of};
 ghost use Rattle.cc_views.specs.Views.{first_not_in};
 ghost use Rattle.cc_model.specs.History.{Effect, Did, CameIn, WentOut, Ended};
-ghost use Rattle.cc_model.specs.Residency.{is_resident, block_is_mapped, mapped_blocks, order_of_use};
+ghost use Rattle.cc_model.specs.Residency.{is_resident, block_is_mapped, mapped_block_count, order_of_use};
 ghost use Rattle.cc_model.specs.Touches.{size_of, valid_of, is_mapped};
 ghost use Rattle.cc_vacb.specs.Levels.{levels_of};
-ghost use Rattle.cc_content.specs.Contents.{ContentsStand, IsByteOf};
-ghost use Rattle.cc_content.specs.Filling.{HasRoomFor, HasRoomIn, IsReadFrom, IsClearedFrom, Fills};
-ghost use Rattle.cc_content.specs.Leaves.{Leaves};
+ghost use Rattle.cc_content.specs.Contents.{ContentsStand, IsByteOfContents};
+ghost use Rattle.cc_content.specs.Filling.{HasRoomToKeepPage, HasRoomInViews, IsReadFrom, IsClearedFrom, Fills};
+ghost use Rattle.cc_content.specs.Leaves.{LeavesContents};
 ghost use Rattle.cc_content.specs.Owned.{SameContents};
 
 use cc_entry::{NoMemory, Quota};
@@ -77,7 +77,7 @@ impl Contents {
         ensures bytes { (opening : Option (ℕ → List ℕ)) (h : List Effect) →
             ContentsStand opening h self.now →
             IfSome result (λ bytes. (i : ℕ) → i < 4096 →
-            IsByteOf opening h (4096 * page + i) (slice_index bytes.now i)) }
+            IsByteOfContents opening h (4096 * page + i) (slice_index bytes.now i)) }
     {
         match &self.pages {
             Some(pages) => pages.get(page),
@@ -102,7 +102,7 @@ impl Contents {
         ensures order { (opening : Option (ℕ → List ℕ)) (h : List Effect) →
             ContentsStand opening h self.now → result ≡ length (order_of_use h) }
         ensures count { (opening : Option (ℕ → List ℕ)) (h : List Effect) →
-            ContentsStand opening h self.now → result ≡ mapped_blocks h }
+            ContentsStand opening h self.now → result ≡ mapped_block_count h }
     {
         match &self.pages {
             Some(pages) => pages.mapped(),
@@ -153,7 +153,7 @@ impl Contents {
         ensures bytes { IfOk result (λ frame. (opening : Option (ℕ → List ℕ)) (h : List Effect) →
             ContentsStand opening h self.old →
             IfSome frame (λ bytes. (i : ℕ) → i < 4096 →
-            IsByteOf opening h (4096 * page + i) (slice_index bytes i))) }
+            IsByteOfContents opening h (4096 * page + i) (slice_index bytes i))) }
         ensures whole { IfOk result (λ frame. IfSome frame (λ bytes. length bytes ≡ 4096)) }
         ensures same { SameContents self.old self.new }
     {
@@ -186,7 +186,7 @@ impl Contents {
     /// Follows a page that came in, given what was read of it: below the valid data length that stays, and
     /// from there on the page is 0. Answers `NoMemory`, and then nothing has changed.
     pub fn came_in(&mut self, page: u64, raw: &[u8; 4096]) -> Result<(), NoMemory>
-        requires { HasRoomFor self.old page }
+        requires { HasRoomToKeepPage self.old page }
         ensures stands { OnOk result ((opening : Option (ℕ → List ℕ)) (h : List Effect) (pass : ℕ)
             (from_disk : Bool) →
             ContentsStand opening h self.old → IsReadFrom opening h page raw.now →
@@ -217,7 +217,7 @@ impl Contents {
             ContentsStand opening h self.old → mapped ≡ is_mapped (Ended pass page how ∷ h) →
             ContentsStand opening (Ended pass page how ∷ h) self.new }
         ensures left { (opening : Option (ℕ → List ℕ)) (h later : List Effect) →
-            ContentsStand opening h self.old → Leaves h later → mapped ≡ is_mapped later →
+            ContentsStand opening h self.old → LeavesContents h later → mapped ≡ is_mapped later →
             ContentsStand opening later self.new }
     {
         if !mapped {
@@ -243,7 +243,7 @@ impl Contents {
 
 // Brings a page in with what was read of it, cleared from the valid data length on.
 fn fill(pages: &mut ResidentPages, valid: u64, page: u64, raw: &[u8; 4096]) -> Result<(), NoMemory>
-    requires { HasRoomIn pages.old page }
+    requires { HasRoomInViews pages.old page }
     ensures fills { OnOk result (Fills pages.old pages.new page (valid - 4096 * page) raw.now) }
     ensures err { OnErr result (pages.new ≡ pages.old) }
 {

@@ -16,9 +16,9 @@ ghost use Rattle.cc_model.specs.History.{Effect, Did, history};
 ghost use Rattle.cc_model.specs.Setup.{Setup};
 ghost use Rattle.cc_model.specs.Touches.{size_of, valid_of, is_mapped};
 ghost use Rattle.cc_content.specs.Contents.{ContentsStand};
-ghost use Rattle.cc_content.specs.Done.{is_look, Uses, used_if};
-ghost use Rattle.cc_content.specs.Filling.{HasRoomFor};
-ghost use Rattle.cc_content.specs.Following.{MayFollow, IsFollowing, IsFollowingWrite, IsFollowable, takes_memory, Finds, FindsOpen, AllKept, AllMapped, IsCutWithin, span_below, looked_range};
+ghost use Rattle.cc_content.specs.Done.{is_look, UsesBlocks, used_if};
+ghost use Rattle.cc_content.specs.Filling.{HasRoomToKeepPage};
+ghost use Rattle.cc_content.specs.Following.{MayFollowContents, IsFollowingContents, IsFollowingWrite, IsFollowable, takes_content_memory, Finds, FindsOpen, AllKept, AllMapped, IsCutWithin, span_below, looked_range};
 ghost use Rattle.cc_content.specs.Owned.{changed_range, AllOwnedAmong, OwnsOnlyAmong, OwnsChanged, OwnsOnlyChanged, SameContents};
 ghost use Rattle.cc_resident.specs.Residents.{rest_of_page};
 
@@ -75,14 +75,14 @@ impl Contents {
         truncation: Option<u64>,
         mapped: bool,
     ) -> Result<(), NoMemory>
-        requires may { IsFollowing call.now reply.now self.old size truncation mapped }
+        requires may { IsFollowingContents call.now reply.now self.old size truncation mapped }
         requires owned { OwnsChanged self.old call.now truncation }
         ensures stands { OnOk result ((u : Setup) (past : List Entry) (pass nth s : ℕ) →
-            MayFollow u past pass nth s call.now reply.now self.old size truncation mapped →
+            MayFollowContents u past pass nth s call.now reply.now self.old size truncation mapped →
             ContentsStand (u.opening s)
             (history (entry.Call pass nth (Some s) call.now (outcome.Done reply.now) ∷ past) s) self.new) }
         ensures err { OnErr result (self.new ≡ self.old) }
-        ensures sure { takes_memory call.now ≡ false → IsOk result }
+        ensures sure { takes_content_memory call.now ≡ false → IsOk result }
     {
         if is_look(call) {
             self.looked(looked_range(call, reply, size));
@@ -123,7 +123,7 @@ impl Contents {
         requires owned { AllOwnedAmong self.old.pages (Some (whole_range at (length bytes.now))) }
         ensures stands { (u : Setup) (past : List Entry) (pass nth s hold : ℕ) (reply : Reply) (size : ℕ)
             (truncation : Option ℕ) (mapped : Bool) →
-            MayFollow u past pass nth s (call.PinnedWrite hold at bytes.now) reply self.old size truncation mapped →
+            MayFollowContents u past pass nth s (call.PinnedWrite hold at bytes.now) reply self.old size truncation mapped →
             ContentsStand (u.opening s) (history
             (entry.Call pass nth (Some s) (call.PinnedWrite hold at bytes.now) (outcome.Done reply) ∷ past) s) self.new }
     {
@@ -229,7 +229,7 @@ impl Contents {
         ensures stands { OnOk result ((opening : Option (ℕ → List ℕ)) (h : List Effect) (pass : ℕ)
             (call : Call) (reply : Reply) →
             Finds opening h pass call reply self.old → act_of call ≡ Writes at bytes.now →
-            Uses h pass call reply (used_if uses (whole_range at (length bytes.now))) → at ≤ valid_of h →
+            UsesBlocks h pass call reply (used_if uses (whole_range at (length bytes.now))) → at ≤ valid_of h →
             ContentsStand opening (Did pass call reply ∷ h) self.new) }
         ensures err { OnErr result (self.new ≡ self.old) }
     {
@@ -245,7 +245,7 @@ impl Contents {
         requires fits { at + length bytes.now ≤ 2 ^ 63 }
         ensures { (opening : Option (ℕ → List ℕ)) (h : List Effect) (pass : ℕ) (call : Call) (reply : Reply) →
             Finds opening h pass call reply self.old → act_of call ≡ Writes at bytes.now →
-            Uses h pass call reply (used_if uses (whole_range at (length bytes.now))) → at ≤ valid_of h →
+            UsesBlocks h pass call reply (used_if uses (whole_range at (length bytes.now))) → at ≤ valid_of h →
             ContentsStand opening (Did pass call reply ∷ h) self.new }
     {
         match &mut self.pages {
@@ -262,7 +262,7 @@ impl Contents {
         requires owned { AllOwnedAmong self.old.pages (Some (record { from = from; to = to })) }
         ensures { (opening : Option (ℕ → List ℕ)) (h : List Effect) (pass : ℕ) (call : Call) (reply : Reply) →
             Finds opening h pass call reply self.old → act_of call ≡ Zeroes from to →
-            Uses h pass call reply (Some (record { from = from; to = to })) → from ≤ valid_of h →
+            UsesBlocks h pass call reply (Some (record { from = from; to = to })) → from ≤ valid_of h →
             ContentsStand opening (Did pass call reply ∷ h) self.new }
     {
         match &mut self.pages {
@@ -274,7 +274,7 @@ impl Contents {
 
     /// Follows a noncached store of the bytes of a page.
     fn stored(&mut self, alloc: Global, page: u64, bytes: &Bytes, size: u64) -> Result<(), NoMemory>
-        requires room { HasRoomFor self.old page }
+        requires room { HasRoomToKeepPage self.old page }
         requires whole { length bytes.now ≡ 4096 }
         ensures stands { OnOk result ((opening : Option (ℕ → List ℕ)) (h : List Effect) (pass : ℕ)
             (call : Call) (reply : Reply) →
@@ -292,7 +292,7 @@ impl Contents {
     /// Follows a noncached store of a page of a stream of this size, which starts at the valid data length or
     /// below it, and a use of its block.
     fn put_page(&mut self, page: u64, bytes: &[u8; 4096], size: u64) -> Result<(), NoMemory>
-        requires { HasRoomFor self.old page }
+        requires { HasRoomToKeepPage self.old page }
         ensures stands { OnOk result ((opening : Option (ℕ → List ℕ)) (h : List Effect) (pass : ℕ)
             (call : Call) (reply : Reply) →
             Finds opening h pass call reply self.old → act_of call ≡ Stores page bytes.now →
@@ -325,7 +325,7 @@ impl Contents {
         requires { AllMapped self.old.pages used }
         ensures { (opening : Option (ℕ → List ℕ)) (h : List Effect) (pass : ℕ) (call : Call) (reply : Reply) →
             Finds opening h pass call reply self.old →
-            is_look (act_of call) ≡ true → Uses h pass call reply used →
+            is_look (act_of call) ≡ true → UsesBlocks h pass call reply used →
             ContentsStand opening (Did pass call reply ∷ h) self.new }
     {
         match &mut self.pages {

@@ -17,8 +17,8 @@ use Rattle.cc_entry.specs.declared.entry.Entry.{Entry}
 use Rattle.cc_entry.specs.declared.entry.End.{End}
 use Rattle.cc_entry.specs.Place.{Range}
 use Rattle.cc_events.specs.Events.{event_of_act}
-use Rattle.cc_events.specs.declared.event.Event.{Event}
-use Rattle.cc_events.specs.declared.event.Event.TheVariants as event
+use Rattle.cc_events.specs.declared.event.StreamEvent.{StreamEvent}
+use Rattle.cc_events.specs.declared.event.StreamEvent.TheVariants as event
 use Rattle.cc_model.specs.Acts.{Act, act_of, Opens, Closes, Resizes, Writes, Zeroes, Stores, Stamps, Discards, Looks}
 use Rattle.cc_model.specs.Bytes.{content, on_disk, page_bytes}
 use Rattle.cc_model.specs.History.{Effect, Did, CameIn, WentOut, Began, Ended, Synced, effect_of, history}
@@ -27,17 +27,17 @@ use Rattle.cc_model.specs.Ranges.{span_has}
 use Rattle.cc_model.specs.Sizes.{ended_ok}
 use Rattle.cc_model.specs.Touches.{size_of, valid_of, is_dirty}
 use Rattle.cc_laws.proofs.ImageSteps.{begun-began_page, begun-began_other, image-ended_page, image-ended_other, image-ended_good, image-ended_bad, crash_pages-began_page, crash_pages-began_other, crash_pages-synced}
-use Rattle.cc_readers.specs.Effects.{effects, AreSizes}
+use Rattle.cc_readers.specs.Effects.{effects, AreSizesOverJournal}
 use Rattle.cc_readers.proofs.ReaderSteps.{effects_back}
 use Rattle.cc_readers.proofs.TouchReads.{entries_next}
 use Rattle.cc_crash.specs.declared.steps.Step.{Step}
 use Rattle.cc_crash.specs.declared.steps.Step.TheVariants as step
-use Rattle.cc_crash.specs.DiskPages.{PageState, bytes_by, page_state, at_first, changes, discards, called, begins, ended_with, ends, syncs, call_of, step_of}
+use Rattle.cc_crash.specs.DiskPages.{PageState, bytes_by, page_state_of_history, at_first, changes, discards, called, begins, ended_with, ends, syncs, call_of, step_of}
 use Rattle.cc_crash.proofs.PageBytes.{bytes-opening, discards_some, given-changed, given-dropped, given-kept, shown-is, held-none, held-good, held-bad, held-other}
 
 -- ---- a done call
 
-same-given : (pages : ℕ → List ℕ) (pass : ℕ) (call : Call) (reply : Reply) (h : List Effect) (p : ℕ) (given : List ℕ) → given ≡ bytes_by (content pages (Did pass call reply ∷ h)) p → record (page_state pages h p) { given = given } ≡ page_state pages (Did pass call reply ∷ h) p
+same-given : (pages : ℕ → List ℕ) (pass : ℕ) (call : Call) (reply : Reply) (h : List Effect) (p : ℕ) (given : List ℕ) → given ≡ bytes_by (content pages (Did pass call reply ∷ h)) p → record (page_state_of_history pages h p) { given = given } ≡ page_state_of_history pages (Did pass call reply ∷ h) p
 unfolding on_disk crash_pages image begun
 same-given pages pass call reply h p given is = λ i. record {
   given = is i;
@@ -47,13 +47,13 @@ same-given pages pass call reply h p given is = λ i. record {
   sent = option_map (λ front. page_bytes pages front p) (begun h p);
 }
 
-pub page_state-called : (pages : ℕ → List ℕ) (pass : ℕ) (call : Call) (reply : Reply) (h : List Effect) (p : ℕ) → called (event_of_act (act_of call)) (act_of call) (size_of h) p (is_dirty h p) (page_state pages h p) ≡ page_state pages (Did pass call reply ∷ h) p
+pub page_state-called : (pages : ℕ → List ℕ) (pass : ℕ) (call : Call) (reply : Reply) (h : List Effect) (p : ℕ) → called (event_of_act (act_of call)) (act_of call) (size_of h) p (is_dirty h p) (page_state_of_history pages h p) ≡ page_state_of_history pages (Did pass call reply ∷ h) p
 page_state-called pages pass call reply h p = go (act_of call) refl
   where
-    changed : (a : Act) → act_of call ≡ a → discards_some a ≡ false → changes a (size_of h) p (page_state pages h p) ≡ page_state pages (Did pass call reply ∷ h) p
-    changed a is none = same-given pages pass call reply h p (changes a (size_of h) p (page_state pages h p)).given (given-changed pages pass call reply h p a is none)
+    changed : (a : Act) → act_of call ≡ a → discards_some a ≡ false → changes a (size_of h) p (page_state_of_history pages h p) ≡ page_state_of_history pages (Did pass call reply ∷ h) p
+    changed a is none = same-given pages pass call reply h p (changes a (size_of h) p (page_state_of_history pages h p)).given (given-changed pages pass call reply h p a is none)
 
-    go : (a : Act) → act_of call ≡ a → called (event_of_act a) a (size_of h) p (is_dirty h p) (page_state pages h p) ≡ page_state pages (Did pass call reply ∷ h) p
+    go : (a : Act) → act_of call ≡ a → called (event_of_act a) a (size_of h) p (is_dirty h p) (page_state_of_history pages h p) ≡ page_state_of_history pages (Did pass call reply ∷ h) p
     go (Opens file given quota temporary) is = changed (Opens file given quota temporary) is refl
     go (Closes file truncate) is = changed (Closes file truncate) is refl
     go (Resizes allocation size) is = changed (Resizes allocation size) is refl
@@ -63,13 +63,13 @@ page_state-called pages pass call reply h p = go (act_of call) refl
     go (Stamps hold lsn) is = changed (Stamps hold lsn) is refl
     go (Discards span) is = dropped (span_has span p && is_dirty h p) refl
       where
-        dropped : (b : Bool) → (span_has span p && is_dirty h p) ≡ b → (if b then discards (page_state pages h p) else page_state pages h p) ≡ page_state pages (Did pass call reply ∷ h) p
+        dropped : (b : Bool) → (span_has span p && is_dirty h p) ≡ b → (if b then discards (page_state_of_history pages h p) else page_state_of_history pages h p) ≡ page_state_of_history pages (Did pass call reply ∷ h) p
         dropped true drops = same-given pages pass call reply h p (bytes_by (on_disk pages false h) p) (given-dropped pages pass call reply h p span is drops)
         dropped false keeps = same-given pages pass call reply h p (bytes_by (content pages h) p) (given-kept pages pass call reply h p span is keeps)
     go Looks is = changed Looks is refl
 
 -- of a call that is no discard
-pub called-rest : (a : Act) (what : Event) (size p : ℕ) (dirty : Bool) (page : PageState) → what ≡ event_of_act a → ((span : Option Range) → what ≡ event.Discards span → ⊥) → changes a size p page ≡ called (event_of_act a) a size p dirty page
+pub called-rest : (a : Act) (what : StreamEvent) (size p : ℕ) (dirty : Bool) (page : PageState) → what ≡ event_of_act a → ((span : Option Range) → what ≡ event.Discards span → ⊥) → changes a size p page ≡ called (event_of_act a) a size p dirty page
 called-rest (Discards span) what size p dirty page is other = absurd (other span is)
 called-rest act what size p dirty page is other = refl
 
@@ -82,11 +82,11 @@ call-did (Some (Began pass page)) call is = absurd (cc)
 call-did (Some (Ended pass page how)) call is = absurd (cc)
 call-did (Some (Synced pass how)) call is = absurd (cc)
 
-pub page_state-call : (pages : ℕ → List ℕ) (o : Option Effect) (h : List Effect) (p : ℕ) (call : Call) (was : PageState) → call_of o ≡ Some call → was ≡ page_state pages h p → called (event_of_act (act_of call)) (act_of call) (size_of h) p (is_dirty h p) was ≡ page_state pages (cons_option o h) p
+pub page_state-call : (pages : ℕ → List ℕ) (o : Option Effect) (h : List Effect) (p : ℕ) (call : Call) (was : PageState) → call_of o ≡ Some call → was ≡ page_state_of_history pages h p → called (event_of_act (act_of call)) (act_of call) (size_of h) p (is_dirty h p) was ≡ page_state_of_history pages (cons_option o h) p
 page_state-call pages o h p call was is before =
     let did = call-did o call is in
     ap (λ (page : PageState). called (event_of_act (act_of call)) (act_of call) (size_of h) p (is_dirty h p) page) before
-    ∙ (page_state-called pages did.0 call did.1 h p ∙ sym (ap (λ (e : Option Effect). page_state pages (cons_option e h) p) did.2))
+    ∙ (page_state-called pages did.0 call did.1 h p ∙ sym (ap (λ (e : Option Effect). page_state_of_history pages (cons_option e h) p) did.2))
 
 -- ---- the steps of transfers
 
@@ -97,7 +97,7 @@ after step.Begins valid p page = begins valid p page
 after (step.Ends ok) valid p page = ends ok page
 after step.Syncs valid p page = syncs page
 
-ended-here : (pages : ℕ → List ℕ) (pass page : ℕ) (how : End) (h : List Effect) (p : ℕ) → (page == p) ≡ true → (o : Option (List Effect)) → begun h p ≡ o → (ok : Bool) → ended_ok how ≡ ok → page_state pages (Ended pass page how ∷ h) p ≡ ended_with ok (option_map (λ front. page_bytes pages front p) o) (page_state pages h p)
+ended-here : (pages : ℕ → List ℕ) (pass page : ℕ) (how : End) (h : List Effect) (p : ℕ) → (page == p) ≡ true → (o : Option (List Effect)) → begun h p ≡ o → (ok : Bool) → ended_ok how ≡ ok → page_state_of_history pages (Ended pass page how ∷ h) p ≡ ended_with ok (option_map (λ front. page_bytes pages front p) o) (page_state_of_history pages h p)
 unfolding content crash_pages begun
 ended-here pages pass page how h p here None none ok is = λ i. record {
   given = bytes_by (content pages h) p;
@@ -123,7 +123,7 @@ ended-here pages pass page how h p here (Some front) began false bad = λ i. rec
   sent = option_map (λ front. page_bytes pages front p) (begun h p);
 }
 
-pub page_state-step : (pages : ℕ → List ℕ) (o : Option Effect) (h : List Effect) (p : ℕ) → call_of o ≡ None → page_state pages (cons_option o h) p ≡ after (step_of o p) (valid_of h) p (page_state pages h p)
+pub page_state-step : (pages : ℕ → List ℕ) (o : Option Effect) (h : List Effect) (p : ℕ) → call_of o ≡ None → page_state_of_history pages (cons_option o h) p ≡ after (step_of o p) (valid_of h) p (page_state_of_history pages h p)
 unfolding content on_disk crash_pages image begun
 page_state-step pages None h p none = refl
 page_state-step pages (Some (Did pass call reply)) h p none = absurd (cc)
@@ -131,7 +131,7 @@ page_state-step pages (Some (CameIn pass page from_disk)) h p none = refl
 page_state-step pages (Some (WentOut pass page)) h p none = refl
 page_state-step pages (Some (Began pass page)) h p none = go (page == p) refl
   where
-    go : (b : Bool) → (page == p) ≡ b → page_state pages (Began pass page ∷ h) p ≡ after (if b then step.Begins else step.Rests) (valid_of h) p (page_state pages h p)
+    go : (b : Bool) → (page == p) ≡ b → page_state_of_history pages (Began pass page ∷ h) p ≡ after (if b then step.Begins else step.Rests) (valid_of h) p (page_state_of_history pages h p)
     go true here = λ i. record {
       given = bytes_by (content pages h) p;
       held = bytes_by (on_disk pages false h) p;
@@ -152,7 +152,7 @@ page_state-step pages (Some (Began pass page)) h p none = go (page == p) refl
     }
 page_state-step pages (Some (Ended pass page how)) h p none = go (page == p) refl
   where
-    go : (b : Bool) → (page == p) ≡ b → page_state pages (Ended pass page how ∷ h) p ≡ after (if b then step.Ends (ended_ok how) else step.Rests) (valid_of h) p (page_state pages h p)
+    go : (b : Bool) → (page == p) ≡ b → page_state_of_history pages (Ended pass page how ∷ h) p ≡ after (if b then step.Ends (ended_ok how) else step.Rests) (valid_of h) p (page_state_of_history pages h p)
     go true here = ended-here pages pass page how h p here (begun h p) refl (ended_ok how) refl
     go false other = λ i. record {
       given = bytes_by (content pages h) p;
@@ -163,7 +163,7 @@ page_state-step pages (Some (Ended pass page how)) h p none = go (page == p) ref
     }
 page_state-step pages (Some (Synced pass how)) h p none = go (ended_ok how) refl
   where
-    go : (b : Bool) → ended_ok how ≡ b → page_state pages (Synced pass how ∷ h) p ≡ after (if b then step.Syncs else step.Rests) (valid_of h) p (page_state pages h p)
+    go : (b : Bool) → ended_ok how ≡ b → page_state_of_history pages (Synced pass how ∷ h) p ≡ after (if b then step.Syncs else step.Rests) (valid_of h) p (page_state_of_history pages h p)
     go true good = λ i. record {
       given = bytes_by (content pages h) p;
       held = bytes_by (on_disk pages false h) p;
@@ -180,7 +180,7 @@ page_state-step pages (Some (Synced pass how)) h p none = go (ended_ok how) refl
     }
 
 -- the step that a journal's entry is
-pub page_state-by : (pages : ℕ → List ℕ) (o : Option Effect) (h : List Effect) (p : ℕ) (is : Step) (valid : ℕ) (was : PageState) → call_of o ≡ None → is ≡ step_of o p → valid ≡ valid_of h → was ≡ page_state pages h p → after is valid p was ≡ page_state pages (cons_option o h) p
+pub page_state-by : (pages : ℕ → List ℕ) (o : Option Effect) (h : List Effect) (p : ℕ) (is : Step) (valid : ℕ) (was : PageState) → call_of o ≡ None → is ≡ step_of o p → valid ≡ valid_of h → was ≡ page_state_of_history pages h p → after is valid p was ≡ page_state_of_history pages (cons_option o h) p
 page_state-by pages o h p is valid was none step now before =
     ap (λ (it : Step). after it valid p was) step
     ∙ (ap (λ (n : ℕ). after (step_of o p) n p was) now
@@ -190,7 +190,7 @@ page_state-by pages o h p is valid was none step now before =
 -- ---- the journal
 
 -- before any entry, and after the next one
-pub page_state-first : (pages : ℕ → List ℕ) (opening : List ℕ) (s p : ℕ) → length opening ≡ 4096 → pages p ≡ opening → at_first opening ≡ page_state pages (effects [] s) p
+pub page_state-first : (pages : ℕ → List ℕ) (opening : List ℕ) (s p : ℕ) → length opening ≡ 4096 → pages p ≡ opening → at_first opening ≡ page_state_of_history pages (effects [] s) p
 unfolding content on_disk crash_pages image begun history
 page_state-first pages opening s p long is = λ i. record {
   given = bytes-opening opening pages p long is i;
@@ -200,13 +200,13 @@ page_state-first pages opening s p long is = λ i. record {
   sent = None;
 }
 
-pub page_state-next : (pages : ℕ → List ℕ) (journal : List Entry) (i : ℕ) (entry : Entry) (s p : ℕ) (now : PageState) → entry ≡ get_or journal i entry → i < length journal → now ≡ page_state pages (cons_option (effect_of entry s) (effects (take i journal) s)) p → now ≡ page_state pages (effects (take (i + 1) journal) s) p
+pub page_state-next : (pages : ℕ → List ℕ) (journal : List Entry) (i : ℕ) (entry : Entry) (s p : ℕ) (now : PageState) → entry ≡ get_or journal i entry → i < length journal → now ≡ page_state_of_history pages (cons_option (effect_of entry s) (effects (take i journal) s)) p → now ≡ page_state_of_history pages (effects (take (i + 1) journal) s) p
 page_state-next pages journal i entry s p now is in_range follows =
     follows
-    ∙ ap (λ (h : List Effect). page_state pages h p) (sym (effects_back (take (i + 1) journal) (take i journal) entry s (entries_next journal i entry is in_range)))
+    ∙ ap (λ (h : List Effect). page_state_of_history pages h p) (sym (effects_back (take (i + 1) journal) (take i journal) entry s (entries_next journal i entry is in_range)))
 
 -- the sizes of the entries so far
-pub sizes-front : (found : List ℕ) (journal : List Entry) (s i : ℕ) → i ≤ length journal → AreSizes found journal s → AreSizes found (take i journal) s
+pub sizes-front : (found : List ℕ) (journal : List Entry) (s i : ℕ) → i ≤ length journal → AreSizesOverJournal found journal s → AreSizesOverJournal found (take i journal) s
 sizes-front found journal s i within are = record {
   long = omega (arith, are.long, length-take i journal);
   each = λ j below.

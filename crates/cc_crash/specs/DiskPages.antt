@@ -9,8 +9,8 @@ use Rattle.cc_crash.specs.declared.steps.Step.TheVariants as step
 use Rattle.cc_entry.specs.declared.call.Call.{Call}
 use Rattle.cc_entry.specs.Pages.{has_byte}
 use Rattle.cc_entry.specs.Place.{Range}
-use Rattle.cc_events.specs.declared.event.Event.{Event}
-use Rattle.cc_events.specs.declared.event.Event.TheVariants as event
+use Rattle.cc_events.specs.declared.event.StreamEvent.{StreamEvent}
+use Rattle.cc_events.specs.declared.event.StreamEvent.TheVariants as event
 use Rattle.cc_model.specs.Acts.{Act}
 use Rattle.cc_model.specs.Bytes.{content, on_disk, page_bytes}
 use Rattle.cc_model.specs.History.{Effect, Did, Began, Ended, Synced}
@@ -34,8 +34,8 @@ abbrev pub bytes_by : (ℕ → ℕ) → ℕ → List ℕ
 bytes_by byte p = map byte (range_with_len (4096 * p) 4096)
 
 -- what a history of the page's stream says
-abbrev pub page_state : (ℕ → List ℕ) → List Effect → ℕ → PageState
-page_state pages h p = record {
+abbrev pub page_state_of_history : (ℕ → List ℕ) → List Effect → ℕ → PageState
+page_state_of_history pages h p = record {
   given = bytes_by (content pages h) p;
   held = bytes_by (on_disk pages false h) p;
   may = crash_pages pages h p;
@@ -53,8 +53,8 @@ changed_bytes a size p bytes =
     map (λ k. unwrap_or (change_by a size (4096 * p + k)) (slice_index bytes k)) (range_with_len 0 4096)
 
 -- a range has no byte of the page
-abbrev pub IsApart : Range → ℕ → Type 0
-IsApart range p = (i : ℕ) → 4096 * p ≤ i → i < 4096 * p + 4096 → has_byte range i ≡ false
+abbrev pub IsApartFromPage : Range → ℕ → Type 0
+IsApartFromPage range p = (i : ℕ) → 4096 * p ≤ i → i < 4096 * p + 4096 → has_byte range i ≡ false
 
 -- an act changes no byte of the page, whatever the size before it
 abbrev pub LeavesPage : Act → ℕ → Type 0
@@ -79,7 +79,7 @@ abbrev pub discards : PageState → PageState
 discards page = record { given = page.held; held = page.held; may = page.may; known = page.known; sent = page.sent }
 
 -- a call was done that does this, given the size before it and whether the page was dirty
-abbrev pub called : Event → Act → ℕ → ℕ → Bool → PageState → PageState
+abbrev pub called : StreamEvent → Act → ℕ → ℕ → Bool → PageState → PageState
 called (event.Discards span) a size p dirty page = if span_has span p && dirty then discards page else page
 called other a size p dirty page = changes a size p page
 

@@ -2,7 +2,7 @@
 
 ghost use Rattle.std.specs.Prelude.{◌≡◌, nat_lt, slice_index, false, if◌then◌else◌};
 ghost use Rattle.std.specs.Option.{unwrap_or};
-ghost use Rattle.cc_crash.specs.DiskPages.{IsApart, LeavesPage, changed_bytes, shown_bytes};
+ghost use Rattle.cc_crash.specs.DiskPages.{IsApartFromPage, LeavesPage, changed_bytes, shown_bytes};
 ghost use Rattle.cc_entry.specs.Pages.{has_byte};
 ghost use Rattle.cc_model.specs.Acts.{act_of, Writes, Zeroes, Stores};
 ghost use Rattle.cc_readers.specs.Changes.{change_by};
@@ -52,7 +52,7 @@ fn meets_bytes(at: u64, bytes: &Bytes, page: PageId) -> bool
 
 // Whether a range may have a byte of a page.
 fn meets(from: u128, to: u128, page: PageId) -> bool
-    ensures { result ≡ false → IsApart (record { from = from; to = to }) page.page }
+    ensures { result ≡ false → IsApartFromPage (record { from = from; to = to }) page.page }
 {
     let first = 4096 * u128::from(page.page());
     from < first + 4096 && first < to

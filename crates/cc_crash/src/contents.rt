@@ -2,18 +2,18 @@
 
 ghost use Rattle.std.specs.Prelude.{◌≡◌, ℕ, List, Option, IfOk, OnOk};
 ghost use Rattle.std.specs.List.{cons_option};
-ghost use Rattle.cc_crash.specs.DiskPages.{called, page_state};
+ghost use Rattle.cc_crash.specs.DiskPages.{called, page_state_of_history};
 ghost use Rattle.cc_events.specs.Events.{event_of_act};
 ghost use Rattle.cc_model.specs.Acts.{act_of};
 ghost use Rattle.cc_model.specs.History.{effect_of};
 ghost use Rattle.cc_model.specs.Images.{crash_pages};
 ghost use Rattle.cc_model.specs.Touches.{is_dirty, size_of};
-ghost use Rattle.cc_readers.specs.Effects.{effects, AreSizes};
+ghost use Rattle.cc_readers.specs.Effects.{effects, AreSizesOverJournal};
 
 use crate::disk_page::DiskPage;
 use crate::steps::{Step, done_call, step_of};
 use cc_entry::{Call, Entry, NoMemory, PageId};
-use cc_events::{Event, act, span_has};
+use cc_events::{StreamEvent, act, span_has};
 use cc_readers::dirty::is_unwritten;
 use cc_readers::sizes::{sizes, valid_with};
 use std::alloc::Global;
@@ -46,9 +46,9 @@ fn follow(
     sizes: &[u64],
     page: PageId,
 ) -> Result<(), NoMemory>
-    requires sizes { AreSizes sizes.now before.now page.stream }
-    ensures { (pages : ℕ → List ℕ) → left.old ≡ page_state pages (effects before.now page.stream) page.page →
-        OnOk result (left.new ≡ page_state pages
+    requires sizes { AreSizesOverJournal sizes.now before.now page.stream }
+    ensures { (pages : ℕ → List ℕ) → left.old ≡ page_state_of_history pages (effects before.now page.stream) page.page →
+        OnOk result (left.new ≡ page_state_of_history pages
         (cons_option (effect_of entry.now page.stream) (effects before.now page.stream)) page.page) }
 {
     if let Some(call) = done_call(entry, page.stream()) {
@@ -77,13 +77,13 @@ fn call_done(
     sizes: &[u64],
     page: PageId,
 ) -> Result<(), NoMemory>
-    requires { AreSizes sizes.now before.now page.stream }
+    requires { AreSizesOverJournal sizes.now before.now page.stream }
     ensures { OnOk result (left.new ≡ called (event_of_act (act_of call.now)) (act_of call.now)
         (size_of (effects before.now page.stream)) page.page (is_dirty (effects before.now page.stream) page.page) left.old) }
 {
     let size = sizes[before.len()];
     match act(call) {
-        Event::Discards { span } => {
+        StreamEvent::Discards { span } => {
             let number = u128::from(page.page());
             let dirty = is_unwritten(alloc, before, sizes, page.stream(), number, false)?;
             if span_has(span, number) && dirty {

@@ -8,7 +8,7 @@ use Rattle.cc_entry.specs.declared.entry.Entry.{Entry}
 use Rattle.cc_entry.specs.declared.entry.Entry.TheVariants as entry
 use Rattle.cc_crash_laws.specs.Logged.{HasStamps, IsShownLogged}
 use Rattle.cc_laws.proofs.LogSteps.{flushed_to-entry}
-use Rattle.cc_log.specs.Turn.{Holds}
+use Rattle.cc_log.specs.Turn.{HoldsLogEntries}
 use Rattle.cc_model.specs.Covered.{FlushedUpTo, IsLogged, IsCoveredEntry, IsCovered}
 use Rattle.cc_model.specs.History.{Effect, effect_of, history}
 use Rattle.cc_model.specs.Images.{begun, image, crash_pages}
@@ -55,7 +55,7 @@ has-stamps past later front pass s p log now covered is durable lsn of newest =
     omega (arith, up, here, grown, whole, durable)
 
 -- of a log that tells what it holds
-pub if-told : (begun now : Option Log) (entries : List LogEntry) (lsn : ℕ) (P : Log → Type 0) → Both begun now (Holds entries lsn) → ((log : Log) → lsn ≤ log.durable → P log) → IfTold now P
+pub if-told : (begun now : Option Log) (entries : List LogEntry) (lsn : ℕ) (P : Log → Type 0) → Both begun now (HoldsLogEntries entries lsn) → ((log : Log) → lsn ≤ log.durable → P log) → IfTold now P
 if-told None None entries lsn P holds each = tt
 if-told None (Some now) entries lsn P holds each = absurd holds
 if-told (Some begun) None entries lsn P holds each = absurd holds

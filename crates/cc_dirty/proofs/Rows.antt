@@ -10,9 +10,9 @@ use Rattle.std.proofs.lemmas.List.Kept.{AllPairs-filter}
 use Rattle.std.specs.List.{slice_get, filter, find}
 use Rattle.std.specs.Option.{IsSomeAnd}
 use Rattle.cc_entry.specs.Place.{Page}
-use Rattle.cc_dirty.specs.Order.{precedes, same_page, IsAscending, SplitsAt, is_from, is_between}
+use Rattle.cc_dirty.specs.Order.{precedes, same_page, RowsAscend, SplitsAt, is_from, is_between}
 use Rattle.cc_dirty.specs.Unwritten.{is_touched}
-use Rattle.cc_dirty.specs.Table.{row_of, KeepsOthers, DropsPages, Sound}
+use Rattle.cc_dirty.specs.Table.{row_of, KeepsOtherRows, DropsPages, Sound}
 use Rattle.cc_dirty.specs.declared.row.Row.{Row}
 use Rattle.cc_dirty.proofs.Search.{read-at}
 use Rattle.cc_dirty.proofs.Lookup.{find-none, find-at, find-insert, find-insert-other, find-remove, find-remove-other, find-set, find-set-other, fails-from_none, find-filter_kept, find-filter_cut}
@@ -52,7 +52,7 @@ module _ (rows : List Row) (page : Page) (place : ℕ) (split : SplitsAt rows pa
   first-past past = find-none (λ x. picks x.page) rows (λ k d lt. fails-before k d (omega arith))
 
   -- the row at the place is not picked, nor is a page that it precedes
-  pub first-none : (r : Row) → IsAscending rows → r ≡ get_or rows place r → place < length rows → picks r.page ≡ false
+  pub first-none : (r : Row) → RowsAscend rows → r ≡ get_or rows place r → place < length rows → picks r.page ≡ false
       → ((q : Page) → precedes r.page q ≡ true → picks q ≡ false) → find (λ x. picks x.page) rows ≡ None
   first-none r up at within other after = find-none (λ x. picks x.page) rows fails
     where
@@ -77,7 +77,7 @@ row-past rows page place split = first-past rows page place split (λ q. same_pa
 not-before : (rows : List Row) (page : Page) (place : ℕ) (r : Row) → SplitsAt rows page place → r ≡ get_or rows place r → place < length rows → precedes r.page page ≡ false
 not-before rows page place r split at within = subst (λ (x : Row). precedes x.page page ≡ false) (read-at rows place place r r at within refl) (split.after place r (omega arith) within)
 
-pub row-absent : (rows : List Row) (page : Page) (place : ℕ) (r : Row) → IsAscending rows → SplitsAt rows page place → r ≡ get_or rows place r → place < length rows
+pub row-absent : (rows : List Row) (page : Page) (place : ℕ) (r : Row) → RowsAscend rows → SplitsAt rows page place → r ≡ get_or rows place r → place < length rows
     → same_page r.page page ≡ false → row_of rows page ≡ None
 row-absent rows page place r up split at within other =
     first-none rows page place split (λ q. same_page q page) (λ q h. differs-before q page h) r up at within other
@@ -97,7 +97,7 @@ module _ (rows : List Row) (stream from place : ℕ) (split : SplitsAt rows (rec
   pub from-past : length rows ≤ place → find (λ x. is_from stream from x.page) rows ≡ None
   from-past = first-past rows (record { stream = stream; page = from }) place split (is_from stream from) (λ q h. before-from q stream from h)
 
-  pub from-none : (r : Row) → IsAscending rows → r ≡ get_or rows place r → place < length rows → is_from stream from r.page ≡ false → find (λ x. is_from stream from x.page) rows ≡ None
+  pub from-none : (r : Row) → RowsAscend rows → r ≡ get_or rows place r → place < length rows → is_from stream from r.page ≡ false → find (λ x. is_from stream from x.page) rows ≡ None
   from-none r up at within other =
       first-none rows (record { stream = stream; page = from }) place split (is_from stream from) (λ q h. before-from q stream from h) r up at within other
       (λ q h. after-from r.page q stream from (not-before rows (record { stream = stream; page = from }) place r split at within) other h)
@@ -116,7 +116,7 @@ module _ (rows : List Row) (stream from to place : ℕ) (split : SplitsAt rows (
   pub between-past : length rows ≤ place → find (λ x. is_between stream from to x.page) rows ≡ None
   between-past = first-past rows (record { stream = stream; page = from }) place split (is_between stream from to) (λ q h. before-between q stream from to h)
 
-  pub between-none : (r : Row) → IsAscending rows → r ≡ get_or rows place r → place < length rows → is_between stream from to r.page ≡ false → find (λ x. is_between stream from to x.page) rows ≡ None
+  pub between-none : (r : Row) → RowsAscend rows → r ≡ get_or rows place r → place < length rows → is_between stream from to r.page ≡ false → find (λ x. is_between stream from to x.page) rows ≡ None
   between-none r up at within other =
       first-none rows (record { stream = stream; page = from }) place split (is_between stream from to) (λ q h. before-between q stream from to h) r up at within other
       (λ q h. after-between r.page q stream from to (not-before rows (record { stream = stream; page = from }) place r split at within) other h)
@@ -147,7 +147,7 @@ module _ (rows : List Row) (place : ℕ) (sound : Sound rows) where
         let r = some-of (slice_get rows place) (λ x. same_page x.page row.page ≡ true) at in
         find-set (λ x. same_page x.page row.page) rows place r.0 row r.1 (same-refl row.page) fails
 
-    pub KeepsOthers-set : IsSomeAnd (slice_get rows place) (λ r. same_page r.page row.page ≡ true) → KeepsOthers rows (set rows place row) row.page
+    pub KeepsOthers-set : IsSomeAnd (slice_get rows place) (λ r. same_page r.page row.page ≡ true) → KeepsOtherRows rows (set rows place row) row.page
     KeepsOthers-set at q other =
         let r = some-of (slice_get rows place) (λ x. same_page x.page row.page ≡ true) at in
         find-set-other (λ x. same_page x.page q) rows place r.0 row r.1 (same-differs r.0.page row.page q r.2 other) (differs-sym q row.page other)
@@ -165,7 +165,7 @@ module _ (rows : List Row) (place : ℕ) (sound : Sound rows) where
     pub row_of-insert : place ≤ length rows → row_of (insert rows place row) row.page ≡ Some row
     row_of-insert le = find-insert (λ x. same_page x.page row.page) rows place row (same-refl row.page) le fails
 
-    pub KeepsOthers-insert : KeepsOthers rows (insert rows place row) row.page
+    pub KeepsOthers-insert : KeepsOtherRows rows (insert rows place row) row.page
     KeepsOthers-insert q other = find-insert-other (λ x. same_page x.page q) rows place row (differs-sym q row.page other)
 
     pub Sound-insert : row_of rows row.page ≡ None → is_touched row ≡ true → row.page.stream < 16 → Sound (insert rows place row)
@@ -195,7 +195,7 @@ module _ (rows : List Row) (place : ℕ) (sound : Sound rows) where
           | inr from ↦ later k d (omega arith) lt
         ]
 
-    pub KeepsOthers-remove : KeepsOthers rows (remove rows place) page
+    pub KeepsOthers-remove : KeepsOtherRows rows (remove rows place) page
     KeepsOthers-remove q other =
         let r = some-of (slice_get rows place) (λ x. same_page x.page page ≡ true) at in
         find-remove-other (λ x. same_page x.page q) rows place r.0 r.1 (same-differs r.0.page page q r.2 other)

@@ -4,7 +4,7 @@ use Rattle.std.proofs.lemmas.Bool.{cases_lt}
 use Rattle.std.proofs.lemmas.Bool.Decides.{nat_tests}
 use Rattle.std.proofs.lemmas.List.{get_or_default}
 use Rattle.cc_entry.specs.Place.{Page}
-use Rattle.cc_dirty.specs.Order.{precedes, same_page, IsAscending, SplitsAt}
+use Rattle.cc_dirty.specs.Order.{precedes, same_page, RowsAscend, SplitsAt}
 use Rattle.cc_dirty.specs.declared.row.Row.{Row}
 
 pub precedes-trans : (a b c : Page) → precedes a b ≡ true → precedes b c ≡ true → precedes a c ≡ true
@@ -30,7 +30,7 @@ pub record Between (rows : List Row) (page : Page) (low high : ℕ) : Type 0 whe
 pub Between-start : (rows : List Row) (page : Page) → Between rows page 0 (length rows)
 Between-start rows page = record { before = λ k d h. absurd (omega arith); after = λ k d h lt. absurd (omega arith); in_order = omega arith; within = omega arith }
 
-pub Between-upper : (rows : List Row) (page : Page) (low high middle : ℕ) (r : Row) → IsAscending rows → Between rows page low high → low ≤ middle → middle < high
+pub Between-upper : (rows : List Row) (page : Page) (low high middle : ℕ) (r : Row) → RowsAscend rows → Between rows page low high → low ≤ middle → middle < high
     → r ≡ get_or rows middle r → precedes r.page page ≡ true → Between rows page (middle + 1) high
 Between-upper rows page low high middle r up b lo hi at pass = record {
   before = λ k d h. elim (cases_lt k middle) [
@@ -45,7 +45,7 @@ Between-upper rows page low high middle r up b lo hi at pass = record {
     passes : (k : ℕ) (d : Row) → k ≡ middle → precedes (get_or rows k d).page page ≡ true
     passes k d e = subst (λ (x : Row). precedes x.page page ≡ true) (sym (read-at rows k middle r d at (omega (arith, b.within)) e)) pass
 
-pub Between-lower : (rows : List Row) (page : Page) (low high middle : ℕ) (r : Row) → IsAscending rows → Between rows page low high → low ≤ middle → middle < high
+pub Between-lower : (rows : List Row) (page : Page) (low high middle : ℕ) (r : Row) → RowsAscend rows → Between rows page low high → low ≤ middle → middle < high
     → r ≡ get_or rows middle r → precedes r.page page ≡ false → Between rows page low middle
 Between-lower rows page low high middle r up b lo hi at fail = record {
   before = b.before;

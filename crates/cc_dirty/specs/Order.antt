@@ -18,8 +18,8 @@ abbrev pub is_between : ℕ → ℕ → ℕ → Page → Bool
 is_between stream from to q = is_from stream from q && nat_lt q.page to
 
 -- rows stand in the order of their pages, one for each page
-abbrev pub IsAscending : List Row → Type 0
-IsAscending rows = AllPairs (λ a b. precedes a.page b.page ≡ true) rows
+abbrev pub RowsAscend : List Row → Type 0
+RowsAscend rows = AllPairs (λ a b. precedes a.page b.page ≡ true) rows
 
 -- the rows before this place precede the page, and the others don't
 pub record SplitsAt (rows : List Row) (page : Page) (place : ℕ) : Type 0 where

@@ -1,7 +1,7 @@
 -- The dirty page table.
 use Rattle.std.specs.Prelude.{◌≡◌, ℕ, ◌<◌, ◌==◌, Bool, true, false, not, All, List, Option, None, Some, find, filter}
 use Rattle.cc_entry.specs.Place.{Page}
-use Rattle.cc_dirty.specs.Order.{same_page, IsAscending}
+use Rattle.cc_dirty.specs.Order.{same_page, RowsAscend}
 use Rattle.cc_dirty.specs.Unwritten.{is_touched}
 use Rattle.cc_dirty.specs.declared.row.Row.{Row}
 
@@ -20,8 +20,8 @@ new_rows None = 1
 new_rows (Some row) = 0
 
 -- every other page has the row that it had
-abbrev pub KeepsOthers : List Row → List Row → Page → Type 0
-KeepsOthers old new page = (q : Page) → same_page q page ≡ false → row_of new q ≡ row_of old q
+abbrev pub KeepsOtherRows : List Row → List Row → Page → Type 0
+KeepsOtherRows old new page = (q : Page) → same_page q page ≡ false → row_of new q ≡ row_of old q
 
 -- the pages that are picked lost their rows, and every other page has the row that it had
 pub record DropsPages (picks : Page → Bool) (old new : List Row) : Type 0 where
@@ -30,11 +30,11 @@ pub record DropsPages (picks : Page → Bool) (old new : List Row) : Type 0 wher
   pub others : (q : Page) → picks q ≡ false → row_of new q ≡ row_of old q
 
 -- whether a row is of this stream
-abbrev pub is_of : ℕ → Row → Bool
-is_of stream r = r.page.stream == stream
+abbrev pub is_row_of_stream : ℕ → Row → Bool
+is_row_of_stream stream r = r.page.stream == stream
 
 -- rows in the order of their pages, each touched, and of one of the 16 streams
 pub record Sound (rows : List Row) : Type 0 where
-  pub ascending : IsAscending rows
+  pub ascending : RowsAscend rows
   pub touched : All (λ r. is_touched r ≡ true) rows
   pub numbered : All (λ r. r.page.stream < 16) rows

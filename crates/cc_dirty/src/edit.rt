@@ -3,7 +3,7 @@
 ghost use Rattle.std.specs.Prelude.{◌≡◌, ◌+◌, ◌<◌, ◌≤◌, true, None, Some, IfSome, IsSomeAnd, length, slice_get, filter, not};
 ghost use Rattle.cc_dirty.specs.Order.{same_page, is_from, is_between, SplitsAt};
 ghost use Rattle.cc_dirty.specs.Unwritten.{is_touched};
-ghost use Rattle.cc_dirty.specs.Table.{row_of, KeepsOthers, Sound};
+ghost use Rattle.cc_dirty.specs.Table.{row_of, KeepsOtherRows, Sound};
 
 use crate::find::{first_between, first_from, place_of};
 use crate::live::LiveRows;
@@ -44,7 +44,7 @@ pub(crate) fn replace(rows: &mut LiveRows, place: usize, row: Row)
     requires touched { is_touched row ≡ true }
     requires numbered { row.page.stream < 16 }
     ensures row { row_of rows.new.rows row.page ≡ Some row }
-    ensures others { KeepsOthers rows.old.rows rows.new.rows row.page }
+    ensures others { KeepsOtherRows rows.old.rows rows.new.rows row.page }
     ensures sound { Sound rows.new.rows }
     ensures len { length rows.new.rows ≡ length rows.old.rows }
     ensures capacity { rows.new.capacity ≡ rows.old.capacity }
@@ -62,7 +62,7 @@ pub(crate) fn insert(rows: &mut LiveRows, place: usize, row: Row)
     requires numbered { row.page.stream < 16 }
     requires room { length rows.old.rows < rows.old.capacity }
     ensures row { row_of rows.new.rows row.page ≡ Some row }
-    ensures others { KeepsOthers rows.old.rows rows.new.rows row.page }
+    ensures others { KeepsOtherRows rows.old.rows rows.new.rows row.page }
     ensures sound { Sound rows.new.rows }
     ensures len { length rows.new.rows ≡ length rows.old.rows + 1 }
     ensures capacity { rows.new.capacity ≡ rows.old.capacity }
@@ -76,7 +76,7 @@ pub(crate) fn remove(rows: &mut LiveRows, place: usize, page: PageId)
     requires split { SplitsAt rows.old.rows page place }
     requires at { IsSomeAnd (slice_get rows.old.rows place) (λ r. same_page r.page page ≡ true) }
     ensures row { row_of rows.new.rows page ≡ None }
-    ensures others { KeepsOthers rows.old.rows rows.new.rows page }
+    ensures others { KeepsOtherRows rows.old.rows rows.new.rows page }
     ensures sound { Sound rows.new.rows }
     ensures len { length rows.new.rows ≤ length rows.old.rows }
     ensures capacity { rows.new.capacity ≡ rows.old.capacity }

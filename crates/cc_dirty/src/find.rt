@@ -1,14 +1,14 @@
 //! Where a page's row stands, and which is the first of a stream's pages from one on, by binary search.
 
 ghost use Rattle.std.specs.Prelude.{◌≡◌, ◌≤◌, length, find};
-ghost use Rattle.cc_dirty.specs.Order.{IsAscending, SplitsAt, is_from, is_between};
+ghost use Rattle.cc_dirty.specs.Order.{RowsAscend, SplitsAt, is_from, is_between};
 
 use crate::row::{Row, is_between, is_from, precedes};
 use cc_entry::StreamId;
 
 /// The place of the first row that doesn't stand before the page of this stream and number.
 pub(crate) fn place_of(rows: &[Row], stream: StreamId, number: u64) -> usize
-    requires { IsAscending rows.now }
+    requires { RowsAscend rows.now }
     ensures split { SplitsAt rows.now (record { stream = stream; page = number }) result }
     ensures within { result ≤ length rows.now }
 {
@@ -27,7 +27,7 @@ pub(crate) fn place_of(rows: &[Row], stream: StreamId, number: u64) -> usize
 
 /// The first row of a stream's pages from this number on.
 pub(crate) fn first_from(rows: &[Row], stream: StreamId, from: u64) -> Option<Row>
-    requires { IsAscending rows.now }
+    requires { RowsAscend rows.now }
     ensures { result ≡ find (λ r. is_from stream from r.page) rows.now }
 {
     let place = place_of(rows, stream, from);
@@ -44,7 +44,7 @@ pub(crate) fn first_from(rows: &[Row], stream: StreamId, from: u64) -> Option<Ro
 
 /// The first row of a stream's pages from `from` up to, and without, `to`.
 pub(crate) fn first_between(rows: &[Row], stream: StreamId, from: u64, to: u64) -> Option<Row>
-    requires { IsAscending rows.now }
+    requires { RowsAscend rows.now }
     ensures { result ≡ find (λ r. is_between stream from to r.page) rows.now }
 {
     let place = place_of(rows, stream, from);

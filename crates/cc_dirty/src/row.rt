@@ -25,10 +25,10 @@ pub struct Row {
 
 impl Unwritten {
     ghost use Rattle.std.specs.Prelude.{◌≡◌};
-    ghost use Rattle.cc_dirty.specs.Unwritten.{nothing, joined, with_touch};
+    ghost use Rattle.cc_dirty.specs.Unwritten.{nothing_unwritten, joined_unwritten, with_touch};
 
     fn nothing() -> Unwritten
-        ensures { result ≡ nothing }
+        ensures { result ≡ nothing_unwritten }
     {
         Unwritten {
             oldest: None,
@@ -37,7 +37,7 @@ impl Unwritten {
     }
 
     fn joined(self, other: Unwritten) -> Unwritten
-        ensures { result ≡ joined self other }
+        ensures { result ≡ joined_unwritten self other }
     {
         Unwritten {
             oldest: lower(self.oldest, other.oldest),
@@ -57,7 +57,7 @@ impl Unwritten {
 
 impl Row {
     ghost use Rattle.std.specs.Prelude.{◌≡◌, None, Some};
-    ghost use Rattle.cc_dirty.specs.Unwritten.{touched_row, begun_row, ended_row, oldest_in, is_touched};
+    ghost use Rattle.cc_dirty.specs.Unwritten.{touched_row, begun_row, ended_row, oldest_unwritten_in, is_touched};
 
     pub(crate) fn new(page: PageId, place: u64, lsn: Option<Lsn>) -> Row
         ensures { result ≡ touched_row page place lsn None }
@@ -105,7 +105,7 @@ impl Row {
 
     /// The place of the oldest touch of the page that is unwritten: one that a transfer under way took, or a later one.
     pub fn oldest(&self) -> Option<u64>
-        ensures { result ≡ oldest_in self.now }
+        ensures { result ≡ oldest_unwritten_in self.now }
     {
         lower(self.begun.oldest, self.later.oldest)
     }

@@ -2,9 +2,9 @@
 
 ghost use Rattle.std.specs.Prelude.{◌≡◌, ◌+◌, ◌<◌, ◌≤◌, ◌⊎◌, [], All, true, length, Some, IsSome, find, OnOk, OnErr, count_by};
 ghost use Rattle.std.specs.Option.{option_map, option_and_then};
-ghost use Rattle.cc_dirty.specs.Order.{IsAscending, is_from, is_between};
+ghost use Rattle.cc_dirty.specs.Order.{RowsAscend, is_from, is_between};
 ghost use Rattle.cc_dirty.specs.Unwritten.{touched_row, begun_row, ended_row, kept_row, is_touched};
-ghost use Rattle.cc_dirty.specs.Table.{row_of, new_rows, KeepsOthers, DropsPages, is_of, Sound};
+ghost use Rattle.cc_dirty.specs.Table.{row_of, new_rows, KeepsOtherRows, DropsPages, is_row_of_stream, Sound};
 
 use crate::edit::{drop_between, drop_from, find, insert, remove, replace};
 use crate::find::{first_between, first_from};
@@ -85,7 +85,7 @@ impl DirtyTable {
 
     /// How many pages of a stream are dirty.
     pub fn total(&self, stream: StreamId) -> u32
-        ensures count { result ≡ count_by (is_of stream) self.now.rows }
+        ensures count { result ≡ count_by (is_row_of_stream stream) self.now.rows }
         ensures sound { Sound self.now.rows }
     {
         self.rows
@@ -99,7 +99,7 @@ impl DirtyTable {
     pub fn touch(&mut self, page: PageId, place: u64, lsn: Option<Lsn>)
         requires { IsSome (row_of self.old.rows page) ⊎ (length self.old.rows < self.old.capacity) }
         ensures row { row_of self.new.rows page ≡ Some (touched_row page place lsn (row_of self.old.rows page)) }
-        ensures others { KeepsOthers self.old.rows self.new.rows page }
+        ensures others { KeepsOtherRows self.old.rows self.new.rows page }
         ensures len { length self.new.rows ≡ length self.old.rows + new_rows (row_of self.old.rows page) }
         ensures capacity { self.new.capacity ≡ self.old.capacity }
     {
@@ -112,7 +112,7 @@ impl DirtyTable {
     /// Notes a WriteBegin of a page: it takes what is unwritten so far.
     pub fn begin(&mut self, page: PageId)
         ensures row { row_of self.new.rows page ≡ option_map begun_row (row_of self.old.rows page) }
-        ensures others { KeepsOthers self.old.rows self.new.rows page }
+        ensures others { KeepsOtherRows self.old.rows self.new.rows page }
         ensures capacity { self.new.capacity ≡ self.old.capacity }
     {
         if let (place, Some(row)) = find(self.rows.as_slice(), page) {
@@ -124,7 +124,7 @@ impl DirtyTable {
     pub fn end(&mut self, page: PageId, ok: bool)
         ensures row { row_of self.new.rows page
             ≡ option_and_then (λ r. kept_row (ended_row ok r)) (row_of self.old.rows page) }
-        ensures others { KeepsOthers self.old.rows self.new.rows page }
+        ensures others { KeepsOtherRows self.old.rows self.new.rows page }
         ensures capacity { self.new.capacity ≡ self.old.capacity }
     {
         if let (place, Some(row)) = find(self.rows.as_slice(), page) {

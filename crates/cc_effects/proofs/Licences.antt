@@ -24,7 +24,7 @@ use Rattle.cc_effects.specs.Moments.{own, EachOwn, PlacedOnly, AtSome}
 use Rattle.cc_effects.specs.Asked.{Calls}
 use Rattle.cc_effects.specs.Places.{MayPlace}
 use Rattle.cc_effects.specs.Calls.{IsPlaced, IsDone, IsFaulted, IsUnplaced, CallLeft, leaves_entry}
-use Rattle.cc_effects.specs.Licences.{IsLicensed, is_call, is_told, shows_fault}
+use Rattle.cc_effects.specs.Licences.{IsLicensed, is_call_entry, is_fault_told, shows_told_fault}
 use Rattle.cc_effects.proofs.Stretches.{own-append, own-others, each-others, each-append, each-implies}
 use Rattle.cc_effects.proofs.FrontLaws.{placed-of}
 
@@ -68,27 +68,27 @@ own-middle me test xs e ys mine is =
     rw middle (any-middle test (own me xs) e (own me ys) is)
 
 -- a call that leaves an entry has one
-pub has-entry : (u : Setup) (me : ℕ) (it : Call) (answered : Outcome) (during old : List Entry) → CallLeft u me it answered old (during ++ old) → leaves_entry answered ≡ true → list_any is_call (own me during) ≡ true
+pub has-entry : (u : Setup) (me : ℕ) (it : Call) (answered : Outcome) (during old : List Entry) → CallLeft u me it answered old (during ++ old) → leaves_entry answered ≡ true → list_any is_call_entry (own me during) ≡ true
 has-entry u me it answered during old left leaves =
     let p = placed-of u me it answered old (during ++ old) left leaves in
-    rw (placed-split me it answered p.0 during old p.1) (own-middle me is_call p.1.later (entry.Call me p.1.nth p.1.stream it answered) p.0 (eq-eqb me me refl) refl)
+    rw (placed-split me it answered p.0 during old p.1) (own-middle me is_call_entry p.1.later (entry.Call me p.1.nth p.1.stream it answered) p.0 (eq-eqb me me refl) refl)
 
-shown : (me : ℕ) (it : Call) (e : CcError) (during old : List Entry) → IsFaulted me it e old (during ++ old) → shows_fault me it e during ≡ true
+shown : (me : ℕ) (it : Call) (e : CcError) (during old : List Entry) → IsFaulted me it e old (during ++ old) → shows_told_fault me it e during ≡ true
 shown me it e during old f =
     let split : during ≡ (f.placed.later ++ (entry.Call me f.placed.nth f.placed.stream it (outcome.Failed e) ∷ f.stopped.since)) ++ (f.stop ∷ f.stopped.before) =
     placed-split me it (outcome.Failed e) f.earlier during old f.placed
     ∙ (ap (λ l. f.placed.later ++ (entry.Call me f.placed.nth f.placed.stream it (outcome.Failed e) ∷ l)) f.stopped.split
     ∙ sym (append_assoc f.placed.later (entry.Call me f.placed.nth f.placed.stream it (outcome.Failed e) ∷ f.stopped.since) (f.stop ∷ f.stopped.before))) in
-    rw split (own-middle me (λ stop. is_told it e (fault_of me stop)) (f.placed.later ++ (entry.Call me f.placed.nth f.placed.stream it (outcome.Failed e) ∷ f.stopped.since)) f.stop f.stopped.before f.stopped.is_own (rw f.told.shown f.told.told))
+    rw split (own-middle me (λ stop. is_fault_told it e (fault_of me stop)) (f.placed.later ++ (entry.Call me f.placed.nth f.placed.stream it (outcome.Failed e) ∷ f.stopped.since)) f.stop f.stopped.before f.stopped.is_own (rw f.told.shown f.told.told))
 
 -- a call that is told a fault has the entry that shows it, of its own pass and since it began
-pub read-fault-shown : (u : Setup) (me : ℕ) (it : Call) (page : ℕ) (during old : List Entry) → CallLeft u me it (outcome.Failed (error.ReadFault page)) old (during ++ old) → shows_fault me it (error.ReadFault page) during ≡ true
+pub read-fault-shown : (u : Setup) (me : ℕ) (it : Call) (page : ℕ) (during old : List Entry) → CallLeft u me it (outcome.Failed (error.ReadFault page)) old (during ++ old) → shows_told_fault me it (error.ReadFault page) during ≡ true
 read-fault-shown u me it page during old left = shown me it (error.ReadFault page) during old left
 
-pub write-fault-shown : (u : Setup) (me : ℕ) (it : Call) (page : ℕ) (during old : List Entry) → CallLeft u me it (outcome.Failed (error.WriteFault page)) old (during ++ old) → shows_fault me it (error.WriteFault page) during ≡ true
+pub write-fault-shown : (u : Setup) (me : ℕ) (it : Call) (page : ℕ) (during old : List Entry) → CallLeft u me it (outcome.Failed (error.WriteFault page)) old (during ++ old) → shows_told_fault me it (error.WriteFault page) during ≡ true
 write-fault-shown u me it page during old left = shown me it (error.WriteFault page) during old left
 
-pub log-fault-shown : (u : Setup) (me : ℕ) (it : Call) (handle : ℕ) (during old : List Entry) → CallLeft u me it (outcome.Failed (error.LogFault handle)) old (during ++ old) → shows_fault me it (error.LogFault handle) during ≡ true
+pub log-fault-shown : (u : Setup) (me : ℕ) (it : Call) (handle : ℕ) (during old : List Entry) → CallLeft u me it (outcome.Failed (error.LogFault handle)) old (during ++ old) → shows_told_fault me it (error.LogFault handle) during ≡ true
 log-fault-shown u me it handle during old left = shown me it (error.LogFault handle) during old left
 
 -- what was placed alone is the one entry of the pass

@@ -19,7 +19,7 @@ use Rattle.cc_model.specs.Setup.{Setup}
 use Rattle.cc_model.specs.Holds.{Hold, range_held}
 use Rattle.cc_effects.specs.Moments.{Others, IsIdle}
 use Rattle.cc_effects.specs.Asked.{Calls}
-use Rattle.cc_effects.specs.Noncached.{shape_refusal, pages_from, MisshapenLeft, IsUntold, EndsShort, PagesRead, PageReadsRefused, AlignedReadLeft, ShapedReadLeft, NcReadLeft, IsTransferred, IsPageWritten, TransferRefused, PageRefused, PagesWritten, AlignedWriteLeft, ShapedWriteLeft, NcWriteLeft}
+use Rattle.cc_effects.specs.Noncached.{shape_refusal, pages_from, MisshapenLeft, IsUntold, EndsShort, PagesRead, PageReadsRefused, AlignedReadLeft, ShapedReadLeft, NcReadLeft, StoreIsTransferred, IsPageWritten, TransferRefused, PageRefused, PagesWritten, AlignedWriteLeft, ShapedWriteLeft, NcWriteLeft}
 use Rattle.cc_effects.specs.Repins.{IsHoldEnded, UnpinLeft}
 use Rattle.cc_effects.proofs.Stretches.{others-append, idle-then, only-after, only-before, grew-after}
 use Rattle.cc_effects.proofs.WorkSteps.{works-others, works-append, unsynced-others, unstopped-others, unstopped-append}
@@ -104,7 +104,7 @@ nc-read-after u me file at len answered old new newer left idle = shaped-read-af
 pub nc-read-before : (u : Setup) (me : ℕ) (file : File) (at len : ℕ) (answered : Result (List ℕ) (ℕ × CcError)) (older old new : List Entry) → IsIdle me older old → NcReadLeft u me file at len answered old new → NcReadLeft u me file at len answered older new
 nc-read-before u me file at len answered older old new idle left = shaped-read-before u me file at len (shape_refusal at len) answered older old new idle left
 
-abbrev transferred-behind : (me : ℕ) (file : File) (page : ℕ) (bytes : List ℕ) (end : End) (gap older new : List Entry) → Others me gap → IsTransferred me file page bytes end (gap ++ older) new → IsTransferred me file page bytes end older new
+abbrev transferred-behind : (me : ℕ) (file : File) (page : ℕ) (bytes : List ℕ) (end : End) (gap older new : List Entry) → Others me gap → StoreIsTransferred me file page bytes end (gap ++ older) new → StoreIsTransferred me file page bytes end older new
 transferred-behind me file page bytes end gap older new others is = record {
   nth = is.nth;
   earlier = is.earlier ++ gap;

@@ -16,7 +16,7 @@ use Rattle.cc_model.specs.Ranges.{range_of, span_has}
 use Rattle.cc_model.specs.Touches.{size_of, dirty_pages}
 use Rattle.cc_model.specs.Refusals.{step_refusal}
 use Rattle.cc_model.specs.Settings.{quota_of}
-use Rattle.cc_model.specs.Residency.{is_resident, block_is_mapped, mapped_blocks, order_of_use}
+use Rattle.cc_model.specs.Residency.{is_resident, block_is_mapped, mapped_block_count, order_of_use}
 use Rattle.cc_model.specs.Passes.{store_of, is_same_page, is_the_page, is_written_since}
 
 -- what is under way: a call that has an entry of its own, or the writing of pages that the lazy writer
@@ -26,9 +26,9 @@ pub data Work : Type 0 where
   Writes : (pages : List Page) → Work
 
 -- whether the file is one of the page's stream
-abbrev pub is_of : Option File → Page → Bool
-is_of None page = false
-is_of (Some file) page = file.stream == page.stream
+abbrev pub is_file_of_page : Option File → Page → Bool
+is_file_of_page None page = false
+is_file_of_page (Some file) page = file.stream == page.stream
 
 -- whether the range, where there is one, has the page
 abbrev pub range_has : Option Range → ℕ → Bool
@@ -42,7 +42,7 @@ is_admitted it s past = not (is_some (step_refusal (history past s) it))
 -- whether a page is of the range of a call, as the stream stands
 abbrev pub reaches : Call → Page → List Entry → Bool
 reaches it page past =
-    is_of (file_of it) page && range_has (range_of (size_of (history past page.stream)) it) page.page
+    is_file_of_page (file_of it) page && range_has (range_of (size_of (history past page.stream)) it) page.page
 
 -- Whether a call brings in pages of its range. A noncached call brings none in, nor does a read that may
 -- not wait; the other calls have no range.
@@ -85,14 +85,14 @@ is_number n (Some m) = m == n
 abbrev pub goes_for : List Effect → Option Range → ℕ → Bool
 goes_for h None p = false
 goes_for h (Some r) p =
-    mapped_blocks h == quota_of h
+    mapped_block_count h == quota_of h
     && (list_any (λ b. not (block_is_mapped h b)) (blocks_of r) && is_number (block_of p) (block_to_go h r))
 
 -- whether a page goes, or is written before it goes, to make room for a call that nothing refuses
 abbrev pub is_in_the_way : Call → Page → List Entry → Bool
 is_in_the_way it page past =
     makes_room it
-    && (is_of (file_of it) page
+    && (is_file_of_page (file_of it) page
     && (is_admitted it page.stream past
     && (let h = history past page.stream in goes_for h (range_of (size_of h) it) page.page)))
 

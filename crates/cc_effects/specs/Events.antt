@@ -42,8 +42,8 @@ use Rattle.cc_effects.specs.declared.events.StepReply.{StepReply}
 use Rattle.cc_effects.specs.declared.events.StepReply.TheVariants as step
 
 -- the entry of a page that comes in: from the disk where it has a byte below the valid data length
-abbrev pub page_in : List Entry → ℕ → Page → Entry
-page_in past pass page = entry.PageIn pass page (nat_lt (4096 * page.page) (valid_of (history past page.stream)))
+abbrev pub page_in_entry : List Entry → ℕ → Page → Entry
+page_in_entry past pass page = entry.PageIn pass page (nat_lt (4096 * page.page) (valid_of (history past page.stream)))
 
 -- the pass that began a transfer, where there is one
 abbrev pub beginner : Option Transfer → ℕ
@@ -121,7 +121,7 @@ MayStandIf u past (Some e) = MayStand u past e
 -- and that of a transfer's end is of the pass that began it. The events of a log, and a scan, a deferral and a post, may
 -- always happen.
 abbrev pub MayHappen : {Q : Type 0} → Setup → List Entry → Event Q → Type 0
-MayHappen u past (event.Fill pass page) = MayStand u past (page_in past pass page)
+MayHappen u past (event.Fill pass page) = MayStand u past (page_in_entry past pass page)
 MayHappen u past (event.Drop page) = MayStand u past (entry.PageOut 1 page)
 MayHappen u past (event.WriteBegin pass page) = MayStand u past (entry.WriteBegin pass page)
 MayHappen u past (event.WriteEnd page) = MayStand u past (write_end past page how.Good)
@@ -148,19 +148,19 @@ place_on (Some s) = OnStream s
 abbrev pub log_place : Setup → ℕ → Where
 log_place u handle = if nat_lt handle u.logs then OnLog handle else Nowhere
 
-abbrev pub place_of : {Q : Type 0} → Setup → List Entry → Event Q → Where
-place_of u past (event.Fill pass page) = OnStream page.stream
-place_of u past (event.Drop page) = OnStream page.stream
-place_of u past (event.WriteBegin pass page) = OnStream page.stream
-place_of u past (event.WriteEnd page) = OnStream page.stream
-place_of u past (event.Sync pass stream) = OnStream stream
-place_of u past (event.Do pass it) = place_on (filed_under past it)
-place_of u past (event.Fail pass it) = place_on (filed_under past it)
-place_of u past (event.Append pass handle bytes) = log_place u handle
-place_of u past (event.LogFlush pass handle to) = log_place u handle
-place_of u past (event.Scan pass) = OnJournal
-place_of u past (event.Defer pass file bytes retrying routine) = OnJournal
-place_of u past (event.Post pass) = OnJournal
+abbrev pub place_of_event : {Q : Type 0} → Setup → List Entry → Event Q → Where
+place_of_event u past (event.Fill pass page) = OnStream page.stream
+place_of_event u past (event.Drop page) = OnStream page.stream
+place_of_event u past (event.WriteBegin pass page) = OnStream page.stream
+place_of_event u past (event.WriteEnd page) = OnStream page.stream
+place_of_event u past (event.Sync pass stream) = OnStream stream
+place_of_event u past (event.Do pass it) = place_on (filed_under past it)
+place_of_event u past (event.Fail pass it) = place_on (filed_under past it)
+place_of_event u past (event.Append pass handle bytes) = log_place u handle
+place_of_event u past (event.LogFlush pass handle to) = log_place u handle
+place_of_event u past (event.Scan pass) = OnJournal
+place_of_event u past (event.Defer pass file bytes retrying routine) = OnJournal
+place_of_event u past (event.Post pass) = OnJournal
 
 -- whether there is the stream that an event names; a log that there is not is told
 abbrev pub NamesOf : ℕ → Option File → Type 0
@@ -208,19 +208,19 @@ goes_first u past [] = false
 goes_first u past (head ∷ rest) = may_go u past head.file.stream head.pages
 
 -- How many places of the journal an event asks. A flush of a log that reached the LSN, and a post of nothing, ask none.
-abbrev pub asked_by : {Q : Type 0} → Setup → List Entry → Event Q → ℕ
-asked_by u past (event.Fill pass page) = 1
-asked_by u past (event.Drop page) = 1
-asked_by u past (event.WriteBegin pass page) = 2
-asked_by u past (event.WriteEnd page) = 0
-asked_by u past (event.Sync pass stream) = 1
-asked_by u past (event.Do pass it) = asked_for past pass it (reason_of u past it)
-asked_by u past (event.Fail pass it) = asked_to_fail past pass it
-asked_by u past (event.Append pass handle bytes) = 1
-asked_by u past (event.LogFlush pass handle to) = if nat_le to (flushed_to past handle) then 0 else 1
-asked_by u past (event.Scan pass) = 1
-asked_by u past (event.Defer pass file bytes retrying routine) = 1
-asked_by u past (event.Post pass) = if goes_first u past (queue past) then 1 else 0
+abbrev pub asked_by_event : {Q : Type 0} → Setup → List Entry → Event Q → ℕ
+asked_by_event u past (event.Fill pass page) = 1
+asked_by_event u past (event.Drop page) = 1
+asked_by_event u past (event.WriteBegin pass page) = 2
+asked_by_event u past (event.WriteEnd page) = 0
+asked_by_event u past (event.Sync pass stream) = 1
+asked_by_event u past (event.Do pass it) = asked_for past pass it (reason_of u past it)
+asked_by_event u past (event.Fail pass it) = asked_to_fail past pass it
+asked_by_event u past (event.Append pass handle bytes) = 1
+asked_by_event u past (event.LogFlush pass handle to) = if nat_le to (flushed_to past handle) then 0 else 1
+asked_by_event u past (event.Scan pass) = 1
+asked_by_event u past (event.Defer pass file bytes retrying routine) = 1
+asked_by_event u past (event.Post pass) = if goes_first u past (queue past) then 1 else 0
 
 -- what a done call places: its entry, and behind that of a noncached store the begin of the page's transfer
 abbrev pub entries_done : List Entry → ℕ → Call → Reply → List Entry
@@ -232,7 +232,7 @@ entries_done past pass it r = call_entry past pass it (outcome.Done r) ∷ []
 -- What was placed by an event, by what it was replied. A refusal for want of room or of memory, and a fault, are said
 -- apart.
 abbrev pub Answers : {Q : Type 0} → Setup → List Entry → Event Q → StepReply Q → List Entry → Type 0
-Answers u past (event.Fill pass page) (step.Done reply.Unit) added = added ≡ page_in past pass page ∷ []
+Answers u past (event.Fill pass page) (step.Done reply.Unit) added = added ≡ page_in_entry past pass page ∷ []
 Answers u past (event.Drop page) (step.Done reply.Unit) added = added ≡ entry.PageOut 1 page ∷ []
 Answers u past (event.WriteBegin pass page) (step.Done reply.Unit) added = added ≡ entry.WriteBegin pass page ∷ []
 Answers u past (event.WriteEnd page) (step.Done reply.Unit) added = added ≡ write_end past page how.Good ∷ []

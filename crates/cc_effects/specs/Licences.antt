@@ -23,15 +23,15 @@ IsEntryOf it answered other = ⊥
 abbrev pub IsLicensed : ℕ → Call → Outcome → List Entry → List Entry → Entry → Type 0
 IsLicensed me it answered old past e = IsEntryOf it answered e ⊎ MayPlace me (Calls it) old past e
 
-abbrev pub is_call : Entry → Bool
-is_call (entry.Call pass nth stream call ended) = true
-is_call other = false
+abbrev pub is_call_entry : Entry → Bool
+is_call_entry (entry.Call pass nth stream call ended) = true
+is_call_entry other = false
 
 -- whether a fault, where there is one, is told by a refusal of the call
-abbrev pub is_told : Call → CcError → Option Fault → Bool
-is_told it e None = false
-is_told it e (Some fault) = tells it e fault
+abbrev pub is_fault_told : Call → CcError → Option Fault → Bool
+is_fault_told it e None = false
+is_fault_told it e (Some fault) = tells it e fault
 
 -- whether an entry of the pass shows the fault that a refusal of the call tells
-abbrev pub shows_fault : ℕ → Call → CcError → List Entry → Bool
-shows_fault me it e during = list_any (λ stop. is_told it e (fault_of me stop)) (own me during)
+abbrev pub shows_told_fault : ℕ → Call → CcError → List Entry → Bool
+shows_told_fault me it e during = list_any (λ stop. is_fault_told it e (fault_of me stop)) (own me during)

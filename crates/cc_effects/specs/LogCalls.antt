@@ -9,8 +9,8 @@ use Rattle.cc_model.specs.Logs.{flushed_to, floor_of}
 use Rattle.cc_effects.specs.Moments.{IsIdle, PlacedOnly, AtSome, Between}
 
 -- a log failed in the hands of the pass, which placed that alone
-abbrev pub HasFailed : Setup → ℕ → ℕ → Between
-HasFailed u me handle old new = (handle < u.logs) × PlacedOnly me (entry.LogFailed me handle) old new
+abbrev pub LogHasFailed : Setup → ℕ → ℕ → Between
+LogHasFailed u me handle old new = (handle < u.logs) × PlacedOnly me (entry.LogFailed me handle) old new
 
 -- What a refused append or flush of a log left: a log that failed leaves that entry, and any other refusal
 -- nothing. There is no log of the handle; it has used every LSN; or room or memory were wanting.
@@ -19,7 +19,7 @@ AppendRefused u me handle (error.NoLog missing) old new = (missing ≡ handle) �
 AppendRefused u me handle (error.LogFull full) old new =
     (full ≡ handle) × AtSome (λ moment. floor_of moment handle ≡ 2 ^ 62) old new × IsIdle me old new
 AppendRefused u me handle (error.LogFault failed) old new =
-    (failed ≡ handle) × AtSome (λ moment. floor_of moment handle < 2 ^ 62) old new × HasFailed u me handle old new
+    (failed ≡ handle) × AtSome (λ moment. floor_of moment handle < 2 ^ 62) old new × LogHasFailed u me handle old new
 AppendRefused u me handle (error.JournalFull entries) old new = IsIdle me old new
 AppendRefused u me handle error.NoMemory old new = IsIdle me old new
 AppendRefused u me handle other old new = ⊥
@@ -38,7 +38,7 @@ pub record WasFlushed (me handle lsn : ℕ) (old new : List Entry) : Type 0 wher
 abbrev pub FlushRefused : Setup → ℕ → ℕ → ℕ → CcError → Between
 FlushRefused u me handle lsn (error.NoLog missing) old new = (missing ≡ handle) × (u.logs ≤ handle) × IsIdle me old new
 FlushRefused u me handle lsn (error.LogFault failed) old new =
-    (failed ≡ handle) × AtSome (λ moment. flushed_to moment handle < lsn) old new × HasFailed u me handle old new
+    (failed ≡ handle) × AtSome (λ moment. flushed_to moment handle < lsn) old new × LogHasFailed u me handle old new
 FlushRefused u me handle lsn (error.JournalFull entries) old new = IsIdle me old new
 FlushRefused u me handle lsn error.NoMemory old new = IsIdle me old new
 FlushRefused u me handle lsn other old new = ⊥

@@ -121,7 +121,7 @@ NcReadLeft u me file at len answered old new = ShapedReadLeft u me file at len (
 -- The bytes of one page came into the cache and went to the disk: the store with its begin, which is one
 -- event, and the end. What the pass placed before made room or flushed the log; between begin and end it
 -- placed nothing.
-pub record IsTransferred (me : ℕ) (file : File) (page : ℕ) (bytes : List ℕ) (end : End) (old new : List Entry) : Type 0 where
+pub record StoreIsTransferred (me : ℕ) (file : File) (page : ℕ) (bytes : List ℕ) (end : End) (old new : List Entry) : Type 0 where
   pub nth : ℕ
   pub earlier : List Entry
   pub waiting : List Entry
@@ -148,7 +148,7 @@ TakesOut me file page old past e =
 -- a page was written: stored, put on the disk, taken out again where it could be, and its end placed
 pub record IsPageWritten (me : ℕ) (file : File) (page : ℕ) (bytes : List ℕ) (count : ℕ) (old new : List Entry) : Type 0 where
   pub ended : List Entry
-  pub transferred : IsTransferred me file page bytes how.Good old ended
+  pub transferred : StoreIsTransferred me file page bytes how.Good old ended
   pub counted : count ≡ bytes_stored file.stream page (transferred.earlier ++ old)
   pub nth : ℕ
   pub later : List Entry
@@ -169,10 +169,10 @@ TransferRefused me file page bytes (error.WriteFault failed) old new =
     (failed ≡ page)
     × (ended : List Entry)
     × (nth : ℕ)
-    × IsTransferred me file page bytes how.Failed old ended
+    × StoreIsTransferred me file page bytes how.Failed old ended
     × PlacedOnly me (entry.Call me nth (Some file.stream) (call.NcWrite file page) (outcome.Failed (error.WriteFault failed))) ended new
 TransferRefused me file page bytes error.NoMemory old new =
-    (ended : List Entry) × IsTransferred me file page bytes how.NoMemory old ended × IsIdle me ended new
+    (ended : List Entry) × StoreIsTransferred me file page bytes how.NoMemory old ended × IsIdle me ended new
 TransferRefused me file page bytes other old new = ⊥
 
 -- a page was refused: before its store, which leaves the end of the write alone, or at its transfer

@@ -20,7 +20,7 @@ pub record WasNotCached (me : ℕ) (file : File) (old new : List Entry) : Type 0
   pub closed : AtSome (λ moment. is_open (history moment file.stream) file ≡ false) old new
 
 -- at a moment the object was cached, and 64 writes were deferred
-pub record WasFull (me : ℕ) (file : File) (old new : List Entry) : Type 0 where
+pub record QueueWasFull (me : ℕ) (file : File) (old new : List Entry) : Type 0 where
   pub idle : IsIdle me old new
   pub full : AtSome (λ moment. (is_open (history moment file.stream) file ≡ true) × (64 ≤ length (queue moment))) old new
 
@@ -28,7 +28,7 @@ pub record WasFull (me : ℕ) (file : File) (old new : List Entry) : Type 0 wher
 abbrev pub DeferLeft : ℕ → File → ℕ → Bool → Result ℕ CcError → Between
 DeferLeft me file bytes retrying (Ok id) old new = PlacedOnly me (entry.Defer me id file (pages_for bytes) retrying) old new
 DeferLeft me file bytes retrying (Err error.NotCached) old new = WasNotCached me file old new
-DeferLeft me file bytes retrying (Err error.QueueFull) old new = WasFull me file old new
+DeferLeft me file bytes retrying (Err error.QueueFull) old new = QueueWasFull me file old new
 DeferLeft me file bytes retrying (Err (error.JournalFull entries)) old new = IsIdle me old new
 DeferLeft me file bytes retrying (Err error.NoMemory) old new = IsIdle me old new
 DeferLeft me file bytes retrying (Err other) old new = ⊥

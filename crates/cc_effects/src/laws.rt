@@ -21,7 +21,7 @@ ghost use Rattle.cc_entry.specs.declared.reply.Outcome.TheVariants as outcome;
 ghost use Rattle.cc_effects.specs.Moments.{own, EachOwn, IsIdle};
 ghost use Rattle.cc_effects.specs.Asked.{Calls};
 ghost use Rattle.cc_effects.specs.Places.{MayPlace};
-ghost use Rattle.cc_effects.specs.Licences.{IsLicensed, is_call, shows_fault};
+ghost use Rattle.cc_effects.specs.Licences.{IsLicensed, is_call_entry, shows_told_fault};
 ghost use Rattle.cc_effects.specs.Calls.{IsUnderWay, CallLeft, leaves_entry};
 ghost use Rattle.cc_effects.specs.LogCalls.{AppendLeft, LogFlushLeft};
 ghost use Rattle.cc_effects.specs.Throttle.{DeferLeft, PostLeft};
@@ -173,18 +173,18 @@ pub fn own_entries_are_licensed()
         EachOwn me (MayPlace me (Calls it) old) during old }
     ensures has_entry { (u : Setup) (me : ℕ) (it : Call) (answered : Outcome) (during old : List Entry) →
         CallLeft u me it answered old (during ++ old) → leaves_entry answered ≡ true →
-        list_any is_call (own me during) ≡ true }
+        list_any is_call_entry (own me during) ≡ true }
 {}
 
 /// A call is told a fault only where an entry of its own pass in its own stretch shows it.
 pub fn faults_are_shown()
     ensures read { (u : Setup) (me : ℕ) (it : Call) (page : ℕ) (during old : List Entry) →
         CallLeft u me it (outcome.Failed (error.ReadFault page)) old (during ++ old) →
-        shows_fault me it (error.ReadFault page) during ≡ true }
+        shows_told_fault me it (error.ReadFault page) during ≡ true }
     ensures write { (u : Setup) (me : ℕ) (it : Call) (page : ℕ) (during old : List Entry) →
         CallLeft u me it (outcome.Failed (error.WriteFault page)) old (during ++ old) →
-        shows_fault me it (error.WriteFault page) during ≡ true }
+        shows_told_fault me it (error.WriteFault page) during ≡ true }
     ensures log { (u : Setup) (me : ℕ) (it : Call) (handle : ℕ) (during old : List Entry) →
         CallLeft u me it (outcome.Failed (error.LogFault handle)) old (during ++ old) →
-        shows_fault me it (error.LogFault handle) during ≡ true }
+        shows_told_fault me it (error.LogFault handle) during ≡ true }
 {}

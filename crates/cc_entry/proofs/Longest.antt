@@ -5,19 +5,19 @@ use Rattle.std.proofs.lemmas.Option.{get_or_from_slice_get}
 use Rattle.std.proofs.lemmas.Bool.Decides.{nat_tests, Decides-eqb, Decides-like, Decides-and, same_from_decides}
 use Rattle.std.specs.Cmp.Lexicographic.{pointwise, pointwise_decides, bytes_decides}
 use Rattle.cc_entry.specs.declared.runs.Run.{Run}
-use Rattle.cc_entry.specs.Runs.{spelled, joined, runs_of, alone, AreLongest}
+use Rattle.cc_entry.specs.Runs.{spelled, joined_runs, runs_of, byte_alone, AreLongest}
 
 -- a byte before the longest runs leaves them the longest
-joined-longest : (x : ℕ) (rs : List Run) → AreLongest rs → AreLongest (joined x rs)
+joined-longest : (x : ℕ) (rs : List Run) → AreLongest rs → AreLongest (joined_runs x rs)
 joined-longest x [] h = omega arith
 joined-longest x (r ∷ []) h = either (r.byte == x) refl
   where
-    either : (s : Bool) → (r.byte == x) ≡ s → AreLongest (joined x (r ∷ []))
+    either : (s : Bool) → (r.byte == x) ≡ s → AreLongest (joined_runs x (r ∷ []))
     either true e = rw e (omega arith)
     either false e = rw e (omega arith, (λ same. grind (arith, nat_tests)), h)
 joined-longest x (r ∷ next ∷ rs) h = either (r.byte == x) refl
   where
-    either : (s : Bool) → (r.byte == x) ≡ s → AreLongest (joined x (r ∷ next ∷ rs))
+    either : (s : Bool) → (r.byte == x) ≡ s → AreLongest (joined_runs x (r ∷ next ∷ rs))
     either true e = rw e (omega arith, h.1, h.2)
     either false e = rw e (omega arith, (λ same. grind (arith, nat_tests)), h)
 
@@ -27,11 +27,11 @@ runs_of-longest [] = tt
 runs_of-longest (x ∷ bs) = joined-longest x (runs_of bs) (runs_of-longest bs)
 
 -- a byte before runs stands before their bytes
-spelled-joined : (x : ℕ) (rs : List Run) → spelled (joined x rs) ≡ x ∷ spelled rs
+spelled-joined : (x : ℕ) (rs : List Run) → spelled (joined_runs x rs) ≡ x ∷ spelled rs
 spelled-joined x [] = refl
 spelled-joined x (r ∷ rs) = either (r.byte == x) refl
   where
-    either : (s : Bool) → (r.byte == x) ≡ s → spelled (joined x (r ∷ rs)) ≡ x ∷ spelled (r ∷ rs)
+    either : (s : Bool) → (r.byte == x) ≡ s → spelled (joined_runs x (r ∷ rs)) ≡ x ∷ spelled (r ∷ rs)
     either true e =
         let same : r.byte ≡ x = (Decides-eqb r.byte x).0 e in
         let more : r.count + 1 ≡ suc r.count = omega arith in
@@ -55,11 +55,11 @@ alone_first b (x ∷ bs) other = before (runs_of bs)
         either true e = absurd (other (ap Some ((Decides-eqb x b).0 e)))
         either false e = e
 
-    before : (rs : List Run) → joined b (joined x rs) ≡ record { byte = b; count = 1 } ∷ joined x rs
+    before : (rs : List Run) → joined_runs b (joined_runs x rs) ≡ record { byte = b; count = 1 } ∷ joined_runs x rs
     before [] = rw differs refl
     before (r ∷ rs) = first (r.byte == x) refl
       where
-        first : (s : Bool) → (r.byte == x) ≡ s → joined b (joined x (r ∷ rs)) ≡ record { byte = b; count = 1 } ∷ joined x (r ∷ rs)
+        first : (s : Bool) → (r.byte == x) ≡ s → joined_runs b (joined_runs x (r ∷ rs)) ≡ record { byte = b; count = 1 } ∷ joined_runs x (r ∷ rs)
         first true e =
             let same : r.byte ≡ x = (Decides-eqb r.byte x).0 e in
             rw e (rw same (rw differs refl))
@@ -78,15 +78,15 @@ first_run b zero bs all e first other = absurd (other (ap (λ bytes. slice_get b
 first_run b (suc n) bs all e first other = ap runs_of (sym e) ∙ runs_of-first b n bs other
 
 -- a byte that another one follows is one more run of one byte
-pub alone_more : (bytes behind : List ℕ) (n : ℕ) → n + 1 < length bytes → (get_or bytes n 0 ≡ get_or bytes (n + 1) 0 → ⊥) → runs_of (bytes ++ behind) ≡ map alone (take n bytes) ++ runs_of (drop n bytes ++ behind) → runs_of (bytes ++ behind) ≡ map alone (take (n + 1) bytes) ++ runs_of (drop (n + 1) bytes ++ behind)
+pub alone_more : (bytes behind : List ℕ) (n : ℕ) → n + 1 < length bytes → (get_or bytes n 0 ≡ get_or bytes (n + 1) 0 → ⊥) → runs_of (bytes ++ behind) ≡ map byte_alone (take n bytes) ++ runs_of (drop n bytes ++ behind) → runs_of (bytes ++ behind) ≡ map byte_alone (take (n + 1) bytes) ++ runs_of (drop (n + 1) bytes ++ behind)
 alone_more bytes behind n h other e =
-    let b = get_or bytes n 0 in let rest = drop (n + 1) bytes ++ behind in let before = map alone (take n bytes) in
+    let b = get_or bytes n 0 in let rest = drop (n + 1) bytes ++ behind in let before = map byte_alone (take n bytes) in
     let next : drop (n + 1) bytes ≡ get_or bytes (n + 1) 0 ∷ drop (n + 1 + 1) bytes = drop_more bytes (n + 1) 0 h in
     let follows : slice_get rest 0 ≢ Some b =
     λ same. other (sym (get_or_from_slice_get rest 0 b 0 same) ∙ ap (λ bs. get_or (bs ++ behind) 0 0) next) in
     e ∙ ap (λ bs. before ++ runs_of (bs ++ behind)) (drop_more bytes n 0 (omega arith)) ∙ ap (before ++◌) (alone_first b rest follows)
-    ∙ sym (append_assoc before (alone b ∷ []) (runs_of rest))
-    ∙ ap (λ rs. rs ++ runs_of rest) (sym (ap (map alone) (take_more bytes n 0 (omega arith)) ∙ map-append alone (take n bytes) (b ∷ [])))
+    ∙ sym (append_assoc before (byte_alone b ∷ []) (runs_of rest))
+    ∙ ap (λ rs. rs ++ runs_of rest) (sym (ap (map byte_alone) (take_more bytes n 0 (omega arith)) ∙ map-append byte_alone (take n bytes) (b ∷ [])))
 
 -- no byte is first only where there is none
 pub no_run : (bs : List ℕ) → slice_get bs 0 ≡ None → runs_of bs ≡ []

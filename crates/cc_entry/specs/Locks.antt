@@ -33,18 +33,18 @@ abbrev pub lock_conflicts : Lock → Range → Bool → Bool
 lock_conflicts lock range exclusive = overlaps lock.span range && (exclusive || lock.exclusive)
 
 -- the least id of the locks that are picked
-abbrev pub least_id : (Lock → Bool) → List Lock → Option ℕ
-least_id picks locks = reduce min (map (λ l. l.id) (filter picks locks))
+abbrev pub least_lock_id : (Lock → Bool) → List Lock → Option ℕ
+least_lock_id picks locks = reduce min (map (λ l. l.id) (filter picks locks))
 
 -- the least id of a lock that conflicts with a read, with a write, with a new lock
 abbrev pub read_conflict : List Lock → File → Range → Option ℕ
-read_conflict locks file range = least_id (λ l. read_conflicts l file range) locks
+read_conflict locks file range = least_lock_id (λ l. read_conflicts l file range) locks
 
 abbrev pub write_conflict : List Lock → File → Range → Option ℕ
-write_conflict locks file range = least_id (λ l. write_conflicts l file range) locks
+write_conflict locks file range = least_lock_id (λ l. write_conflicts l file range) locks
 
 abbrev pub lock_conflict : List Lock → Range → Bool → Option ℕ
-lock_conflict locks range exclusive = least_id (λ l. lock_conflicts l range exclusive) locks
+lock_conflict locks range exclusive = least_lock_id (λ l. lock_conflicts l range exclusive) locks
 
 -- the locks that there are, and how many were granted so far
 pub record LockTable : Type 0 where
@@ -75,15 +75,15 @@ abbrev pub after_unlock : LockTable → File → ℕ → LockTable
 after_unlock table file id = record table { locks = filter (λ l. not (is_named file id l)) table.locks }
 
 -- after one more call
-abbrev pub after_call : LockTable → LockCall → LockTable
-after_call table (call.Lock file range exclusive granted id) =
+abbrev pub table_after_call : LockTable → LockCall → LockTable
+table_after_call table (call.Lock file range exclusive granted id) =
     after_lock table file range exclusive (lock_conflict table.locks range exclusive)
-after_call table (call.Unlock file id gone) = after_unlock table file id
+table_after_call table (call.Unlock file id gone) = after_unlock table file id
 
 -- the locks after calls of one stream, whatever they were answered
 abbrev pub locks_after : List LockCall → LockTable
 locks_after [] = no_locks
-locks_after (last ∷ calls) = after_call (locks_after calls) last
+locks_after (last ∷ calls) = table_after_call (locks_after calls) last
 
 -- what a call for a lock is answered, given the least id that conflicts
 abbrev pub lock_answer : LockTable → Option ℕ → Bool × ℕ

@@ -8,6 +8,6 @@ joined (Some a) None = Some a
 joined (Some a) (Some b) = Some (min a.0 b.0, max a.1 b.1)
 
 -- an LSN is the least and the greatest of itself
-abbrev pub alone : Option ℕ → Option (ℕ × ℕ)
-alone None = None
-alone (Some lsn) = Some (lsn, lsn)
+abbrev pub lsn_alone : Option ℕ → Option (ℕ × ℕ)
+lsn_alone None = None
+lsn_alone (Some lsn) = Some (lsn, lsn)

@@ -3,7 +3,7 @@
 ghost use Rattle.std.specs.Prelude.{◌≡◌, ◌≢◌, ◌<◌, ◌≤◌, ◌+◌, ◌^◌, List, ℕ, ◌++◌, length, map, replicate, slice_get, Some, true, false};
 ghost use Rattle.std.specs.Iterator.{YieldsFirst, item_count};
 ghost use Rattle.cc_entry.specs.Parts.{bytes_in, plain_in};
-ghost use Rattle.cc_entry.specs.Runs.{alone, runs_of};
+ghost use Rattle.cc_entry.specs.Runs.{byte_alone, runs_of};
 
 use crate::part::Part;
 use crate::scan::{end_of_same, unlike};
@@ -117,7 +117,7 @@ impl<'a> Left<'a> {
     /// Reads past bytes that come first, are kept as they are, and are each followed by another one.
     fn skip_unlike(&mut self) -> &'a [u8]
         ensures split { self.old ≡ result.now ++ self.new }
-        ensures alone { runs_of self.old ≡ map alone result.now ++ runs_of self.new }
+        ensures alone { runs_of self.old ≡ map byte_alone result.now ++ runs_of self.new }
     {
         let (read, rest) = self.front.split_at(unlike(self.front));
         self.front = rest;
@@ -157,7 +157,7 @@ impl<'a> Runs<'a> {
     /// Goes past runs of one byte that come next, and gives their bytes. It gives none where a longer run is
     /// next, and may stop where more follow.
     pub fn skip_alone(&mut self) -> &'a [u8]
-        ensures { self.old ≡ map alone result.now ++ self.new }
+        ensures { self.old ≡ map byte_alone result.now ++ self.new }
     {
         self.left.skip_unlike()
     }

@@ -3,7 +3,7 @@
 //! A long run is one of whole blocks, so that what does not repeat is looked at once a block.
 
 ghost use Rattle.std.specs.Prelude.{◌≡◌, ◌≢◌, ℕ, ◌⊎◌, ◌<◌, ◌≤◌, ◌+◌, ◌-◌, List, ◌++◌, length, map, take, drop, replicate, slice_get, slice_index, Some, IsTrue};
-ghost use Rattle.cc_entry.specs.Runs.{alone, runs_of};
+ghost use Rattle.cc_entry.specs.Runs.{byte_alone, runs_of};
 
 /// How many bytes of one value are kept as such at least.
 pub(crate) const BLOCK: usize = 64;
@@ -51,7 +51,7 @@ pub(crate) fn unlike(slice: &[u8]) -> usize
     ensures within { result ≤ length slice.now }
     ensures last { 0 < length slice.now → result < length slice.now }
     ensures alone { (behind : List ℕ) → runs_of (slice.now ++ behind) ≡
-        map alone (take result slice.now) ++ runs_of (drop result slice.now ++ behind) }
+        map byte_alone (take result slice.now) ++ runs_of (drop result slice.now ++ behind) }
 {
     let mut n = 0;
     while n + 1 < slice.len() && slice[n] != slice[n + 1] {

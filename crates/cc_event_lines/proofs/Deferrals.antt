@@ -15,15 +15,16 @@ use Rattle.cc_model.specs.Throttle.{deferred, pages_for}
 use Rattle.cc_pieces.specs.Steps.{was_posted}
 use Rattle.cc_turns.specs.Desk.{Tells}
 use Rattle.cc_pieces.specs.Moments.{EventLeft}
-use Rattle.cc_world.specs.World.{WorldState, setup_of}
+use Rattle.cc_world.specs.World.{WorldState}
 use Rattle.cc_effects.specs.declared.events.Event.TheVariants as event
 use Rattle.cc_effects.specs.declared.events.StepReply.TheVariants as step
 use Rattle.cc_event_lines.specs.Happening.{HasHappened}
 use Rattle.cc_event_lines.specs.Lines.{EventWent, RoutinesWent}
-use Rattle.cc_event_lines.specs.Routines.{IsQuiet, RoutinesStand, RoutinesState, come_back, deferrals_in}
-use Rattle.cc_event_lines.specs.declared.routines.Slot.{Slot}
+use Rattle.cc_event_lines.specs.Routines.{IsQuiet, RoutinesStand, RoutinesState, come_back, deferrals_of_slots}
+use Rattle.cc_event_lines.specs.declared.routines.RoutineSlot.{RoutineSlot}
 use Rattle.cc_event_lines.proofs.RoutineSteps.{stand-deferred, stand-quiet, stand-refused, taken}
 use Rattle.cc_event_lines.proofs.RoutineEnds.{deferrals-back, stand-posted, unposted-at}
+use Rattle.cc_turns.specs.Slots.{setup_in}
 
 -- the routine that is next was not posted
 pub next-unposted : {Q : Type 0} (posted : Q → Bool) (past : List Entry) (queue : List (Deferral × Q)) (r : RoutinesState Q) (routine : Q) (rest : List Q) → RoutinesStand posted past queue r → r.unused ≡ routine ∷ rest → posted routine ≡ false
@@ -38,7 +39,7 @@ nothing-more (x ∷ xs) = ap (λ ys. x ∷ ys) (nothing-more xs)
 pub routines-kept : {D L Q : Type 0} (tells : Tells D L Q) (w v : WorldState D L Q) (r : RoutinesState Q) → IsQuiet w.journal.entries v.journal.entries → v.journal.queue ≡ w.journal.queue → RoutinesStand tells.posted w.journal.entries w.journal.queue r → RoutinesWent tells [] v r r
 routines-kept tells w v r quiet same stand = record {
   stand = stand-quiet tells.posted w.journal.entries v.journal.entries w.journal.queue v.journal.queue r quiet same stand;
-  deferrals = nothing-more (deferrals_in r.slots);
+  deferrals = nothing-more (deferrals_of_slots r.slots);
   handed = refl;
 }
 
@@ -59,11 +60,11 @@ post-refused u pass error.NoMemory old new left = left.2 ∙ ap (λ (added : Lis
 post-refused u pass other old new left = absurd left.2.1
 
 -- what is kept of the routine that was taken out
-kept-so : {Q : Type 0} (r next s : RoutinesState Q) (slot : Slot Q) → next ≡ record r { unused = next.unused } → s ≡ record next { slots = next.slots ++ slot ∷ [] } → s ≡ taken r next.unused slot
+kept-so : {Q : Type 0} (r next s : RoutinesState Q) (slot : RoutineSlot Q) → next ≡ record r { unused = next.unused } → s ≡ record next { slots = next.slots ++ slot ∷ [] } → s ≡ taken r next.unused slot
 kept-so {Q} r next s slot rest kept = kept ∙ ap (λ (x : RoutinesState Q). record x { slots = x.slots ++ slot ∷ [] }) rest
 
-deferrals-so : {Q : Type 0} (r s : RoutinesState Q) (rest : List Q) (slot : Slot Q) → s ≡ taken r rest slot → deferrals_in s.slots ≡ deferrals_in r.slots ++ slot.deferral ∷ []
-deferrals-so {Q} r s rest slot is = ap (λ (x : RoutinesState Q). deferrals_in x.slots) is ∙ map-append (λ (x : Slot Q). x.deferral) r.slots (slot ∷ [])
+deferrals-so : {Q : Type 0} (r s : RoutinesState Q) (rest : List Q) (slot : RoutineSlot Q) → s ≡ taken r rest slot → deferrals_of_slots s.slots ≡ deferrals_of_slots r.slots ++ slot.deferral ∷ []
+deferrals-so {Q} r s rest slot is = ap (λ (x : RoutinesState Q). deferrals_of_slots x.slots) is ∙ map-append (λ (x : RoutineSlot Q). x.deferral) r.slots (slot ∷ [])
 
 -- A deferral that was done: its routine waits.
 pub went-deferred : {D L Q : Type 0} (tells : Tells D L Q) (w v : WorldState D L Q) (pass : ℕ) (file : File) (bytes : ℕ) (retrying : Bool) (routine : Q) (id : ℕ) (r next s : RoutinesState Q) → HasHappened tells (event.Defer pass file bytes retrying routine) (step.Deferred id) w v → RoutinesStand tells.posted w.journal.entries w.journal.queue r → r.unused ≡ routine ∷ next.unused → next ≡ record r { unused = next.unused } → s ≡ record next { slots = next.slots ++ record { deferral = Some id; routine = None } ∷ [] } → EventWent tells (event.Defer pass file bytes retrying tt) (Some id ∷ []) (answer.Deferred id) w v r s
@@ -90,7 +91,7 @@ went-refused {D} {L} {Q} tells w v pass file bytes retrying routine back e r nex
     let is : s ≡ taken r next.unused (record { deferral = None; routine = Some routine }) =
     kept-so r next s (record { deferral = None; routine = Some back }) rest kept
     ∙ ap (λ (q : Q). taken r next.unused (record { deferral = None; routine = Some q })) happened.queued.0 in
-    let placed = deferral-refused (setup_of tells w.begun) pass file bytes retrying e w.journal.entries v.journal.entries happened.left in
+    let placed = deferral-refused (setup_in tells w.begun) pass file bytes retrying e w.journal.entries v.journal.entries happened.left in
     let behind = stand-refused tells.posted w.journal.entries v.journal.entries w.journal.queue v.journal.queue r routine next.unused at placed happened.queued.1 stand in
     record {
       answered = record { reply = step.Refused e; answer_is = refl; left = happened.left };
@@ -115,7 +116,7 @@ went-posted {D} {L} {Q} tells w v pass id routine r s ids happened stand is alon
         stand = subst (λ (x : RoutinesState Q). RoutinesStand tells.posted v.journal.entries v.journal.queue x) (sym is)
             (subst (λ (q : List (Deferral × Q)). RoutinesStand tells.posted v.journal.entries q (record r { slots = come_back id routine r.slots })) (sym happened.queued.2)
             (subst (λ (p : List Entry). RoutinesStand tells.posted p (drop 1 w.journal.queue) (record r { slots = come_back id routine r.slots })) (sym placed) behind));
-        deferrals = ap (λ (x : RoutinesState Q). deferrals_in x.slots) is ∙ (deferrals-back id routine r.slots ∙ nothing-more (deferrals_in r.slots));
+        deferrals = ap (λ (x : RoutinesState Q). deferrals_of_slots x.slots) is ∙ (deferrals-back id routine r.slots ∙ nothing-more (deferrals_of_slots r.slots));
         handed = ap (λ (x : RoutinesState Q). x.handed) is;
       };
     }
@@ -133,7 +134,7 @@ went-none tells w v pass r happened stand =
 
 pub went-not : {D L Q : Type 0} (tells : Tells D L Q) (w v : WorldState D L Q) (pass : ℕ) (e : CcError) (r : RoutinesState Q) → HasHappened tells (event.Post pass) (step.Refused e) w v → RoutinesStand tells.posted w.journal.entries w.journal.queue r → EventWent tells (event.Post pass) [] (answer.Refused e) w v r r
 went-not tells w v pass e r happened stand =
-    let placed = post-refused (setup_of tells w.begun) pass e w.journal.entries v.journal.entries happened.left in
+    let placed = post-refused (setup_in tells w.begun) pass e w.journal.entries v.journal.entries happened.left in
     record {
       answered = record { reply = step.Refused e; answer_is = refl; left = happened.left };
       begun = happened.begun;

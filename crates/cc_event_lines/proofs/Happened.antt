@@ -17,13 +17,14 @@ use Rattle.cc_model.specs.Setup.{Setup}
 use Rattle.cc_turns.specs.Desk.{Begun, Tells}
 use Rattle.cc_world.specs.Journals.{refused_plainly}
 use Rattle.cc_pieces.specs.Moments.{EventLeft}
-use Rattle.cc_effects.specs.Events.{Answers, IsWanting, MayFault, MayHappen, Where, OnStream, OnLog, OnJournal, Nowhere, asked_by, faulted_by, place_of}
-use Rattle.cc_world.specs.World.{Faulted, Happened, JournalRests, Stepped, WentAt, WorldState, setup_of}
+use Rattle.cc_effects.specs.Events.{Answers, IsWanting, MayFault, MayHappen, Where, OnStream, OnLog, OnJournal, Nowhere, asked_by_event, faulted_by, place_of_event}
+use Rattle.cc_world.specs.World.{Faulted, Happened, JournalRests, WorldEventLeft, WentAt, WorldState}
 use Rattle.cc_effects.specs.declared.events.Event.{Event}
 use Rattle.cc_effects.specs.declared.events.Event.TheVariants as event
 use Rattle.cc_effects.specs.declared.events.StepReply.{StepReply}
 use Rattle.cc_effects.specs.declared.events.StepReply.TheVariants as step
 use Rattle.cc_event_lines.specs.Happening.{HasHappened, reply_without, without_routine}
+use Rattle.cc_turns.specs.Slots.{setup_in}
 
 -- whether an event may happen, what it asks, and what it places, without its routine
 may-without : {Q : Type 0} (u : Setup) (past : List Entry) (it : Event Q) → MayHappen u past it → MayHappen u past (without_routine it)
@@ -54,7 +55,7 @@ may-with u past (event.Scan pass) may = may
 may-with u past (event.Defer pass file bytes retrying routine) may = may
 may-with u past (event.Post pass) may = may
 
-asked-without : {Q : Type 0} (u : Setup) (past : List Entry) (it : Event Q) → asked_by u past (without_routine it) ≡ asked_by u past it
+asked-without : {Q : Type 0} (u : Setup) (past : List Entry) (it : Event Q) → asked_by_event u past (without_routine it) ≡ asked_by_event u past it
 asked-without u past (event.Fill pass page) = refl
 asked-without u past (event.Drop page) = refl
 asked-without u past (event.WriteBegin pass page) = refl
@@ -157,7 +158,7 @@ begun-at tells OnJournal n added w v went = ap (λ x. x.begun) went.same
 begun-at tells Nowhere n added w v went = ap (λ x. x.begun) went.1
 
 -- the room of the journal is the room of the law
-room-same : {D L Q : Type 0} (tells : Tells D L Q) (begun : Begun D L) (j : JournalState Q) → JournalRests tells begun j → room_of j ≡ room_in (setup_of tells begun) j.entries 0
+room-same : {D L Q : Type 0} (tells : Tells D L Q) (begun : Begun D L) (j : JournalState Q) → JournalRests tells begun j → room_of j ≡ room_in (setup_in tells begun) j.entries 0
 unfolding room_in
 room-same tells begun j rests = omega (arith, rests.limits.0, rests.reserved)
 
@@ -187,71 +188,71 @@ kept-none u past (event.Post pass) routine e added a = a
 -- what an event leaves that may happen and finds room
 abbrev EndedSo : {D L Q : Type 0} → Tells D L Q → Event Q → StepReply Q → WorldState D L Q → WorldState D L Q → Type 0
 EndedSo tells it r w v =
-    MayHappen (setup_of tells w.begun) w.journal.entries it
-    × (asked_by (setup_of tells w.begun) w.journal.entries it ≤ room_of w.journal)
-    × ((added : List Entry) × Answers (setup_of tells w.begun) w.journal.entries it r added
-    × WentAt tells (place_of (setup_of tells w.begun) w.journal.entries it) 0 added w v)
+    MayHappen (setup_in tells w.begun) w.journal.entries it
+    × (asked_by_event (setup_in tells w.begun) w.journal.entries it ≤ room_of w.journal)
+    × ((added : List Entry) × Answers (setup_in tells w.begun) w.journal.entries it r added
+    × WentAt tells (place_of_event (setup_in tells w.begun) w.journal.entries it) 0 added w v)
 
 abbrev LeftSo : Setup → Event (Unit {0}) → StepReply (Unit {0}) → List Entry → List Entry → Type 0
 LeftSo u it r old new =
-    MayHappen u old it × (asked_by u old it ≤ room_in u old 0)
+    MayHappen u old it × (asked_by_event u old it ≤ room_in u old 0)
     × ((added : List Entry) × Answers u old it r added × (new ≡ added ++ old))
 
-left-so : {D L Q : Type 0} (tells : Tells D L Q) (it : Event Q) (w v : WorldState D L Q) (rests : JournalRests tells w.begun w.journal) (r : StepReply Q) → EndedSo tells it r w v → LeftSo (setup_of tells w.begun) (without_routine it) (reply_without r) w.journal.entries v.journal.entries
+left-so : {D L Q : Type 0} (tells : Tells D L Q) (it : Event Q) (w v : WorldState D L Q) (rests : JournalRests tells w.begun w.journal) (r : StepReply Q) → EndedSo tells it r w v → LeftSo (setup_in tells w.begun) (without_routine it) (reply_without r) w.journal.entries v.journal.entries
 left-so tells it w v rests r ended = (
-  may-without (setup_of tells w.begun) w.journal.entries it ended.0,
-  omega (arith, ended.1, room-same tells w.begun w.journal rests, asked-without (setup_of tells w.begun) w.journal.entries it),
+  may-without (setup_in tells w.begun) w.journal.entries it ended.0,
+  omega (arith, ended.1, room-same tells w.begun w.journal rests, asked-without (setup_in tells w.begun) w.journal.entries it),
   (
     ended.2.0,
-    answers-without (setup_of tells w.begun) w.journal.entries it r ended.2.0 ended.2.1,
-    placed-at tells (place_of (setup_of tells w.begun) w.journal.entries it) 0 ended.2.0 w v ended.2.2,
+    answers-without (setup_in tells w.begun) w.journal.entries it r ended.2.0 ended.2.1,
+    placed-at tells (place_of_event (setup_in tells w.begun) w.journal.entries it) 0 ended.2.0 w v ended.2.2,
   ),
 )
 
-left-of : {D L Q : Type 0} (tells : Tells D L Q) (it : Event Q) (w v : WorldState D L Q) (rests : JournalRests tells w.begun w.journal) (r : StepReply Q) → Happened tells it r w v → EventLeft (setup_of tells w.begun) (without_routine it) (reply_without r) w.journal.entries v.journal.entries
+left-of : {D L Q : Type 0} (tells : Tells D L Q) (it : Event Q) (w v : WorldState D L Q) (rests : JournalRests tells w.begun w.journal) (r : StepReply Q) → Happened tells it r w v → EventLeft (setup_in tells w.begun) (without_routine it) (reply_without r) w.journal.entries v.journal.entries
 left-of tells it w v rests (step.Done r) h = left-so tells it w v rests (step.Done r) h
 left-of tells it w v rests (step.NewLsn lsn) h = left-so tells it w v rests (step.NewLsn lsn) h
 left-of tells it w v rests (step.Deferred id) h = left-so tells it w v rests (step.Deferred id) h
 left-of tells it w v rests (step.Posted None) h = left-so tells it w v rests (step.Posted None) h
 left-of tells it w v rests (step.Posted (Some posted)) h = left-so tells it w v rests (step.Posted (Some posted)) h
 left-of tells it w v rests (step.Refused (error.JournalFull entries)) h = (
-  may-without (setup_of tells w.begun) w.journal.entries it h.0,
-  omega (arith, h.1, room-same tells w.begun w.journal rests, asked-without (setup_of tells w.begun) w.journal.entries it),
+  may-without (setup_in tells w.begun) w.journal.entries it h.0,
+  omega (arith, h.1, room-same tells w.begun w.journal rests, asked-without (setup_in tells w.begun) w.journal.entries it),
   h.2,
   ap (λ x. x.journal.entries) h.3,
 )
 left-of tells it w v rests (step.Refused error.NoMemory) h = (
   h.0,
   wanting-without w.journal.entries it h.0 h.1,
-  placed-at tells (place_of (setup_of tells w.begun) w.journal.entries it) 0 h.0 w v h.2,
+  placed-at tells (place_of_event (setup_in tells w.begun) w.journal.entries it) 0 h.0 w v h.2,
 )
 left-of tells it w v rests (step.Refused e) h = left-so tells it w v rests (step.Refused e) h
-left-of tells it w v rests (step.Kept routine e) h = absurd (kept-none (setup_of tells w.begun) w.journal.entries it routine e h.2.0 h.2.1)
+left-of tells it w v rests (step.Kept routine e) h = absurd (kept-none (setup_in tells w.begun) w.journal.entries it routine e h.2.0 h.2.1)
 left-of tells it w v rests step.Faulted h =
-    let f = faulted-at tells (place_of (setup_of tells w.begun) w.journal.entries it) (faulted_by w.journal.entries it) w v h.2.1 in (
-      may-without (setup_of tells w.begun) w.journal.entries it h.0,
-      omega (arith, h.1, room-same tells w.begun w.journal rests, asked-without (setup_of tells w.begun) w.journal.entries it),
-      may_fault-without (setup_of tells w.begun) w.journal.entries it h.2.0,
+    let f = faulted-at tells (place_of_event (setup_in tells w.begun) w.journal.entries it) (faulted_by w.journal.entries it) w v h.2.1 in (
+      may-without (setup_in tells w.begun) w.journal.entries it h.0,
+      omega (arith, h.1, room-same tells w.begun w.journal rests, asked-without (setup_in tells w.begun) w.journal.entries it),
+      may_fault-without (setup_in tells w.begun) w.journal.entries it h.2.0,
       (f.0, fault-without w.journal.entries it ∙ f.1, f.2),
     )
 left-of tells it w v rests step.NotNow h =
-    (λ may. h.0 (may-with (setup_of tells w.begun) w.journal.entries it may), ap (λ x. x.journal.entries) h.1)
+    (λ may. h.0 (may-with (setup_in tells w.begun) w.journal.entries it may), ap (λ x. x.journal.entries) h.1)
 
 begun-of : {D L Q : Type 0} (tells : Tells D L Q) (it : Event Q) (w v : WorldState D L Q) (r : StepReply Q) → Happened tells it r w v → v.begun ≡ w.begun
 begun-of tells it w v (step.Refused (error.JournalFull entries)) h = ap (λ x. x.begun) h.3
-begun-of tells it w v (step.Refused error.NoMemory) h = begun-at tells (place_of (setup_of tells w.begun) w.journal.entries it) 0 h.0 w v h.2
-begun-of tells it w v step.Faulted h = faulted-begun tells (place_of (setup_of tells w.begun) w.journal.entries it) (faulted_by w.journal.entries it) w v h.2.1
+begun-of tells it w v (step.Refused error.NoMemory) h = begun-at tells (place_of_event (setup_in tells w.begun) w.journal.entries it) 0 h.0 w v h.2
+begun-of tells it w v step.Faulted h = faulted-begun tells (place_of_event (setup_in tells w.begun) w.journal.entries it) (faulted_by w.journal.entries it) w v h.2.1
 begun-of tells it w v step.NotNow h = ap (λ x. x.begun) h.1
-begun-of tells it w v other h = begun-at tells (place_of (setup_of tells w.begun) w.journal.entries it) 0 h.2.0 w v h.2.2
+begun-of tells it w v other h = begun-at tells (place_of_event (setup_in tells w.begun) w.journal.entries it) 0 h.2.0 w v h.2.2
 
 -- a step leaves an event at its place
-pub has-happened : {D L Q : Type 0} (tells : Tells D L Q) (it : Event Q) (reply : StepReply Q) (w v : WorldState D L Q) → JournalRests tells w.begun w.journal → Stepped tells it reply w v → HasHappened tells it reply w v
+pub has-happened : {D L Q : Type 0} (tells : Tells D L Q) (it : Event Q) (reply : StepReply Q) (w v : WorldState D L Q) → JournalRests tells w.begun w.journal → WorldEventLeft tells it reply w v → HasHappened tells it reply w v
 has-happened {Q = Q} tells it reply w v rests stepped = record {
   left = by reply stepped.0;
   queued = stepped.1;
   begun = begun-of tells it w v (refused_plainly reply) stepped.0;
 }
   where
-    by : (r : StepReply Q) → Happened tells it (refused_plainly r) w v → EventLeft (setup_of tells w.begun) (without_routine it) (reply_without r) w.journal.entries v.journal.entries
+    by : (r : StepReply Q) → Happened tells it (refused_plainly r) w v → EventLeft (setup_in tells w.begun) (without_routine it) (reply_without r) w.journal.entries v.journal.entries
     by (step.Kept routine e) h = left-of tells it w v rests (step.Refused e) h
     by other h = left-of tells it w v rests other h

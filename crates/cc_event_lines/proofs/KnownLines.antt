@@ -15,9 +15,9 @@ use Rattle.cc_pieces.specs.Events.{Doing, Happens, Makes, NamesNone, doing_of, h
 use Rattle.cc_effects.specs.Events.{IsKnown, NamesOf}
 use Rattle.cc_effects.specs.declared.events.Event.{Event}
 use Rattle.cc_effects.specs.declared.events.Event.TheVariants as event
-use Rattle.cc_event_lines.specs.Doing.{IsCopied, IsPlain}
+use Rattle.cc_event_lines.specs.Doing.{IsCopied, IsPlainEvent}
 use Rattle.cc_event_lines.specs.Happening.{without_routine}
-use Rattle.cc_event_lines.specs.Lines.{IsKnownTo, called}
+use Rattle.cc_event_lines.specs.Lines.{IsKnownTo, event_of_call}
 
 -- what a line is names streams that there are
 abbrev pub IsDoingKnown : ℕ → Doing → Type 0
@@ -116,11 +116,11 @@ event-known disks (event.Scan pass) known = known
 event-known disks (event.Defer pass file bytes retrying routine) known = known
 event-known disks (event.Post pass) known = known
 
-pub called-known : (Q : Type 0) (disks me : ℕ) (fails : Bool) (it : Call) → NamesOf disks (file_of it) → IsKnown disks (called {Q = Q} me fails it)
+pub called-known : (Q : Type 0) (disks me : ℕ) (fails : Bool) (it : Call) → NamesOf disks (file_of it) → IsKnown disks (event_of_call {Q = Q} me fails it)
 called-known Q disks me true it known = known
 called-known Q disks me false it known = known
 
-pub called-plain : (Q : Type 0) (me : ℕ) (fails : Bool) (it : Call) → IsPlain (called {Q = Q} me fails it)
+pub called-plain : (Q : Type 0) (me : ℕ) (fails : Bool) (it : Call) → IsPlainEvent (event_of_call {Q = Q} me fails it)
 called-plain Q me true it = tt
 called-plain Q me false it = tt
 
@@ -129,7 +129,7 @@ abbrev pub IsNoDeferral : Doing → Type 0
 IsNoDeferral (Happens (event.Defer pass file bytes retrying routine)) = ⊥
 IsNoDeferral other = Unit {0}
 
-pub plain-no-deferral : {Q : Type 0} (it : Event Q) → IsPlain it → IsNoDeferral (Happens (without_routine it))
+pub plain-no-deferral : {Q : Type 0} (it : Event Q) → IsPlainEvent it → IsNoDeferral (Happens (without_routine it))
 plain-no-deferral (event.Defer pass file bytes retrying routine) plain = absurd plain
 plain-no-deferral other plain = tt
 

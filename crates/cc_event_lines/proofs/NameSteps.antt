@@ -16,17 +16,17 @@ use Rattle.cc_entry.specs.declared.reply.Reply.TheVariants as reply
 use Rattle.cc_script.specs.declared.script.Action.{Action}
 use Rattle.cc_script.specs.declared.script.Action.TheVariants as action
 use Rattle.cc_script.specs.declared.script.ActionLine.{ActionLine}
-use Rattle.cc_pieces.specs.Bindings.{Binding, bound, hold_named, id_if, pinned, pinned_if}
+use Rattle.cc_pieces.specs.Bindings.{Binding, bound, hold_named, id_if, bindings_pinned, pinned_if}
 use Rattle.cc_pieces.specs.Served.{bindings_after}
 use Rattle.cc_pieces.specs.Steps.{bindings_behind}
-use Rattle.cc_event_lines.specs.Names.{bindings_in, hold_told, id_of, is_named_by, named_behind, pinned_by, with_made, word_made, word_pinned}
-use Rattle.cc_event_lines.specs.declared.names.Named.{Named}
+use Rattle.cc_event_lines.specs.Names.{bindings_in, hold_told, id_of_named, is_named_by, named_behind, pinned_by, with_made, word_made, word_pinned}
+use Rattle.cc_event_lines.specs.declared.names.NamedHold.{NamedHold}
 
-abbrev binding_of : Named → Binding
+abbrev binding_of : NamedHold → Binding
 binding_of n = record { word = n.word; id = n.id; kind = n.kind }
 
 -- the binding that a caller finds is that of the hold that is found
-found : (me word : ℕ) (named : List Named) → find (λ b. b.word == word) (bindings_in named me) ≡ option_map binding_of (find (is_named_by me word) named)
+found : (me word : ℕ) (named : List NamedHold) → find (λ b. b.word == word) (bindings_in named me) ≡ option_map binding_of (find (is_named_by me word) named)
 found me word [] = refl
 found me word (n ∷ named) = by (n.caller == me) (n.word == word) refl refl (found me word named)
   where
@@ -35,15 +35,15 @@ found me word (n ∷ named) = by (n.caller == me) (n.word == word) refl refl (fo
     by true false p q rest = rw (p, q) rest
     by false same p q rest = rw p rest
 
-pub hold-found : (me word : ℕ) (of_kind : HoldKind → Bool) (named : List Named) → hold_named (bindings_in named me) word of_kind ≡ id_of of_kind (find (is_named_by me word) named)
+pub hold-found : (me word : ℕ) (of_kind : HoldKind → Bool) (named : List NamedHold) → hold_named (bindings_in named me) word of_kind ≡ id_of_named of_kind (find (is_named_by me word) named)
 hold-found me word of_kind named = ap (λ o. id_if of_kind o) (found me word named) ∙ by (find (is_named_by me word) named)
   where
-    by : (o : Option Named) → id_if of_kind (option_map binding_of o) ≡ id_of of_kind o
+    by : (o : Option NamedHold) → id_if of_kind (option_map binding_of o) ≡ id_of_named of_kind o
     by None = refl
     by (Some n) = refl
 
 -- a map that is pinned, of the caller itself and of another
-pinned-own : (me word : ℕ) (named : List Named) → bindings_in (map (pinned_by me word) named) me ≡ map (pinned_if word) (bindings_in named me)
+pinned-own : (me word : ℕ) (named : List NamedHold) → bindings_in (map (pinned_by me word) named) me ≡ map (pinned_if word) (bindings_in named me)
 pinned-own me word [] = refl
 pinned-own me word (n ∷ named) = by (n.caller == me) (n.word == word) refl refl (pinned-own me word named)
   where
@@ -56,7 +56,7 @@ pinned-own me word (n ∷ named) = by (n.caller == me) (n.word == word) refl ref
 unlike : (c me own : ℕ) → (c == me) ≡ false → (own == me) ≡ true → (own == c) ≡ false
 unlike c me own apart is = grind (arith, nat_tests)
 
-pinned-other : (c word me : ℕ) (named : List Named) → (c == me) ≡ false → bindings_in (map (pinned_by c word) named) me ≡ bindings_in named me
+pinned-other : (c word me : ℕ) (named : List NamedHold) → (c == me) ≡ false → bindings_in (map (pinned_by c word) named) me ≡ bindings_in named me
 pinned-other c word me [] apart = refl
 pinned-other c word me (n ∷ named) apart = by (n.caller == me) refl (pinned-other c word me named apart)
   where
@@ -73,7 +73,7 @@ pinned-other c word me (n ∷ named) apart = by (n.caller == me) refl (pinned-ot
 -- what a line leaves of its caller's bindings, by the word that it binds or whose map it pins
 abbrev after_made : Option (ℕ × HoldKind) → Option ℕ → Answer → List Binding → List Binding
 after_made (Some made) pins told bindings = bound made.0 made.1 told bindings
-after_made None (Some word) told bindings = pinned word told bindings
+after_made None (Some word) told bindings = bindings_pinned word told bindings
 after_made None None told bindings = bindings
 
 same-after : (asked : Action) (told : Answer) (bindings : List Binding) → bindings_after asked told bindings ≡ after_made (word_made asked) (word_pinned asked) told bindings
@@ -94,7 +94,7 @@ held-told (answer.Given (reply.Hold own)) id is =
     ap (λ (n : ℕ). answer.Given (reply.Hold n)) same
 held-told other id is = absurd (cc)
 
-made-behind : (c me : ℕ) (made : Option (ℕ × HoldKind)) (pins : Option ℕ) (id : ℕ) (named : List Named) → bindings_in (with_made c made pins id named) me ≡ (if c == me then after_made made pins (answer.Given (reply.Hold id)) (bindings_in named me) else bindings_in named me)
+made-behind : (c me : ℕ) (made : Option (ℕ × HoldKind)) (pins : Option ℕ) (id : ℕ) (named : List NamedHold) → bindings_in (with_made c made pins id named) me ≡ (if c == me then after_made made pins (answer.Given (reply.Hold id)) (bindings_in named me) else bindings_in named me)
 made-behind c me (Some made) pins id named = refl
 made-behind c me None (Some word) id named = by (c == me) refl
   where
@@ -108,7 +108,7 @@ made-behind c me None None id named = by (c == me)
     by false = refl
 
 -- the bindings of each caller behind a line
-pub named-follow : (line : ActionLine) (told : Answer) (named : List Named) (me : ℕ) → bindings_in (named_behind line (hold_told told) named) me ≡ bindings_behind line told (bindings_in named) me
+pub named-follow : (line : ActionLine) (told : Answer) (named : List NamedHold) (me : ℕ) → bindings_in (named_behind line (hold_told told) named) me ≡ bindings_behind line told (bindings_in named) me
 named-follow line told named me = by (hold_told told) refl
   where
     same : (own : Bool) → bindings_in named me ≡ (if own then bindings_in named me else bindings_in named me)
@@ -126,17 +126,17 @@ named-follow line told named me = by (hold_told told) refl
         rw after (made-behind line.caller me (word_made line.action) (word_pinned line.action) id named)
 
 -- a look-up in the names as they are kept, the oldest first
-pub looked-up : (me word : ℕ) (of_kind : HoldKind → Bool) (named : List Named) (o : Option Named) (number : ℕ) (items kept : List Named) → o ≡ find (is_named_by me number) (reverse items) → number ≡ word → items ≡ kept → reverse kept ≡ named → hold_named (bindings_in named me) word of_kind ≡ id_of of_kind o
+pub looked-up : (me word : ℕ) (of_kind : HoldKind → Bool) (named : List NamedHold) (o : Option NamedHold) (number : ℕ) (items kept : List NamedHold) → o ≡ find (is_named_by me number) (reverse items) → number ≡ word → items ≡ kept → reverse kept ≡ named → hold_named (bindings_in named me) word of_kind ≡ id_of_named of_kind o
 looked-up me word of_kind named o number items kept found same-word same-items view =
     hold-found me word of_kind named
-    ∙ ap (id_of of_kind) (ap (λ (ns : List Named). find (is_named_by me word) ns) (sym view) ∙ (ap (λ (ns : List Named). find (is_named_by me word) (reverse ns)) (sym same-items) ∙ (ap (λ (n : ℕ). find (is_named_by me n) (reverse items)) (sym same-word) ∙ sym found)))
+    ∙ ap (id_of_named of_kind) (ap (λ (ns : List NamedHold). find (is_named_by me word) ns) (sym view) ∙ (ap (λ (ns : List NamedHold). find (is_named_by me word) (reverse ns)) (sym same-items) ∙ (ap (λ (n : ℕ). find (is_named_by me n) (reverse items)) (sym same-word) ∙ sym found)))
 
-pub id-kept : (of_kind : HoldKind → Bool) (n : Named) → of_kind n.kind ≡ true → id_of of_kind (Some n) ≡ Some n.id
+pub id-kept : (of_kind : HoldKind → Bool) (n : NamedHold) → of_kind n.kind ≡ true → id_of_named of_kind (Some n) ≡ Some n.id
 id-kept of_kind n serves = rw serves refl
 
-pub id-lost : (of_kind : HoldKind → Bool) (n : Named) → of_kind n.kind ≡ false → id_of of_kind (Some n) ≡ None
+pub id-lost : (of_kind : HoldKind → Bool) (n : NamedHold) → of_kind n.kind ≡ false → id_of_named of_kind (Some n) ≡ None
 id-lost of_kind n serves = rw serves refl
 
 -- behind a line whose map is pinned
-pub pinned-behind : (line : ActionLine) (o : Option ℕ) (id word : ℕ) (named : List Named) → o ≡ Some id → word_made line.action ≡ None → word_pinned line.action ≡ Some word → map (pinned_by line.caller word) named ≡ named_behind line o named
+pub pinned-behind : (line : ActionLine) (o : Option ℕ) (id word : ℕ) (named : List NamedHold) → o ≡ Some id → word_made line.action ≡ None → word_pinned line.action ≡ Some word → map (pinned_by line.caller word) named ≡ named_behind line o named
 pinned-behind line o id word named told made pins = rw (told, made, pins) refl

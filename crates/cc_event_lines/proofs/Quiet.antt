@@ -24,7 +24,7 @@ use Rattle.cc_effects.specs.declared.events.Event.{Event}
 use Rattle.cc_effects.specs.declared.events.Event.TheVariants as event
 use Rattle.cc_effects.specs.declared.events.StepReply.{StepReply}
 use Rattle.cc_effects.specs.declared.events.StepReply.TheVariants as step
-use Rattle.cc_event_lines.specs.Doing.{IsPlain}
+use Rattle.cc_event_lines.specs.Doing.{IsPlainEvent}
 use Rattle.cc_event_lines.specs.Happening.{PostsNone, reply_without, without_routine}
 use Rattle.cc_event_lines.specs.Routines.{IsQuiet}
 
@@ -74,7 +74,7 @@ flushed-other : (b : Bool) (pass handle to : ℕ) → AreOthers (if b then [] el
 flushed-other true pass handle to = tt
 flushed-other false pass handle to = (refl, tt)
 
-answers-others : {Q : Type 0} (u : Setup) (past : List Entry) (it : Event Q) (r : StepReply (Unit {0})) (added : List Entry) → IsPlain it → Answers u past (without_routine it) r added → AreOthers added
+answers-others : {Q : Type 0} (u : Setup) (past : List Entry) (it : Event Q) (r : StepReply (Unit {0})) (added : List Entry) → IsPlainEvent it → Answers u past (without_routine it) r added → AreOthers added
 answers-others u past (event.Fill pass page) (step.Done reply.Unit) added plain a = one-other added _ a refl
 answers-others u past (event.Fill pass page) other added plain a = absurd a
 answers-others u past (event.Drop page) (step.Done reply.Unit) added plain a = one-other added _ a refl
@@ -117,7 +117,7 @@ flush-other : (b : Bool) (pass handle : ℕ) (e : Entry) → (if b then None els
 flush-other true pass handle e is = no-fault e is
 flush-other false pass handle e is = some-other _ e refl is
 
-fault-other : {Q : Type 0} (past : List Entry) (it : Event Q) (e : Entry) → IsPlain it → faulted_by past (without_routine it) ≡ Some e → is_defer_or_post e ≡ false
+fault-other : {Q : Type 0} (past : List Entry) (it : Event Q) (e : Entry) → IsPlainEvent it → faulted_by past (without_routine it) ≡ Some e → is_defer_or_post e ≡ false
 fault-other past (event.Fill pass page) e plain is = some-other _ e refl is
 fault-other past (event.Drop page) e plain is = no-fault e is
 fault-other past (event.WriteBegin pass page) e plain is = no-fault e is
@@ -131,7 +131,7 @@ fault-other past (event.Scan pass) e plain is = no-fault e is
 fault-other past (event.Defer pass file bytes retrying routine) e plain is = absurd plain
 fault-other past (event.Post pass) e plain is = absurd plain
 
-wanting-others : {Q : Type 0} (past : List Entry) (it : Event Q) (added : List Entry) → IsPlain it → IsWanting past (without_routine it) added → AreOthers added
+wanting-others : {Q : Type 0} (past : List Entry) (it : Event Q) (added : List Entry) → IsPlainEvent it → IsWanting past (without_routine it) added → AreOthers added
 wanting-others past (event.Fill pass page) added plain wants = none-other added wants
 wanting-others past (event.Drop page) added plain wants = none-other added wants
 wanting-others past (event.WriteBegin pass page) added plain wants = none-other added wants
@@ -147,7 +147,7 @@ wanting-others past (event.Defer pass file bytes retrying routine) added plain w
 wanting-others past (event.Post pass) added plain wants = absurd plain
 
 -- So it is quiet.
-pub quiet-left : {Q : Type 0} (u : Setup) (it : Event Q) (r : StepReply (Unit {0})) (old new : List Entry) → IsPlain it → EventLeft u (without_routine it) r old new → IsQuiet old new
+pub quiet-left : {Q : Type 0} (u : Setup) (it : Event Q) (r : StepReply (Unit {0})) (old new : List Entry) → IsPlainEvent it → EventLeft u (without_routine it) r old new → IsQuiet old new
 quiet-left u it step.NotNow old new plain left = quiet-none old new left.1
 quiet-left u it step.Faulted old new plain left =
     quiet-as (left.3.0 ∷ []) old new left.3.2 (fault-other old it left.3.0 plain left.3.1, tt)
@@ -158,7 +158,7 @@ quiet-left u it other old new plain left =
     quiet-as left.2.0 old new left.2.2 (answers-others u old it other left.2.0 plain left.2.1)
 
 -- It posts no write.
-no-post : {Q : Type 0} (u : Setup) (past : List Entry) (it : Event Q) (posted : Option (PostedRoutine (Unit {0}))) (added : List Entry) → IsPlain it → Answers u past (without_routine it) (step.Posted posted) added → ⊥
+no-post : {Q : Type 0} (u : Setup) (past : List Entry) (it : Event Q) (posted : Option (PostedRoutine (Unit {0}))) (added : List Entry) → IsPlainEvent it → Answers u past (without_routine it) (step.Posted posted) added → ⊥
 no-post u past (event.Fill pass page) posted added plain a = a
 no-post u past (event.Drop page) posted added plain a = a
 no-post u past (event.WriteBegin pass page) posted added plain a = a
@@ -172,14 +172,14 @@ no-post u past (event.Scan pass) posted added plain a = a
 no-post u past (event.Defer pass file bytes retrying routine) posted added plain a = plain
 no-post u past (event.Post pass) posted added plain a = plain
 
-pub posts-no-routine : {Q : Type 0} (u : Setup) (it : Event Q) (r : StepReply Q) (old new : List Entry) → IsPlain it → EventLeft u (without_routine it) (reply_without r) old new → PostsNone r
+pub posts-no-routine : {Q : Type 0} (u : Setup) (it : Event Q) (r : StepReply Q) (old new : List Entry) → IsPlainEvent it → EventLeft u (without_routine it) (reply_without r) old new → PostsNone r
 posts-no-routine u it (step.Posted None) old new plain left = no-post u old it None left.2.0 plain left.2.1
 posts-no-routine u it (step.Posted (Some posted)) old new plain left =
     no-post u old it (Some (record { id = posted.id; routine = tt })) left.2.0 plain left.2.1
 posts-no-routine u it other old new plain left = tt
 
 -- Nothing waits anew, and nothing waits no more.
-pub queue-same : {Q : Type 0} (posted : Q → Bool) (it : Event Q) (r : StepReply Q) (old new : List (Deferral × Q)) → IsPlain it → Queued posted it r old new → new ≡ old
+pub queue-same : {Q : Type 0} (posted : Q → Bool) (it : Event Q) (r : StepReply Q) (old new : List (Deferral × Q)) → IsPlainEvent it → Queued posted it r old new → new ≡ old
 queue-same posted (event.Fill pass page) (step.Kept kept e) old new plain queued = absurd queued
 queue-same posted (event.Fill pass page) other old new plain queued = queued
 queue-same posted (event.Drop page) (step.Kept kept e) old new plain queued = absurd queued
@@ -204,6 +204,6 @@ queue-same posted (event.Defer pass file bytes retrying routine) r old new plain
 queue-same posted (event.Post pass) r old new plain queued = absurd plain
 
 -- Its routine is none that was posted.
-pub unposted-plainly : {Q : Type 0} (posted : Q → Bool) (it : Event Q) → IsPlain it → IsUnposted posted it
+pub unposted-plainly : {Q : Type 0} (posted : Q → Bool) (it : Event Q) → IsPlainEvent it → IsUnposted posted it
 unposted-plainly posted (event.Defer pass file bytes retrying routine) plain = absurd plain
 unposted-plainly posted other plain = tt

@@ -14,8 +14,8 @@ use Rattle.cc_entry.specs.declared.hold.Deferral.{Deferral}
 use Rattle.cc_laws.proofs.QueueSteps.{deferred-deferred}
 use Rattle.cc_model.specs.Throttle.{deferred}
 use Rattle.cc_pieces.specs.Steps.{was_posted}
-use Rattle.cc_event_lines.specs.Routines.{AreApart, AreNew, IsQuiet, RoutinesStand, RoutinesState, SlotStands, Waits, deferrals_in}
-use Rattle.cc_event_lines.specs.declared.routines.Slot.{Slot}
+use Rattle.cc_event_lines.specs.Routines.{AreApart, AreNew, IsQuiet, RoutinesStand, RoutinesState, SlotStands, RoutineWaits, deferrals_of_slots}
+use Rattle.cc_event_lines.specs.declared.routines.RoutineSlot.{RoutineSlot}
 
 pub one : {A : Type 0} (a b : A) → Some a ≡ Some b → a ≡ b
 one a b is = cc
@@ -65,7 +65,7 @@ slot-quiet : {Q : Type 0} (posted : Q → Bool) (past new : List Entry) (queue n
 slot-quiet posted past new queue now handed None None quiet same stands = stands
 slot-quiet posted past new queue now handed None (Some routine) quiet same stands = stands
 slot-quiet {Q} posted past new queue now handed (Some id) None quiet same stands =
-    (subst (λ (q : List (Deferral × Q)). Waits q id handed) (sym same) stands.0, quiet.posted_is id ∙ stands.1, omega (arith, quiet.deferred_is, stands.2))
+    (subst (λ (q : List (Deferral × Q)). RoutineWaits q id handed) (sym same) stands.0, quiet.posted_is id ∙ stands.1, omega (arith, quiet.deferred_is, stands.2))
 slot-quiet posted past new queue now handed (Some id) (Some routine) quiet same stands =
     (stands.0, quiet.posted_is id ∙ stands.1, omega (arith, quiet.deferred_is, stands.2))
 
@@ -85,11 +85,11 @@ stand-quiet posted past new queue now r quiet same stand = record {
 pub stand-new : {Q : Type 0} (posted : Q → Bool) (past : List Entry) (queue : List (Deferral × Q)) (r : RoutinesState Q) → IsQuiet [] past → queue ≡ [] → AreNew posted r → RoutinesStand posted past queue r
 stand-new {Q} posted past queue r quiet empty new = stand-quiet posted [] past [] queue r quiet empty (record {
   unposted = new.unposted;
-  slots = λ k slot handed at from. absurd (none slot (ap (λ (s : List (Slot Q)). slice_get s k) (sym new.slots) ∙ at));
+  slots = λ k slot handed at from. absurd (none slot (ap (λ (s : List (RoutineSlot Q)). slice_get s k) (sym new.slots) ∙ at));
   unused = λ k. ap (λ (u : List Q). slice_get u k) new.unused ∙ ap (λ (n : ℕ). slice_get r.handed n) (start k (length r.slots) (ap length new.slots));
   counted = omega (arith, ap length new.slots, ap length new.unused);
   room = new.room;
-  apart = λ k m id at. absurd (none (Some id) (ap (λ (s : List (Slot Q)). slice_get (deferrals_in s) k) (sym new.slots) ∙ at));
+  apart = λ k m id at. absurd (none (Some id) (ap (λ (s : List (RoutineSlot Q)). slice_get (deferrals_of_slots s) k) (sym new.slots) ∙ at));
   numbered = λ n waiting at. absurd (none waiting at);
   known = λ id was. absurd (cc);
 })
@@ -103,19 +103,19 @@ number-of posted past queue handed None o id is stands = absurd (none id is)
 number-of posted past queue handed (Some own) None id is stands = let same : own ≡ id = one own id is in omega (arith, stands.2)
 number-of posted past queue handed (Some own) (Some routine) id is stands = let same : own ≡ id = one own id is in omega (arith, stands.2)
 
-numbers : {Q : Type 0} (posted : Q → Bool) (past : List Entry) (queue : List (Deferral × Q)) (r : RoutinesState Q) (k id : ℕ) → RoutinesStand posted past queue r → slice_get (deferrals_in r.slots) k ≡ Some (Some id) → id ≤ deferred past
+numbers : {Q : Type 0} (posted : Q → Bool) (past : List Entry) (queue : List (Deferral × Q)) (r : RoutinesState Q) (k id : ℕ) → RoutinesStand posted past queue r → slice_get (deferrals_of_slots r.slots) k ≡ Some (Some id) → id ≤ deferred past
 numbers {Q} posted past queue r k id stand at =
-    let within : k < length r.slots = subst (λ (n : ℕ). k < n) (length-map r.slots (λ (slot : Slot Q). slot.deferral)) (slice_get_within (deferrals_in r.slots) k (Some id) at) in
+    let within : k < length r.slots = subst (λ (n : ℕ). k < n) (length-map r.slots (λ (slot : RoutineSlot Q). slot.deferral)) (slice_get_within (deferrals_of_slots r.slots) k (Some id) at) in
     let slot = there-is r.slots k within in
     let handed = there-is r.handed k (omega (arith, within, stand.counted)) in
-    let is : slot.0.deferral ≡ Some id = one slot.0.deferral (Some id) (sym (slice_get-map (λ (s : Slot Q). s.deferral) r.slots k ∙ ap (λ o. option_map (λ (s : Slot Q). s.deferral) o) slot.1) ∙ at) in
+    let is : slot.0.deferral ≡ Some id = one slot.0.deferral (Some id) (sym (slice_get-map (λ (s : RoutineSlot Q). s.deferral) r.slots k ∙ ap (λ o. option_map (λ (s : RoutineSlot Q). s.deferral) o) slot.1) ∙ at) in
     number-of posted past queue handed.0 slot.0.deferral slot.0.routine id is (stand.slots k slot.0 handed.0 slot.1 handed.1)
 
 -- The routines behind one that was taken out, of which this became.
-abbrev pub taken : {Q : Type 0} → RoutinesState Q → List Q → Slot Q → RoutinesState Q
+abbrev pub taken : {Q : Type 0} → RoutinesState Q → List Q → RoutineSlot Q → RoutinesState Q
 taken r rest slot = record r { slots = r.slots ++ slot ∷ []; unused = rest }
 
-module _ {Q : Type 0} (posted : Q → Bool) (past new : List Entry) (queue now : List (Deferral × Q)) (r : RoutinesState Q) (routine : Q) (rest : List Q) (slot : Slot Q) (next : r.unused ≡ routine ∷ rest) (stand : RoutinesStand posted past queue r) where
+module _ {Q : Type 0} (posted : Q → Bool) (past new : List Entry) (queue now : List (Deferral × Q)) (r : RoutinesState Q) (routine : Q) (rest : List Q) (slot : RoutineSlot Q) (next : r.unused ≡ routine ∷ rest) (stand : RoutinesStand posted past queue r) where
   -- the one that was taken out is the next of those that were handed in
   taken-handed : (handed : Q) → slice_get r.handed (length r.slots) ≡ Some handed → routine ≡ handed
   taken-handed handed at = one routine handed (ap (λ (u : List Q). slice_get u 0) (sym next) ∙ (stand.unused 0 ∙ (ap (λ (n : ℕ). slice_get r.handed n) (plus-none (length r.slots)) ∙ at)))
@@ -134,24 +134,24 @@ module _ {Q : Type 0} (posted : Q → Bool) (past new : List Entry) (queue now :
   taken-counted = omega (arith, length-append r.slots (slot ∷ []), ap length next, stand.counted)
 
   -- each slot stands, those before and the new one
-  taken-slots : ((k : ℕ) (s : Slot Q) (handed : Q) → slice_get r.slots k ≡ Some s → slice_get r.handed k ≡ Some handed → SlotStands posted new now handed s.deferral s.routine) → SlotStands posted new now routine slot.deferral slot.routine → (k : ℕ) (s : Slot Q) (handed : Q) → slice_get (r.slots ++ slot ∷ []) k ≡ Some s → slice_get r.handed k ≡ Some handed → SlotStands posted new now handed s.deferral s.routine
+  taken-slots : ((k : ℕ) (s : RoutineSlot Q) (handed : Q) → slice_get r.slots k ≡ Some s → slice_get r.handed k ≡ Some handed → SlotStands posted new now handed s.deferral s.routine) → SlotStands posted new now routine slot.deferral slot.routine → (k : ℕ) (s : RoutineSlot Q) (handed : Q) → slice_get (r.slots ++ slot ∷ []) k ≡ Some s → slice_get r.handed k ≡ Some handed → SlotStands posted new now handed s.deferral s.routine
   taken-slots before last k s handed at from =
       ⊎_elim (λ (there : slice_get r.slots k ≡ Some s). before k s handed there from)
       (λ (here : (k ≡ length r.slots) × (slot ≡ s)).
       let own : routine ≡ handed = taken-handed handed (ap (λ (n : ℕ). slice_get r.handed n) (sym here.0) ∙ from) in
-      subst (λ (x : Slot Q). SlotStands posted new now handed x.deferral x.routine) here.1
+      subst (λ (x : RoutineSlot Q). SlotStands posted new now handed x.deferral x.routine) here.1
       (subst (λ (q : Q). SlotStands posted new now q slot.deferral slot.routine) own last))
       (pushed r.slots slot s k at)
 
   -- what stands behind, where the slot does and no other write has its number
-  taken-stand : ((k : ℕ) (s : Slot Q) (handed : Q) → slice_get r.slots k ≡ Some s → slice_get r.handed k ≡ Some handed → SlotStands posted new now handed s.deferral s.routine) → SlotStands posted new now routine slot.deferral slot.routine → ((k id : ℕ) → slice_get (deferrals_in r.slots) k ≡ Some (Some id) → slot.deferral ≡ Some id → ⊥) → ((n : ℕ) (waiting : Deferral × Q) → slice_get now n ≡ Some waiting → waiting.0.id ≤ deferred new) → ((id : ℕ) → was_posted new (Some (Some id)) ≡ true → id ≤ deferred new) → RoutinesStand posted new now (taken r rest slot)
+  taken-stand : ((k : ℕ) (s : RoutineSlot Q) (handed : Q) → slice_get r.slots k ≡ Some s → slice_get r.handed k ≡ Some handed → SlotStands posted new now handed s.deferral s.routine) → SlotStands posted new now routine slot.deferral slot.routine → ((k id : ℕ) → slice_get (deferrals_of_slots r.slots) k ≡ Some (Some id) → slot.deferral ≡ Some id → ⊥) → ((n : ℕ) (waiting : Deferral × Q) → slice_get now n ≡ Some waiting → waiting.0.id ≤ deferred new) → ((id : ℕ) → was_posted new (Some (Some id)) ≡ true → id ≤ deferred new) → RoutinesStand posted new now (taken r rest slot)
   taken-stand before last other numbered known = record {
     unposted = stand.unposted;
     slots = taken-slots before last;
     unused = taken-unused;
     counted = taken-counted;
     room = stand.room;
-    apart = subst AreApart (sym (map-append (λ (s : Slot Q). s.deferral) r.slots (slot ∷ []))) (apart-pushed (deferrals_in r.slots) slot.deferral stand.apart other);
+    apart = subst AreApart (sym (map-append (λ (s : RoutineSlot Q). s.deferral) r.slots (slot ∷ []))) (apart-pushed (deferrals_of_slots r.slots) slot.deferral stand.apart other);
     numbered = numbered;
     known = known;
   }
@@ -197,7 +197,7 @@ module _ {Q : Type 0} (posted : Q → Bool) (past : List Entry) (queue : List (D
   more = deferred-deferred pass id file pages retrying past
 
   -- what waits under a number that was there waits on
-  waits-on : (own : ℕ) (handed : Q) → own ≤ deferred past → Waits queue own handed → Waits (queued retrying waiting queue) own handed
+  waits-on : (own : ℕ) (handed : Q) → own ≤ deferred past → RoutineWaits queue own handed → RoutineWaits (queued retrying waiting queue) own handed
   waits-on own handed below waits =
       let kept = queued-old retrying waiting waits.waiting queue waits.place waits.there in
       record {
@@ -228,7 +228,7 @@ module _ {Q : Type 0} (posted : Q → Bool) (past : List Entry) (queue : List (D
       too-great below = absurd (omega (arith, is))
   unposted-yet false was = was
 
-  waits-new : Waits (queued retrying waiting queue) id routine
+  waits-new : RoutineWaits (queued retrying waiting queue) id routine
   waits-new =
       let there = queued-new retrying waiting queue in
       record {

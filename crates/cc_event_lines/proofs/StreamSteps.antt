@@ -9,9 +9,10 @@ use Rattle.cc_model.specs.Setup.{Setup}
 use Rattle.cc_script.specs.declared.script.StreamLine.{StreamLine}
 use Rattle.cc_pieces.specs.Steps.{StreamStepped, StreamsStepped}
 use Rattle.cc_turns.specs.Desk.{Begun, Tells}
-use Rattle.cc_world.specs.World.{WorldState, setup_of}
+use Rattle.cc_world.specs.World.{WorldState}
 use Rattle.cc_event_lines.specs.Lines.{StreamWent, StreamsWent}
 use Rattle.cc_event_lines.specs.Routines.{IsQuiet}
+use Rattle.cc_turns.specs.Slots.{setup_in}
 
 pub quiet-then : (old between new : List Entry) → IsQuiet old between → IsQuiet between new → IsQuiet old new
 quiet-then old between new first second = record {
@@ -34,7 +35,7 @@ pub record StreamsSoFar {D L Q : Type 0} (tells : Tells D L Q) (streams : List S
   pub answers : List LineReply
   pub replies_are : replies ≡ replied ++ answers
   pub counted : length answers ≡ n
-  pub goes_on : (more : List LineReply) (end : List Entry) → StreamsStepped (setup_of tells old.begun) n (drop n streams) more new.journal.entries end → StreamsStepped (setup_of tells old.begun) 0 streams (answers ++ more) old.journal.entries end
+  pub goes_on : (more : List LineReply) (end : List Entry) → StreamsStepped (setup_in tells old.begun) n (drop n streams) more new.journal.entries end → StreamsStepped (setup_in tells old.begun) 0 streams (answers ++ more) old.journal.entries end
   pub quiet : IsQuiet old.journal.entries new.journal.entries
   pub queue : new.journal.queue ≡ old.journal.queue
   pub begun : new.begun ≡ old.begun
@@ -51,19 +52,19 @@ none-yet tells streams replied w = record {
 }
 
 module _ {D L Q : Type 0} (tells : Tells D L Q) (streams : List StreamLine) (n : ℕ) (replied replies now : List LineReply) (w v next : WorldState D L Q) (stream : StreamLine) (told : Answer) (within : n < length streams) (at : stream ≡ get_or streams n stream) (grown : now ≡ replies ++ record { line = stream.line; answer = told } ∷ []) (so_far : StreamsSoFar tells streams n replied replies w v) (went : StreamWent tells n stream told v next) where
-  same-setup : setup_of tells v.begun ≡ setup_of tells w.begun
-  same-setup = ap (λ (begun : Begun D L). setup_of tells begun) so_far.begun
+  same-setup : setup_in tells v.begun ≡ setup_in tells w.begun
+  same-setup = ap (λ (begun : Begun D L). setup_in tells begun) so_far.begun
 
   this-next : drop n streams ≡ stream ∷ drop (suc n) streams
   this-next = drop-cons streams n stream within ∙ ap (λ (s : StreamLine). s ∷ drop (suc n) streams) (sym at)
 
-  step-on : (more : List LineReply) (end : List Entry) → StreamsStepped (setup_of tells w.begun) (suc n) (drop (suc n) streams) more next.journal.entries end → StreamsStepped (setup_of tells w.begun) 0 streams ((so_far.answers ++ record { line = stream.line; answer = told } ∷ []) ++ more) w.journal.entries end
+  step-on : (more : List LineReply) (end : List Entry) → StreamsStepped (setup_in tells w.begun) (suc n) (drop (suc n) streams) more next.journal.entries end → StreamsStepped (setup_in tells w.begun) 0 streams ((so_far.answers ++ record { line = stream.line; answer = told } ∷ []) ++ more) w.journal.entries end
   step-on more end stepped =
-      let here : StreamStepped (setup_of tells w.begun) n stream stream.log told v.journal.entries next.journal.entries =
+      let here : StreamStepped (setup_in tells w.begun) n stream stream.log told v.journal.entries next.journal.entries =
       subst (λ (u : Setup). StreamStepped u n stream stream.log told v.journal.entries next.journal.entries) same-setup went.stepped in
-      subst (λ (rs : List LineReply). StreamsStepped (setup_of tells w.begun) 0 streams rs w.journal.entries end) (sym (append_assoc so_far.answers (record { line = stream.line; answer = told } ∷ []) more))
+      subst (λ (rs : List LineReply). StreamsStepped (setup_in tells w.begun) 0 streams rs w.journal.entries end) (sym (append_assoc so_far.answers (record { line = stream.line; answer = told } ∷ []) more))
       (so_far.goes_on (record { line = stream.line; answer = told } ∷ more) end
-      (subst (λ (left : List StreamLine). StreamsStepped (setup_of tells w.begun) n left (record { line = stream.line; answer = told } ∷ more) v.journal.entries end) (sym this-next)
+      (subst (λ (left : List StreamLine). StreamsStepped (setup_in tells w.begun) n left (record { line = stream.line; answer = told } ∷ more) v.journal.entries end) (sym this-next)
       (next.journal.entries, refl, here, stepped)))
 
   pub one-further : StreamsSoFar tells streams (n + 1) replied now w next
@@ -71,7 +72,7 @@ module _ {D L Q : Type 0} (tells : Tells D L Q) (streams : List StreamLine) (n :
     answers = so_far.answers ++ record { line = stream.line; answer = told } ∷ [];
     replies_are = grown ∙ (ap (λ (rs : List LineReply). rs ++ record { line = stream.line; answer = told } ∷ []) so_far.replies_are ∙ append_assoc replied so_far.answers (record { line = stream.line; answer = told } ∷ []));
     counted = omega (arith, length-append so_far.answers (record { line = stream.line; answer = told } ∷ []), so_far.counted);
-    goes_on = λ more end stepped. step-on more end (subst (λ (m : ℕ). StreamsStepped (setup_of tells w.begun) m (drop m streams) more next.journal.entries end) (one-on n) stepped);
+    goes_on = λ more end stepped. step-on more end (subst (λ (m : ℕ). StreamsStepped (setup_in tells w.begun) m (drop m streams) more next.journal.entries end) (one-on n) stepped);
     quiet = quiet-then w.journal.entries v.journal.entries next.journal.entries so_far.quiet went.quiet;
     queue = went.queue ∙ so_far.queue;
     begun = went.begun ∙ so_far.begun;
@@ -86,9 +87,9 @@ streams-went tells streams n replied replies w v all most so_far = record {
   answers = so_far.answers;
   replies_are = so_far.replies_are;
   counted = omega (arith, so_far.counted);
-  stepped = subst (λ (rs : List LineReply). StreamsStepped (setup_of tells w.begun) 0 streams rs w.journal.entries v.journal.entries) (nothing-on so_far.answers)
+  stepped = subst (λ (rs : List LineReply). StreamsStepped (setup_in tells w.begun) 0 streams rs w.journal.entries v.journal.entries) (nothing-on so_far.answers)
       (so_far.goes_on [] v.journal.entries
-      (subst (λ (left : List StreamLine). StreamsStepped (setup_of tells w.begun) n left [] v.journal.entries v.journal.entries) (sym (nothing-left n streams all)) refl));
+      (subst (λ (left : List StreamLine). StreamsStepped (setup_in tells w.begun) n left [] v.journal.entries v.journal.entries) (sym (nothing-left n streams all)) refl));
   quiet = so_far.quiet;
   queue = so_far.queue;
   begun = so_far.begun;

@@ -15,8 +15,8 @@ use Rattle.cc_pieces.specs.Events.{Doing, Happens, Makes, NamesNone, on_hold}
 use Rattle.cc_effects.specs.declared.events.Event.{Event}
 use Rattle.cc_effects.specs.declared.events.Event.TheVariants as event
 use Rattle.cc_event_lines.specs.Happening.{without_routine}
-use Rattle.cc_event_lines.specs.declared.doing.Doing.{Doing as Made}
-use Rattle.cc_event_lines.specs.declared.doing.Doing.TheVariants as made
+use Rattle.cc_event_lines.specs.declared.doing.MadeDoing.{MadeDoing as Made}
+use Rattle.cc_event_lines.specs.declared.doing.MadeDoing.TheVariants as made
 
 -- what a line of a caller is by its definition, where the run made this of it; a deferral has its routine yet to come
 abbrev pub doing_made : {Q : Type 0} → ℕ → Made Q → Doing
@@ -27,13 +27,13 @@ doing_made me made.Posts = Happens (event.Post me)
 doing_made me made.NamesNone = NamesNone
 
 -- an event that neither takes nor gives back a routine
-abbrev pub IsPlain : {Q : Type 0} → Event Q → Type 0
-IsPlain (event.Defer pass file bytes retrying routine) = ⊥
-IsPlain (event.Post pass) = ⊥
-IsPlain other = Unit {0}
+abbrev pub IsPlainEvent : {Q : Type 0} → Event Q → Type 0
+IsPlainEvent (event.Defer pass file bytes retrying routine) = ⊥
+IsPlainEvent (event.Post pass) = ⊥
+IsPlainEvent other = Unit {0}
 
 abbrev pub HappensPlainly : {Q : Type 0} → Made Q → Type 0
-HappensPlainly (made.Happens it) = IsPlain it
+HappensPlainly (made.Happens it) = IsPlainEvent it
 HappensPlainly other = Unit {0}
 
 -- a line whose bytes are copied before it happens: a call, or an append

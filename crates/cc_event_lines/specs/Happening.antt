@@ -4,11 +4,12 @@ use Rattle.std.specs.declared.option.Option.TheVariants.{Some, None}
 use Rattle.cc_turns.specs.Desk.{Tells}
 use Rattle.cc_world.specs.Journals.{Queued}
 use Rattle.cc_pieces.specs.Moments.{EventLeft}
-use Rattle.cc_world.specs.World.{WorldState, setup_of}
+use Rattle.cc_world.specs.World.{WorldState}
 use Rattle.cc_effects.specs.declared.events.Event.{Event}
 use Rattle.cc_effects.specs.declared.events.Event.TheVariants as event
 use Rattle.cc_effects.specs.declared.events.StepReply.{StepReply}
 use Rattle.cc_effects.specs.declared.events.StepReply.TheVariants as step
+use Rattle.cc_turns.specs.Slots.{setup_in}
 
 -- an event with nothing in place of its routine
 abbrev pub without_routine : {Q : Type 0} → Event Q → Event (Unit {0})
@@ -46,7 +47,7 @@ PostsNone other = Unit {0}
 -- is the same.
 pub record HasHappened {D L Q : Type 0} (tells : Tells D L Q) (it : Event Q) (reply : StepReply Q) (old new : WorldState D L Q)
     : Type 0 where
-  pub left : EventLeft (setup_of tells old.begun) (without_routine it) (reply_without reply)
+  pub left : EventLeft (setup_in tells old.begun) (without_routine it) (reply_without reply)
       old.journal.entries new.journal.entries
   pub queued : Queued tells.posted it reply old.journal.queue new.journal.queue
   pub begun : new.begun ≡ old.begun

@@ -10,26 +10,27 @@ use Rattle.cc_script.specs.declared.script.Action.{Action}
 use Rattle.cc_script.specs.declared.script.ActionLine.{ActionLine}
 use Rattle.cc_script.specs.declared.script.StreamLine.{StreamLine}
 use Rattle.cc_pieces.specs.Bindings.{Binding}
-use Rattle.cc_pieces.specs.Steps.{EventAnswered, LineStepped, LinesStepped, StreamStepped, StreamsStepped, deferral_in, deferrals_of, line_event}
+use Rattle.cc_pieces.specs.Steps.{EventAnswered, LineStepped, LinesStepped, StreamStepped, StreamsStepped, deferral_in, deferrals_of_lines, line_event}
 use Rattle.cc_turns.specs.Desk.{Tells}
-use Rattle.cc_world.specs.World.{WorldState, setup_of}
+use Rattle.cc_world.specs.World.{WorldState}
 use Rattle.cc_effects.specs.declared.events.Event.{Event}
 use Rattle.cc_effects.specs.declared.events.Event.TheVariants as event
-use Rattle.cc_event_lines.specs.Routines.{IsQuiet, RoutinesStand, RoutinesState, deferrals_in}
+use Rattle.cc_event_lines.specs.Routines.{IsQuiet, RoutinesStand, RoutinesState, deferrals_of_slots}
+use Rattle.cc_turns.specs.Slots.{setup_in}
 
 -- an action names streams that there are
 abbrev pub IsKnownTo : ℕ → Action → Type 0
 IsKnownTo disks asked = (streams : List StreamLine) × IsActionWithin streams asked × (length streams ≤ disks)
 
 -- the event of a call, which is to fail or to be done
-abbrev pub called : {Q : Type 0} → ℕ → Bool → Call → Event Q
-called me true it = event.Fail me it
-called me false it = event.Do me it
+abbrev pub event_of_call : {Q : Type 0} → ℕ → Bool → Call → Event Q
+event_of_call me true it = event.Fail me it
+event_of_call me false it = event.Do me it
 
 -- An event was answered so that neither deferred nor posted a write.
 pub record WasAnswered {D L Q : Type 0} (tells : Tells D L Q) (it : Event (Unit {0})) (told : Answer)
     (old new : WorldState D L Q) : Type 0 where
-  pub answered : EventAnswered (setup_of tells old.begun) it told old.journal.entries new.journal.entries
+  pub answered : EventAnswered (setup_in tells old.begun) it told old.journal.entries new.journal.entries
   pub quiet : IsQuiet old.journal.entries new.journal.entries
   pub queue : new.journal.queue ≡ old.journal.queue
   pub begun : new.begun ≡ old.begun
@@ -38,13 +39,13 @@ pub record WasAnswered {D L Q : Type 0} (tells : Tells D L Q) (it : Event (Unit 
 pub record RoutinesWent {D L Q : Type 0} (tells : Tells D L Q) (taken : List (Option ℕ)) (new : WorldState D L Q)
     (r s : RoutinesState Q) : Type 0 where
   pub stand : RoutinesStand tells.posted new.journal.entries new.journal.queue s
-  pub deferrals : deferrals_in s.slots ≡ deferrals_in r.slots ++ taken
+  pub deferrals : deferrals_of_slots s.slots ≡ deferrals_of_slots r.slots ++ taken
   pub handed : s.handed ≡ r.handed
 
 -- An event was answered so, and took these of the routines.
 pub record EventWent {D L Q : Type 0} (tells : Tells D L Q) (it : Event (Unit {0})) (taken : List (Option ℕ)) (told : Answer)
     (old new : WorldState D L Q) (r s : RoutinesState Q) : Type 0 where
-  pub answered : EventAnswered (setup_of tells old.begun) it told old.journal.entries new.journal.entries
+  pub answered : EventAnswered (setup_in tells old.begun) it told old.journal.entries new.journal.entries
   pub begun : new.begun ≡ old.begun
   pub routines : RoutinesWent tells taken new r s
 
@@ -55,7 +56,7 @@ taken_by asked told = if is_defer asked then deferral_in told ∷ [] else []
 -- A line happened at its place and was answered so.
 pub record LineWent {D L Q : Type 0} (tells : Tells D L Q) (bindings : List Binding) (line : ActionLine) (told : Answer)
     (old new : WorldState D L Q) (r s : RoutinesState Q) : Type 0 where
-  pub stepped : LineStepped (setup_of tells old.begun) (line_event bindings line) told old.journal.entries new.journal.entries
+  pub stepped : LineStepped (setup_in tells old.begun) (line_event bindings line) told old.journal.entries new.journal.entries
   pub begun : new.begun ≡ old.begun
   pub routines : RoutinesWent tells (taken_by line.action told) new r s
 
@@ -64,14 +65,14 @@ pub record LinesWent {D L Q : Type 0} (tells : Tells D L Q) (bindings : ℕ → 
     (replied replies : List LineReply) (old new : WorldState D L Q) (r s : RoutinesState Q) : Type 0 where
   pub answers : List LineReply
   pub replies_are : replies ≡ replied ++ answers
-  pub stepped : LinesStepped (setup_of tells old.begun) bindings lines answers old.journal.entries new.journal.entries
+  pub stepped : LinesStepped (setup_in tells old.begun) bindings lines answers old.journal.entries new.journal.entries
   pub begun : new.begun ≡ old.begun
-  pub routines : RoutinesWent tells (deferrals_of lines answers) new r s
+  pub routines : RoutinesWent tells (deferrals_of_lines lines answers) new r s
 
 -- A stream was set up, and its line was answered so.
 pub record StreamWent {D L Q : Type 0} (tells : Tells D L Q) (s : ℕ) (stream : StreamLine) (told : Answer)
     (old new : WorldState D L Q) : Type 0 where
-  pub stepped : StreamStepped (setup_of tells old.begun) s stream stream.log told old.journal.entries new.journal.entries
+  pub stepped : StreamStepped (setup_in tells old.begun) s stream stream.log told old.journal.entries new.journal.entries
   pub quiet : IsQuiet old.journal.entries new.journal.entries
   pub queue : new.journal.queue ≡ old.journal.queue
   pub begun : new.begun ≡ old.begun
@@ -82,7 +83,7 @@ pub record StreamsWent {D L Q : Type 0} (tells : Tells D L Q) (s : ℕ) (streams
   pub answers : List LineReply
   pub replies_are : replies ≡ replied ++ answers
   pub counted : length answers ≡ length streams
-  pub stepped : StreamsStepped (setup_of tells old.begun) s streams answers old.journal.entries new.journal.entries
+  pub stepped : StreamsStepped (setup_in tells old.begun) s streams answers old.journal.entries new.journal.entries
   pub quiet : IsQuiet old.journal.entries new.journal.entries
   pub queue : new.journal.queue ≡ old.journal.queue
   pub begun : new.begun ≡ old.begun

@@ -12,26 +12,26 @@ use Rattle.cc_script.specs.declared.script.Action.{Action}
 use Rattle.cc_script.specs.declared.script.Action.TheVariants as action
 use Rattle.cc_script.specs.declared.script.ActionLine.{ActionLine}
 use Rattle.cc_pieces.specs.Bindings.{Binding}
-use Rattle.cc_event_lines.specs.declared.names.Named.{Named}
+use Rattle.cc_event_lines.specs.declared.names.NamedHold.{NamedHold}
 
 -- the holds that words name, the newest first, and for how many there is room
-pub record NamesState : Type 0 where
-  pub named : List Named
+pub record NamedHoldsState : Type 0 where
+  pub named : List NamedHold
   pub room : ℕ
 
 -- the bindings of one caller
-abbrev pub bindings_in : List Named → ℕ → List Binding
+abbrev pub bindings_in : List NamedHold → ℕ → List Binding
 bindings_in [] me = []
 bindings_in (n ∷ named) me =
     if n.caller == me then record { word = n.word; id = n.id; kind = n.kind } ∷ bindings_in named me
     else bindings_in named me
 
 -- whether a word of a caller is the one that names a hold
-abbrev pub is_named_by : ℕ → ℕ → Named → Bool
+abbrev pub is_named_by : ℕ → ℕ → NamedHold → Bool
 is_named_by me word n = n.caller == me && n.word == word
 
 -- what the word names is a pin
-abbrev pub pinned_by : ℕ → ℕ → Named → Named
+abbrev pub pinned_by : ℕ → ℕ → NamedHold → NamedHold
 pinned_by me word n = if is_named_by me word n then record n { kind = kind.Pin } else n
 
 -- the word that an action binds, and the kind of hold that it makes
@@ -55,9 +55,9 @@ word_pinned (action.PinMapped word exclusive) = Some word
 word_pinned other = None
 
 -- the id of a hold that is found, where it is of a kind that serves
-abbrev pub id_of : (HoldKind → Bool) → Option Named → Option ℕ
-id_of of_kind None = None
-id_of of_kind (Some n) = if of_kind n.kind then Some n.id else None
+abbrev pub id_of_named : (HoldKind → Bool) → Option NamedHold → Option ℕ
+id_of_named of_kind None = None
+id_of_named of_kind (Some n) = if of_kind n.kind then Some n.id else None
 
 -- the hold that a line was answered
 abbrev pub hold_told : Answer → Option ℕ
@@ -66,11 +66,11 @@ hold_told other = None
 
 -- the holds that words name behind a line of a caller that was answered a hold, by the word that it binds, and else by
 -- that whose map it pins
-abbrev pub with_made : ℕ → Option (ℕ × HoldKind) → Option ℕ → ℕ → List Named → List Named
+abbrev pub with_made : ℕ → Option (ℕ × HoldKind) → Option ℕ → ℕ → List NamedHold → List NamedHold
 with_made me (Some made) pins id named = record { caller = me; word = made.0; id = id; kind = made.1 } ∷ named
 with_made me None (Some word) id named = map (pinned_by me word) named
 with_made me None None id named = named
 
-abbrev pub named_behind : ActionLine → Option ℕ → List Named → List Named
+abbrev pub named_behind : ActionLine → Option ℕ → List NamedHold → List NamedHold
 named_behind line None named = named
 named_behind line (Some id) named = with_made line.caller (word_made line.action) (word_pinned line.action) id named

@@ -10,7 +10,7 @@ ghost use Rattle.cc_script.specs.HoldWords.{meets};
 ghost use Rattle.cc_event_lines.specs.Doing.{HappensPlainly, IsCopied, IsCopiedIn, call_on_file, call_on_hold, call_on_range, called_on, doing_made, event_in, read_on, written_by};
 ghost use Rattle.cc_event_lines.specs.Names.{bindings_in};
 
-use crate::names::Names;
+use crate::names::NamedHolds;
 use cc_effects::Event;
 use cc_entry::{Bytes, Call, FileId, NoMemory};
 use cc_script::{Action, HoldWord, Need};
@@ -18,7 +18,7 @@ use std::alloc::Global;
 
 /// What a line is.
 #[derive(Drop)]
-pub(crate) enum Doing<Q> {
+pub(crate) enum MadeDoing<Q> {
     /// An event that is no call, and neither defers nor posts a write.
     Happens(Event<Q>),
     Makes(Call),
@@ -37,9 +37,9 @@ pub(crate) enum Doing<Q> {
 pub(crate) fn doing_of<Q>(
     alloc: Global,
     me: u32,
-    names: &Names,
+    names: &NamedHolds,
     action: &Action,
-) -> Result<Doing<Q>, NoMemory>
+) -> Result<MadeDoing<Q>, NoMemory>
     ensures ok { IfOk result (λ doing. doing_made me doing ≡ doing_of me (bindings_in names.now.named me) action.now) }
     ensures plain { IfOk result (λ doing. HappensPlainly doing) }
     ensures err { IfErr result (λ e. IsCopied (doing_of me (bindings_in names.now.named me) action.now)) }
@@ -48,10 +48,10 @@ pub(crate) fn doing_of<Q>(
         return Ok(doing);
     }
     if let Some(call) = call_on_range(action) {
-        return Ok(Doing::Makes(call));
+        return Ok(MadeDoing::Makes(call));
     }
     if let Some(call) = call_on_file(action) {
-        return Ok(Doing::Makes(call));
+        return Ok(MadeDoing::Makes(call));
     }
     match written_by(alloc, me, names, action) {
         Ok(Some(doing)) => Ok(doing),
@@ -61,42 +61,45 @@ pub(crate) fn doing_of<Q>(
 }
 
 // A call on a hold, where there is one that serves.
-fn called_on<Q>(call: Option<Call>) -> Doing<Q>
+fn called_on<Q>(call: Option<Call>) -> MadeDoing<Q>
     ensures { result ≡ called_on call }
 {
     match call {
-        Some(call) => Doing::Makes(call),
-        None => Doing::NamesNone,
+        Some(call) => MadeDoing::Makes(call),
+        None => MadeDoing::NamesNone,
     }
 }
 
 // An event of a page, a stream, a log or the queue, which copies no bytes.
-fn event_in<Q>(me: u32, action: &Action) -> Option<Doing<Q>>
+fn event_in<Q>(me: u32, action: &Action) -> Option<MadeDoing<Q>>
     ensures made { option_map (doing_made me) result ≡ event_in me action.now }
     ensures plain { IfSome result (λ doing. HappensPlainly doing) }
 {
     match *action {
-        Action::LogFlush { handle, lsn } => Some(Doing::Happens(Event::LogFlush {
+        Action::LogFlush { handle, lsn } => Some(MadeDoing::Happens(Event::LogFlush {
             pass: me,
             handle,
             to: lsn,
         })),
-        Action::Fill { page } => Some(Doing::Happens(Event::Fill { pass: me, page })),
-        Action::Drop { page } => Some(Doing::Happens(Event::Drop { page })),
-        Action::WriteBegin { page } => Some(Doing::Happens(Event::WriteBegin { pass: me, page })),
-        Action::WriteEnd { page } => Some(Doing::Happens(Event::WriteEnd { page })),
-        Action::Sync { stream } => Some(Doing::Happens(Event::Sync { pass: me, stream })),
-        Action::Scan => Some(Doing::Happens(Event::Scan { pass: me })),
+        Action::Fill { page } => Some(MadeDoing::Happens(Event::Fill { pass: me, page })),
+        Action::Drop { page } => Some(MadeDoing::Happens(Event::Drop { page })),
+        Action::WriteBegin { page } => Some(MadeDoing::Happens(Event::WriteBegin {
+            pass: me,
+            page,
+        })),
+        Action::WriteEnd { page } => Some(MadeDoing::Happens(Event::WriteEnd { page })),
+        Action::Sync { stream } => Some(MadeDoing::Happens(Event::Sync { pass: me, stream })),
+        Action::Scan => Some(MadeDoing::Happens(Event::Scan { pass: me })),
         Action::Defer {
             file,
             bytes,
             retrying,
-        } => Some(Doing::Defers {
+        } => Some(MadeDoing::Defers {
             file,
             bytes,
             retrying,
         }),
-        Action::Post => Some(Doing::Posts),
+        Action::Post => Some(MadeDoing::Posts),
         _ => None,
     }
 }
@@ -207,9 +210,9 @@ fn call_on_file(action: &Action) -> Option<Call>
 fn written_by<Q>(
     alloc: Global,
     me: u32,
-    names: &Names,
+    names: &NamedHolds,
     action: &Action,
-) -> Result<Option<Doing<Q>>, NoMemory>
+) -> Result<Option<MadeDoing<Q>>, NoMemory>
     ensures ok { IfOk result (λ doing.
         option_map (doing_made me) doing ≡ written_by me (bindings_in names.now.named me) action.now) }
     ensures plain { IfOk result (λ doing. IfSome doing (λ doing. HappensPlainly doing)) }
@@ -218,7 +221,7 @@ fn written_by<Q>(
     match action {
         Action::CopyWrite { file, at, bytes } => {
             let bytes = copy_of(alloc, bytes)?;
-            Ok(Some(Doing::Makes(Call::CopyWrite {
+            Ok(Some(MadeDoing::Makes(Call::CopyWrite {
                 file: *file,
                 at: *at,
                 bytes,
@@ -226,7 +229,7 @@ fn written_by<Q>(
         }
         Action::NcStorePage { file, page, bytes } => {
             let bytes = copy_of(alloc, bytes)?;
-            Ok(Some(Doing::Makes(Call::NcStore {
+            Ok(Some(MadeDoing::Makes(Call::NcStore {
                 file: *file,
                 page: *page,
                 bytes,
@@ -234,10 +237,10 @@ fn written_by<Q>(
         }
         Action::PinnedWrite { word, at, bytes } => {
             let Some(hold) = names.hold(me, *word, Need::Pin) else {
-                return Ok(Some(Doing::NamesNone));
+                return Ok(Some(MadeDoing::NamesNone));
             };
             let bytes = copy_of(alloc, bytes)?;
-            Ok(Some(Doing::Makes(Call::PinnedWrite {
+            Ok(Some(MadeDoing::Makes(Call::PinnedWrite {
                 hold,
                 at: *at,
                 bytes,
@@ -245,10 +248,10 @@ fn written_by<Q>(
         }
         Action::MdlStore { word, at, bytes } => {
             let Some(hold) = names.hold(me, *word, Need::WriteChain) else {
-                return Ok(Some(Doing::NamesNone));
+                return Ok(Some(MadeDoing::NamesNone));
             };
             let bytes = copy_of(alloc, bytes)?;
-            Ok(Some(Doing::Makes(Call::MdlStore {
+            Ok(Some(MadeDoing::Makes(Call::MdlStore {
                 hold,
                 at: *at,
                 bytes,
@@ -256,7 +259,7 @@ fn written_by<Q>(
         }
         Action::Append { handle, bytes } => {
             let bytes = copy_of(alloc, bytes)?;
-            Ok(Some(Doing::Happens(Event::Append {
+            Ok(Some(MadeDoing::Happens(Event::Append {
                 pass: me,
                 handle: *handle,
                 bytes,
@@ -267,7 +270,7 @@ fn written_by<Q>(
 }
 
 // A call on the hold that a word names, where it names one that serves.
-fn call_on_hold(me: u32, names: &Names, action: &Action) -> Option<Call>
+fn call_on_hold(me: u32, names: &NamedHolds, action: &Action) -> Option<Call>
     ensures { result ≡ call_on_hold (bindings_in names.now.named me) action.now }
 {
     match *action {
@@ -297,7 +300,7 @@ fn call_on_hold(me: u32, names: &Names, action: &Action) -> Option<Call>
 }
 
 // A read of mapped bytes, or else of pinned ones.
-fn held_read(me: u32, names: &Names, word: HoldWord, at: u64, len: u64) -> Option<Call>
+fn held_read(me: u32, names: &NamedHolds, word: HoldWord, at: u64, len: u64) -> Option<Call>
     ensures { result ≡ read_on (hold_named (bindings_in names.now.named me) word is_map)
         (hold_named (bindings_in names.now.named me) word is_pin) at len }
 {
@@ -309,7 +312,7 @@ fn held_read(me: u32, names: &Names, word: HoldWord, at: u64, len: u64) -> Optio
 }
 
 // The end of a hold.
-fn hold_ended(me: u32, names: &Names, word: HoldWord, need: Need) -> Option<Call>
+fn hold_ended(me: u32, names: &NamedHolds, word: HoldWord, need: Need) -> Option<Call>
     ensures { result ≡ option_map (λ id. call.EndHold id) (hold_named (bindings_in names.now.named me) word (meets need)) }
 {
     let hold = names.hold(me, word, need)?;

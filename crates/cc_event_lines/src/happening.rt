@@ -4,7 +4,7 @@ ghost use Rattle.std.specs.Prelude.{◌≡◌, length};
 ghost use Rattle.cc_pieces.specs.Steps.{answer_by};
 ghost use Rattle.cc_turns.specs.Desk.{tells_of};
 ghost use Rattle.cc_effects.specs.Events.{IsKnown, IsUnposted};
-ghost use Rattle.cc_event_lines.specs.Doing.{IsPlain};
+ghost use Rattle.cc_event_lines.specs.Doing.{IsPlainEvent};
 ghost use Rattle.cc_event_lines.specs.Happening.{HasHappened, PostsNone, reply_without, without_routine};
 ghost use Rattle.cc_event_lines.specs.Lines.{WasAnswered};
 
@@ -33,7 +33,7 @@ pub(crate) fn answer_to<D: PageDisk, L: LogFile, Q: PostRoutine>(
     event: Event<Q>,
 ) -> Answer
     requires known { IsKnown (length world.old.begun.disks) event }
-    requires plain { IsPlain event }
+    requires plain { IsPlainEvent event }
     ensures { WasAnswered (tells_of D.told D.faults L.told L.faults Q.posted) (without_routine event) result
         world.old world.new }
 {

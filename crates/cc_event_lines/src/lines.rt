@@ -6,14 +6,14 @@ ghost use Rattle.cc_script.specs.EventActions.{defer_lines, is_defer};
 ghost use Rattle.cc_pieces.specs.Steps.{deferral_in};
 ghost use Rattle.cc_turns.specs.Desk.{tells_of};
 ghost use Rattle.cc_effects.specs.declared.events.Event.TheVariants as event;
-ghost use Rattle.cc_event_lines.specs.Lines.{EventWent, IsKnownTo, LineWent, LinesWent, called};
+ghost use Rattle.cc_event_lines.specs.Lines.{EventWent, IsKnownTo, LineWent, LinesWent, event_of_call};
 ghost use Rattle.cc_event_lines.specs.Names.{bindings_in, words_in};
 ghost use Rattle.cc_event_lines.specs.Routines.{RoutinesStand};
 
-use crate::doing::{Doing, doing_of};
+use crate::doing::{MadeDoing, doing_of};
 use crate::happening::{answer_to, happen};
-use crate::names::Names;
-use crate::routines::{Routines, Slot};
+use crate::names::NamedHolds;
+use crate::routines::{RoutineSlot, Routines};
 use cc_effects::{Event, StepReply};
 use cc_entry::{Answer, Call, CcError, FileId, Ids, LineReply};
 use cc_script::ActionLine;
@@ -26,7 +26,7 @@ pub(crate) fn step_lines<D: PageDisk, L: LogFile, Q: PostRoutine>(
     alloc: Global,
     world: &mut World<D, L, Q>,
     routines: &mut Routines<Q>,
-    names: &mut Names,
+    names: &mut NamedHolds,
     lines: &[ActionLine],
     replies: &mut Vec<LineReply>,
 )
@@ -53,7 +53,7 @@ fn step_line<D: PageDisk, L: LogFile, Q: PostRoutine>(
     alloc: Global,
     world: &mut World<D, L, Q>,
     routines: &mut Routines<Q>,
-    names: &Names,
+    names: &NamedHolds,
     line: &ActionLine,
 ) -> Answer
     requires known { IsKnownTo (length world.old.begun.disks) line.now.action }
@@ -67,21 +67,21 @@ fn step_line<D: PageDisk, L: LogFile, Q: PostRoutine>(
         return Answer::Refused(CcError::NoMemory);
     };
     match doing {
-        Doing::Happens(event) => answer_to(world, event),
-        Doing::Makes(call) => answer_to(world, called(pass, line.fails, call)),
-        Doing::Defers {
+        MadeDoing::Happens(event) => answer_to(world, event),
+        MadeDoing::Makes(call) => answer_to(world, called(pass, line.fails, call)),
+        MadeDoing::Defers {
             file,
             bytes,
             retrying,
         } => defer(world, routines, pass, file, bytes, retrying),
-        Doing::Posts => post(alloc, world, routines, pass),
-        Doing::NamesNone => Answer::NoHold,
+        MadeDoing::Posts => post(alloc, world, routines, pass),
+        MadeDoing::NamesNone => Answer::NoHold,
     }
 }
 
 // The event of a call, which is to fail or to be done.
 fn called<Q>(pass: u32, fails: bool, call: Call) -> Event<Q>
-    ensures { result ≡ called pass fails call }
+    ensures { result ≡ event_of_call pass fails call }
 {
     if fails {
         Event::Fail { pass, call }
@@ -114,14 +114,14 @@ fn defer<D: PageDisk, L: LogFile, Q: PostRoutine>(
     };
     match happen(world, event) {
         StepReply::Deferred(id) => {
-            routines.keep(Slot {
+            routines.keep(RoutineSlot {
                 deferral: Some(id),
                 routine: None,
             });
             Answer::Deferred(id)
         }
         StepReply::Kept(routine, error) => {
-            routines.keep(Slot {
+            routines.keep(RoutineSlot {
                 deferral: None,
                 routine: Some(routine),
             });

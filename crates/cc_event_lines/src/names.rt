@@ -13,7 +13,7 @@ use std::marker::Model;
 
 /// A hold that a word of a caller names.
 #[derive(Clone, Copy)]
-pub(crate) struct Named {
+pub(crate) struct NamedHold {
     pub(crate) caller: u32,
     /// The word's number among those that the caller binds.
     pub(crate) word: usize,
@@ -21,7 +21,7 @@ pub(crate) struct Named {
     pub(crate) kind: HoldKind,
 }
 
-impl Named {
+impl NamedHold {
     // Whether a word of a caller is the one that names it.
     fn is_named_by(&self, caller: u32, word: usize) -> bool
         ensures { result ≡ is_named_by caller word self.now }
@@ -30,11 +30,11 @@ impl Named {
     }
 
     // The same as a pin, where the word is the one that names it.
-    fn pinned_by(self, caller: u32, word: usize) -> Named
+    fn pinned_by(self, caller: u32, word: usize) -> NamedHold
         ensures { result ≡ pinned_by caller word self }
     {
         if self.is_named_by(caller, word) {
-            Named {
+            NamedHold {
                 kind: HoldKind::Pin,
                 ..self
             }
@@ -46,25 +46,25 @@ impl Named {
 
 /// The holds that the callers' words name, in the order in which they were made.
 #[derive(Drop)]
-pub(crate) struct Names {
-    items: Vec<Named>,
+pub(crate) struct NamedHolds {
+    items: Vec<NamedHold>,
 }
 
-impl Model for Names {
+impl Model for NamedHolds {
     ghost use Rattle.std.specs.Prelude.{reverse, vec_capacity};
-    ghost use Rattle.cc_event_lines.specs.Names.{NamesState};
+    ghost use Rattle.cc_event_lines.specs.Names.{NamedHoldsState};
 
-    ghost Value = { NamesState };
+    ghost Value = { NamedHoldsState };
 
     ghost view = { λ n. record { named = reverse n.items.items; room = vec_capacity n.items } };
 }
 
-impl Names {
+impl NamedHolds {
     /// None yet, with room for so many.
-    pub(crate) fn with_room(alloc: Global, words: usize) -> Result<Names, NoMemory>
+    pub(crate) fn with_room(alloc: Global, words: usize) -> Result<NamedHolds, NoMemory>
         ensures { IfOk result (λ names. (names.named ≡ []) × (words ≤ names.room)) }
     {
-        Ok(Names {
+        Ok(NamedHolds {
             items: Vec::with_capacity(alloc, words)?,
         })
     }
@@ -94,7 +94,7 @@ impl Names {
             return;
         };
         if let Some((word, kind)) = word_made(&line.action) {
-            self.items.push_reserved(Named {
+            self.items.push_reserved(NamedHold {
                 caller: line.caller,
                 word: word.number(),
                 id,
@@ -107,7 +107,7 @@ impl Names {
 }
 
 // The hold that a word of a caller names is a pin from now on.
-fn pin(items: &mut [Named], caller: u32, word: usize)
+fn pin(items: &mut [NamedHold], caller: u32, word: usize)
     ensures { items.new ≡ map (pinned_by caller word) items.old }
 {
     for named in items.iter_mut() {
@@ -116,7 +116,7 @@ fn pin(items: &mut [Named], caller: u32, word: usize)
 }
 
 // The newest hold that a word of a caller names.
-fn newest(items: &[Named], caller: u32, word: usize) -> Option<Named>
+fn newest(items: &[NamedHold], caller: u32, word: usize) -> Option<NamedHold>
     ensures { result ≡ find (is_named_by caller word) (reverse items.now) }
 {
     items

@@ -10,14 +10,14 @@ use std::snapshot::Snapshot;
 
 /// The routine of a `defer` line.
 #[derive(Drop)]
-pub(crate) struct Slot<Q> {
+pub(crate) struct RoutineSlot<Q> {
     /// The number of the write that was deferred with it, where one was.
     pub(crate) deferral: Option<u64>,
     /// None while it waits in the journal.
     pub(crate) routine: Option<Q>,
 }
 
-impl<Q> Slot<Q> {
+impl<Q> RoutineSlot<Q> {
     // Whether its routine waits under this number.
     fn waits_for(&self, id: u64) -> bool
         ensures { result ≡ waits_for id self.now }
@@ -32,7 +32,7 @@ impl<Q> Slot<Q> {
 /// The post routines that were handed in.
 pub(crate) struct Routines<Q> {
     /// Those of the `defer` lines so far, in their order.
-    slots: Vec<Slot<Q>>,
+    slots: Vec<RoutineSlot<Q>>,
     /// Those of the lines to come, the last first, with room for all.
     unused: Vec<Q>,
     /// All, as they were handed in.
@@ -85,7 +85,7 @@ impl<Q: Drop> Routines<Q> {
     }
 
     /// Keeps what became of the routine that was taken out last.
-    pub(crate) fn keep(&mut self, slot: Slot<Q>)
+    pub(crate) fn keep(&mut self, slot: RoutineSlot<Q>)
         requires { length self.old.slots < self.old.room }
         ensures { self.new ≡ record self.old { slots = self.old.slots ++ slot ∷ [] } }
     {
@@ -97,7 +97,7 @@ impl<Q: Drop> Routines<Q> {
         ensures { self.new ≡ record self.old { slots = come_back id routine self.old.slots } }
     {
         if let Some(place) = place_of(&self.slots, id) {
-            let slot = Slot {
+            let slot = RoutineSlot {
                 deferral: Some(id),
                 routine: Some(routine),
             };
@@ -129,7 +129,7 @@ impl<Q: Drop> Routines<Q> {
             handed: _,
         } = self;
         let mut routines = unused;
-        while let Some(Slot { routine, .. }) = slots.pop() {
+        while let Some(RoutineSlot { routine, .. }) = slots.pop() {
             if let Some(routine) = routine {
                 routines.push_reserved(routine);
             }
@@ -140,7 +140,7 @@ impl<Q: Drop> Routines<Q> {
 }
 
 // The place whose routine waits under this number.
-fn place_of<Q>(slots: &[Slot<Q>], id: u64) -> Option<usize>
+fn place_of<Q>(slots: &[RoutineSlot<Q>], id: u64) -> Option<usize>
     ensures place { result ≡ position (waits_for id) slots.now }
     ensures within { IfSome result (λ place. place < length slots.now) }
 {

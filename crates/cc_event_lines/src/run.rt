@@ -1,20 +1,22 @@
 //! The run of a script of steps: its memory is taken, its streams are set up, its lines are stepped through, and all
 //! comes back.
 
-ghost use Rattle.std.specs.Prelude.{◌≡◌, ◌+◌, ◌≤◌, [], All, IfOk, IfErr, false, length, reverse, vec_len, vec_capacity};
+ghost use Rattle.std.specs.Prelude.{◌≡◌, ◌+◌, ◌<◌, ◌≤◌, ◌^◌, [], All, IfOk, IfErr, false, length, reverse, vec_len, vec_capacity};
 ghost use Rattle.cc_journal.specs.Capacity.{IsWithinCapacity};
 ghost use Rattle.cc_model.specs.Good.{IsGood};
-ghost use Rattle.cc_pieces.specs.Steps.{IsSteppedThrough, PostsLeft, deferrals_by};
+ghost use Rattle.cc_pieces.specs.Steps.{IsSteppedThrough, RoutinesLeft, deferrals_by};
 ghost use Rattle.cc_script.specs.EventActions.{defer_lines};
-ghost use Rattle.cc_script.specs.Within.{IsWithin};
+ghost use Rattle.cc_script.specs.Within.{ScriptIsWithin};
+ghost use Rattle.cc_traits.specs.Setup.{capacity_of};
 ghost use Rattle.cc_turns.specs.Desk.{made_from, tells_of};
-ghost use Rattle.cc_world.specs.World.{DisksEnded, IsFresh, LogsEnded, setup_of};
+ghost use Rattle.cc_world.specs.World.{WorldDisksEnded, WorldIsFresh, WorldLogsEnded};
 ghost use Rattle.cc_event_lines.specs.Names.{words_in};
 ghost use Rattle.cc_event_lines.specs.Routines.{AreNew};
-ghost use Rattle.cc_event_lines.specs.Run.{IsRun};
+ghost use Rattle.cc_event_lines.specs.Run.{IsScriptRun};
+ghost use Rattle.cc_turns.specs.Slots.{setup_in};
 
 use crate::lines::step_lines;
-use crate::names::{Names, words_in};
+use crate::names::{NamedHolds, words_in};
 use crate::openings::open_streams;
 use crate::routines::Routines;
 use cc_entry::{Entry, LineReply};
@@ -33,7 +35,7 @@ pub struct StepsRun<D: PageDisk, L: LogFile, Q: PostRoutine> {
 }
 
 impl<D: PageDisk, L: LogFile, Q: PostRoutine> Model for StepsRun<D, L, Q> {
-    ghost use Rattle.cc_event_lines.specs.Routines.{RoutinesStand, deferrals_in};
+    ghost use Rattle.cc_event_lines.specs.Routines.{RoutinesStand, deferrals_of_slots};
     ghost use Rattle.cc_event_lines.specs.Run.{RunState};
 
     ghost Value = { RunState D L Q };
@@ -41,7 +43,7 @@ impl<D: PageDisk, L: LogFile, Q: PostRoutine> Model for StepsRun<D, L, Q> {
     ghost view = { λ r. record {
       world = r.world;
       replies = r.replies.items;
-      deferrals = deferrals_in r.routines.slots;
+      deferrals = deferrals_of_slots r.routines.slots;
       posts = r.routines.handed;
     } };
 
@@ -68,13 +70,14 @@ pub fn run_steps<D: PageDisk, L: LogFile, Q: PostRoutine>(
     setup: Setup<D, L>,
     posts: Vec<Q>,
 ) -> Result<StepsRun<D, L, Q>, (Setup<D, L>, Vec<Q>)>
-    requires within { IsWithin script.now }
+    requires within { ScriptIsWithin script.now }
+    requires recorded { capacity_of setup.journal < 2 ^ 32 }
     requires disks { length script.now.streams ≤ length setup.disks.items }
     requires posts { defer_lines script.now.lines ≤ length posts.items }
     requires unposted { All (λ routine. Q.posted routine ≡ false) posts.items }
     ensures begun { IfOk result (λ run. run.world.begun ≡ made_from setup) }
     ensures explained { IfOk result (λ run. IsSteppedThrough
-        (setup_of (tells_of D.told D.faults L.told L.faults Q.posted) (made_from setup))
+        (setup_in (tells_of D.told D.faults L.told L.faults Q.posted) (made_from setup))
         script.now.streams script.now.lines run.replies run.world.journal.entries) }
     ensures deferrals { IfOk result (λ run. run.deferrals
         ≡ deferrals_by script.now.streams script.now.lines run.replies) }
@@ -85,7 +88,7 @@ pub fn run_steps<D: PageDisk, L: LogFile, Q: PostRoutine>(
     let Ok(replies) = Vec::with_capacity(alloc, script.streams.len() + lines.len()) else {
         return Err((setup, posts));
     };
-    let Ok(names) = Names::with_room(alloc, words_in(lines)) else {
+    let Ok(names) = NamedHolds::with_room(alloc, words_in(lines)) else {
         return Err((setup, posts));
     };
     let routines = match Routines::new(alloc, posts) {
@@ -104,18 +107,18 @@ fn run_on<D: PageDisk, L: LogFile, Q: PostRoutine>(
     script: &Script,
     world: World<D, L, Q>,
     routines: Routines<Q>,
-    names: Names,
+    names: NamedHolds,
     replies: Vec<LineReply>,
 ) -> StepsRun<D, L, Q>
-    requires within { IsWithin script.now }
-    requires fresh { IsFresh world.begun world }
+    requires within { ScriptIsWithin script.now }
+    requires fresh { WorldIsFresh world.begun world }
     requires disks { length script.now.streams ≤ length world.begun.disks }
     requires routines { AreNew Q.posted routines }
     requires enough { defer_lines script.now.lines ≤ length routines.handed }
     requires none { (names.named ≡ []) × (replies.items ≡ []) }
     requires words { words_in script.now.lines ≤ names.room }
     requires room { length script.now.streams + length script.now.lines ≤ vec_capacity replies }
-    ensures { IsRun (tells_of D.told D.faults L.told L.faults Q.posted) script.now world.begun routines.handed result }
+    ensures { IsScriptRun (tells_of D.told D.faults L.told L.faults Q.posted) script.now world.begun routines.handed result }
 {
     let mut world = world;
     let mut routines = routines;
@@ -149,12 +152,12 @@ impl<D: PageDisk, L: LogFile, Q: PostRoutine> StepsRun<D, L, Q> {
     pub fn end(self) -> StepsEnd<D, L, Q>
         ensures replies { result.replies.items ≡ self.replies }
         ensures journal { reverse result.journal.items ≡ self.world.journal.entries }
-        ensures good { IsGood (setup_of (tells_of D.told D.faults L.told L.faults Q.posted) self.world.begun)
+        ensures good { IsGood (setup_in (tells_of D.told D.faults L.told L.faults Q.posted) self.world.begun)
             self.world.journal.entries }
         ensures within { IsWithinCapacity self.world.begun.capacity self.world.journal.entries }
-        ensures disks { DisksEnded (tells_of D.told D.faults L.told L.faults Q.posted) self.world result.disks.items }
-        ensures logs { LogsEnded (tells_of D.told D.faults L.told L.faults Q.posted) self.world result.logs.items }
-        ensures posts { PostsLeft Q.posted self.deferrals self.world.journal.entries self.posts result.posts.items }
+        ensures disks { WorldDisksEnded (tells_of D.told D.faults L.told L.faults Q.posted) self.world result.disks.items }
+        ensures logs { WorldLogsEnded (tells_of D.told D.faults L.told L.faults Q.posted) self.world result.logs.items }
+        ensures posts { RoutinesLeft Q.posted self.deferrals self.world.journal.entries self.posts result.posts.items }
     {
         let StepsRun {
             world,

@@ -9,7 +9,7 @@ use Rattle.std.proofs.lemmas.Bool.Decides.{nat_tests}
 use Rattle.cc_entry.specs.declared.call.Call.TheVariants as call
 use Rattle.cc_model.specs.History.{Effect, Did, CameIn, WentOut, Began, Ended, Synced}
 use Rattle.cc_model.specs.Holds.{Hold, holds_of, hold_at, changed_at, repinned, id_of}
-use Rattle.cc_events.specs.Holdings.{holding_of, place_of, place_in, place_after}
+use Rattle.cc_events.specs.Holdings.{holding_of, place_of_hold, place_in, place_after}
 
 -- a choice by a test of equal numbers
 pub choose_same : {A : Type 0} (a b : ℕ) (x y : A) → a ≡ b → (if a == b then x else y) ≡ x
@@ -18,14 +18,14 @@ choose_same a b x y same = rw (eq-eqb a b same) refl
 pub choose_other : {A : Type 0} (a b : ℕ) (x y : A) → (a ≡ b → ⊥) → (if a == b then x else y) ≡ y
 choose_other a b x y other = rw (ne_eqb a b other) refl
 
-pub place_in-cons : (hold : Hold) (holds : List Hold) (id : ℕ) → place_in (hold ∷ holds) id ≡ (if hold.id == id then Some (place_of hold) else place_in holds id)
+pub place_in-cons : (hold : Hold) (holds : List Hold) (id : ℕ) → place_in (hold ∷ holds) id ≡ (if hold.id == id then Some (place_of_hold hold) else place_in holds id)
 place_in-cons hold holds id = go (hold.id == id) refl
   where
-    go : (b : Bool) → (hold.id == id) ≡ b → place_in (hold ∷ holds) id ≡ (if hold.id == id then Some (place_of hold) else place_in holds id)
+    go : (b : Bool) → (hold.id == id) ≡ b → place_in (hold ∷ holds) id ≡ (if hold.id == id then Some (place_of_hold hold) else place_in holds id)
     go true is = rw is refl
     go false is = rw is refl
 
-place_in-changed : (target : ℕ) (change : Hold → Hold) → ((it : Hold) → (change it).id ≡ it.id) → ((it : Hold) → place_of (change it) ≡ place_of it) → (holds : List Hold) (id : ℕ) → place_in (changed_at target change holds) id ≡ place_in holds id
+place_in-changed : (target : ℕ) (change : Hold → Hold) → ((it : Hold) → (change it).id ≡ it.id) → ((it : Hold) → place_of_hold (change it) ≡ place_of_hold it) → (holds : List Hold) (id : ℕ) → place_in (changed_at target change holds) id ≡ place_in holds id
 place_in-changed target change same place [] id = refl
 place_in-changed target change same place (hold ∷ holds) id = go (place_in-changed target change same place holds id) (hold.id == target) refl
   where
@@ -52,7 +52,7 @@ place_in-ended ended id (hold ∷ holds) = go (place_in-ended ended id holds) (h
     gone true is same = rw is refl
     gone false is same = ap (λ (place : Option (ℕ × ℕ)). if ended == id then None else place) (sym (place_in-cons hold holds id ∙ rw (same, is) refl))
 
-    kept : (b : Bool) → (hold.id == id) ≡ b → (hold.id == ended) ≡ false → (if hold.id == id then Some (place_of hold) else (if ended == id then None else place_in holds id)) ≡ (if ended == id then None else place_in (hold ∷ holds) id)
+    kept : (b : Bool) → (hold.id == id) ≡ b → (hold.id == ended) ≡ false → (if hold.id == id then Some (place_of_hold hold) else (if ended == id then None else place_in holds id)) ≡ (if ended == id then None else place_in (hold ∷ holds) id)
     kept true is other = rw (is, tests_other hold.id ended id is other) refl
     kept false is other = rw is refl
 

@@ -3,8 +3,8 @@ use Rattle.std.specs.Prelude.{ℕ, ◌+◌, List, [], ◌∷◌, length, min, ma
 use Rattle.std.specs.declared.option.Option.{Option}
 use Rattle.std.specs.declared.option.Option.TheVariants.{Some, None}
 use Rattle.cc_entry.specs.declared.entry.Entry.{Entry}
-use Rattle.cc_events.specs.declared.event.Event.{Event}
-use Rattle.cc_events.specs.declared.event.Event.TheVariants as event
+use Rattle.cc_events.specs.declared.event.StreamEvent.{StreamEvent}
+use Rattle.cc_events.specs.declared.event.StreamEvent.TheVariants as event
 use Rattle.cc_entry.specs.Pages.{pages_of}
 use Rattle.cc_model.specs.Numbers.{without}
 use Rattle.cc_model.specs.History.{Effect, Did, CameIn, WentOut, Began, Ended, Synced, effect_of}
@@ -15,7 +15,7 @@ use Rattle.cc_model.specs.Sizes.{stored_range, hold_pages, ended_ok}
 use Rattle.cc_model.specs.Touches.{size_of, valid_of, is_mapped}
 
 -- what an act does
-abbrev pub event_of_act : Act → Event
+abbrev pub event_of_act : Act → StreamEvent
 event_of_act (Opens file sizes quota temporary) = event.Opens file.object sizes.size sizes.valid
 event_of_act (Closes file truncate) = event.Closes file.object truncate
 event_of_act (Resizes allocation size) = event.Resizes size
@@ -27,7 +27,7 @@ event_of_act (Discards span) = event.Discards span
 event_of_act Looks = event.Rests
 
 -- what an effect does, where there is one
-abbrev pub event_of : Option Effect → Event
+abbrev pub event_of : Option Effect → StreamEvent
 event_of None = event.Rests
 event_of (Some (Did pass call reply)) = event_of_act (act_of call)
 event_of (Some (CameIn pass page from_disk)) = event.CameIn page
@@ -37,16 +37,16 @@ event_of (Some (Ended pass page how)) = event.Ended page (ended_ok how)
 event_of (Some (Synced pass how)) = event.Rests
 
 -- what an entry does to a stream
-abbrev pub event_in : Entry → ℕ → Event
-event_in e s = event_of (effect_of e s)
+abbrev pub event_on : Entry → ℕ → StreamEvent
+event_on e s = event_of (effect_of e s)
 
 -- where the bytes end that an event changes, 0 where it changes none
-abbrev pub end_of : Event → ℕ
-end_of (event.Changes from to) = to
-end_of other = 0
+abbrev pub end_of_event : StreamEvent → ℕ
+end_of_event (event.Changes from to) = to
+end_of_event other = 0
 
 -- the objects after an event
-abbrev pub objects_after : Event → List ℕ → List ℕ
+abbrev pub objects_after : StreamEvent → List ℕ → List ℕ
 objects_after (event.Opens object size valid) opened = object ∷ without object opened
 objects_after (event.Closes object truncate) opened = without object opened
 objects_after other opened = opened
@@ -56,14 +56,14 @@ abbrev pub truncation_by : ℕ → Option ℕ → List ℕ → ℕ → Option �
 truncation_by object truncate opened size = truncation opened size (record { stream = 0; object = object }) truncate
 
 -- the pages that an event touches, given the stream before it
-abbrev pub touched_pages : Event → List Effect → List ℕ
+abbrev pub touched_pages : StreamEvent → List Effect → List ℕ
 touched_pages (event.Changes from to) h = pages_of (record { from = from; to = to })
 touched_pages (event.Stores page) h = page ∷ []
 touched_pages (event.Stamps hold lsn) h = hold_pages (hold_at (holds_of h) hold)
 touched_pages other h = []
 
 -- the size after an event, given the stream before it
-abbrev pub size_after : Event → List Effect → ℕ
+abbrev pub size_after : StreamEvent → List Effect → ℕ
 size_after (event.Opens object size valid) h = if is_mapped h then size_of h else size
 size_after (event.Closes object truncate) h =
     elim (truncation_by object truncate (objects h) (size_of h)) [ None ↦ size_of h | Some to ↦ to ]
@@ -71,7 +71,7 @@ size_after (event.Resizes size) h = size
 size_after other h = size_of h
 
 -- the valid data length after an event, given the stream before it
-abbrev pub valid_after : Event → List Effect → ℕ
+abbrev pub valid_after : StreamEvent → List Effect → ℕ
 valid_after (event.Opens object size valid) h = if is_mapped h then valid_of h else valid
 valid_after (event.Closes object truncate) h =
     elim (truncation_by object truncate (objects h) (size_of h)) [ None ↦ valid_of h | Some to ↦ min (valid_of h) to ]

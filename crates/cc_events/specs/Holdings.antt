@@ -27,12 +27,12 @@ holding_of (Some (Did pass call reply)) = holding_of_call call (id_of reply)
 holding_of other = holding.Rests
 
 -- the place and the length of a hold
-abbrev pub place_of : Hold → ℕ × ℕ
-place_of hold = (hold.at, hold.len)
+abbrev pub place_of_hold : Hold → ℕ × ℕ
+place_of_hold hold = (hold.at, hold.len)
 
 -- the place and the length of the open hold of this id
 abbrev pub place_in : List Hold → ℕ → Option (ℕ × ℕ)
-place_in holds id = option_map place_of (hold_at holds id)
+place_in holds id = option_map place_of_hold (hold_at holds id)
 
 -- the same after something happened to the holds of a stream
 abbrev pub place_after : Holding → List Hold → ℕ → Option (ℕ × ℕ)

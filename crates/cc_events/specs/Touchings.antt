@@ -2,8 +2,8 @@
 use Rattle.std.specs.Prelude.{ℕ, suc, ◌*◌, ◌==◌, ◌&&◌, nat_le, Bool, true, List, [], ◌∷◌, length, if◌then◌else◌}
 use Rattle.std.specs.declared.option.Option.{Option}
 use Rattle.std.specs.declared.option.Option.TheVariants.{Some, None}
-use Rattle.cc_events.specs.declared.event.Event.{Event}
-use Rattle.cc_events.specs.declared.event.Event.TheVariants as event
+use Rattle.cc_events.specs.declared.event.StreamEvent.{StreamEvent}
+use Rattle.cc_events.specs.declared.event.StreamEvent.TheVariants as event
 use Rattle.cc_events.specs.declared.touching.Touching.{Touching}
 use Rattle.cc_events.specs.declared.touching.Touching.TheVariants as touching
 use Rattle.cc_entry.specs.Pages.{has_page}
@@ -25,7 +25,7 @@ abbrev pub touch_if : Bool → Option ℕ → Touching
 touch_if has lsn = if has then touching.Touches lsn else touching.Rests
 
 -- what an event does to the touches of a page that are unwritten, given the stream before it
-abbrev pub touching_of : Event → List Effect → ℕ → Touching
+abbrev pub touching_of : StreamEvent → List Effect → ℕ → Touching
 touching_of (event.Closes object truncate) h p =
     cut_by (truncation_by object truncate (objects h) (size_of h)) p
 touching_of (event.Resizes size) h p = cut_by (Some size) p

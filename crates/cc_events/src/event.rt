@@ -2,14 +2,14 @@
 
 ghost use Rattle.std.specs.Prelude.{◌≡◌, ◌+◌, ◌≤◌, ◌^◌};
 ghost use Rattle.cc_model.specs.Acts.{act_of};
-ghost use Rattle.cc_events.specs.Events.{event_of_act, event_in, end_of};
+ghost use Rattle.cc_events.specs.Events.{event_of_act, event_on, end_of_event};
 ghost use Rattle.cc_model.specs.Sizes.{ended_ok};
 
 use cc_entry::{Call, End, Entry, Lsn, Outcome, Span, StreamId};
 
 /// What an effect on a stream does to its sizes and its dirty and resident pages.
 #[derive(Clone, Copy)]
-pub enum Event {
+pub enum StreamEvent {
     /// Nothing.
     Rests,
     /// A private cache map is made, and the shared one with these sizes where there is none.
@@ -37,22 +37,22 @@ pub enum Event {
 }
 
 /// What a call does once it is done.
-pub fn act(call: &Call) -> Event
+pub fn act(call: &Call) -> StreamEvent
     ensures what { result ≡ event_of_act (act_of call.now) }
-    ensures within { end_of result ≤ 2 ^ 65 }
+    ensures within { end_of_event result ≤ 2 ^ 65 }
 {
     match call {
-        Call::Initialise { file, sizes, .. } => Event::Opens {
+        Call::Initialise { file, sizes, .. } => StreamEvent::Opens {
             object: file.object(),
             size: sizes.size,
             valid: sizes.valid,
         },
-        Call::Uninitialise { file, truncate } => Event::Closes {
+        Call::Uninitialise { file, truncate } => StreamEvent::Closes {
             object: file.object(),
             truncate: *truncate,
         },
         Call::CopyWrite { at, bytes, .. } => changes(*at, bytes.len()),
-        Call::Zero { span, .. } => Event::Changes {
+        Call::Zero { span, .. } => StreamEvent::Changes {
             from: u128::from(span.from()),
             to: u128::from(span.to()),
         },
@@ -63,14 +63,14 @@ pub fn act(call: &Call) -> Event
             ..
         } => changes(*at, *len),
         Call::PinnedWrite { at, bytes, .. } => changes(*at, bytes.len()),
-        Call::SetDirty { hold, lsn } => Event::Stamps {
+        Call::SetDirty { hold, lsn } => StreamEvent::Stamps {
             hold: *hold,
             lsn: *lsn,
         },
         Call::MdlStore { at, bytes, .. } => changes(*at, bytes.len()),
-        Call::NcStore { page, .. } => Event::Stores { page: *page },
-        Call::SetSizes { size, .. } => Event::Resizes { size: *size },
-        Call::Discard { span, .. } => Event::Discards { span: *span },
+        Call::NcStore { page, .. } => StreamEvent::Stores { page: *page },
+        Call::SetSizes { size, .. } => StreamEvent::Resizes { size: *size },
+        Call::Discard { span, .. } => StreamEvent::Discards { span: *span },
         Call::CopyRead { .. }
         | Call::Map { .. }
         | Call::PinRead { .. }
@@ -97,25 +97,25 @@ pub fn act(call: &Call) -> Event
         | Call::SetThreshold { .. }
         | Call::AskAhead { .. }
         | Call::AheadStep { .. }
-        | Call::CanWrite { .. } => Event::Rests,
+        | Call::CanWrite { .. } => StreamEvent::Rests,
     }
 }
 
 // A change of `len` bytes from `at` on.
-fn changes(at: u64, len: u64) -> Event
-    ensures what { result ≡ Event.Changes at (at + len) }
-    ensures within { end_of result ≤ 2 ^ 65 }
+fn changes(at: u64, len: u64) -> StreamEvent
+    ensures what { result ≡ StreamEvent.Changes at (at + len) }
+    ensures within { end_of_event result ≤ 2 ^ 65 }
 {
-    Event::Changes {
+    StreamEvent::Changes {
         from: u128::from(at),
         to: u128::from(at) + u128::from(len),
     }
 }
 
 /// What an entry does to a stream.
-pub fn event_on(entry: &Entry, stream: StreamId) -> Event
-    ensures what { result ≡ event_in entry.now stream }
-    ensures within { end_of result ≤ 2 ^ 65 }
+pub fn event_on(entry: &Entry, stream: StreamId) -> StreamEvent
+    ensures what { result ≡ event_on entry.now stream }
+    ensures within { end_of_event result ≤ 2 ^ 65 }
 {
     match entry {
         Entry::Call {
@@ -127,38 +127,38 @@ pub fn event_on(entry: &Entry, stream: StreamId) -> Event
             if of.number() == stream.number() {
                 act(call)
             } else {
-                Event::Rests
+                StreamEvent::Rests
             }
         }
         Entry::PageIn { page, .. } => {
             if page.stream().number() == stream.number() {
-                Event::CameIn { page: page.page() }
+                StreamEvent::CameIn { page: page.page() }
             } else {
-                Event::Rests
+                StreamEvent::Rests
             }
         }
         Entry::PageOut { page, .. } => {
             if page.stream().number() == stream.number() {
-                Event::WentOut { page: page.page() }
+                StreamEvent::WentOut { page: page.page() }
             } else {
-                Event::Rests
+                StreamEvent::Rests
             }
         }
         Entry::WriteBegin { page, .. } => {
             if page.stream().number() == stream.number() {
-                Event::Began { page: page.page() }
+                StreamEvent::Began { page: page.page() }
             } else {
-                Event::Rests
+                StreamEvent::Rests
             }
         }
         Entry::WriteEnd { page, how, .. } => {
             if page.stream().number() == stream.number() {
-                Event::Ended {
+                StreamEvent::Ended {
                     page: page.page(),
                     ok: is_ok(*how),
                 }
             } else {
-                Event::Rests
+                StreamEvent::Rests
             }
         }
         Entry::Call { .. }
@@ -174,7 +174,7 @@ pub fn event_on(entry: &Entry, stream: StreamId) -> Event
         | Entry::RecordFailed { .. }
         | Entry::Locked { .. }
         | Entry::Unlocked { .. }
-        | Entry::Tested { .. } => Event::Rests,
+        | Entry::Tested { .. } => StreamEvent::Rests,
     }
 }
 

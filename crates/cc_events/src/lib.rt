@@ -12,6 +12,6 @@ mod event;
 mod holding;
 mod touching;
 
-pub use event::{Event, act, event_on};
+pub use event::{StreamEvent, act, event_on};
 pub use holding::{Holding, holding_by, holding_on, id_in};
 pub use touching::{Touching, cut_at, range_has, span_has, stored_end, touch};

@@ -18,7 +18,7 @@ use Rattle.cc_effects.proofs.FrontLaws.{legal-tail}
 use Rattle.cc_pieces.specs.Faultless.{shows_fault}
 use Rattle.cc_refused_laws.specs.Changed.{TellsNoFault}
 use Rattle.cc_refused_laws.proofs.Tabled.{outcome-here, tabled}
-use Rattle.cc_faultless_laws.specs.Tabled.{AreByTable, is_faulted}
+use Rattle.cc_faultless_laws.specs.Tabled.{AreByTable, is_faulted_outcome}
 
 no-failed-end : (how : End) (b : Bool) (it : Fault) → is_failed how ≡ false → (if b && is_failed how then Some it else None) ≡ None
 no-failed-end how.Good true it is = refl
@@ -45,7 +45,7 @@ pub by-table : (u : Setup) (past : List Entry) → IsLegal u past → list_any s
 by-table u past legal none later front pass nth stream it answered split =
     record { no_fault = no answered split; defined = outcome-here u later front pass nth stream it answered (subst (λ (l : List Entry). IsLegal u l) split legal) }
   where
-    no : (one : Outcome) → past ≡ later ++ entry.Call pass nth stream it one ∷ front → is_faulted one ≡ false
+    no : (one : Outcome) → past ≡ later ++ entry.Call pass nth stream it one ∷ front → is_faulted_outcome one ≡ false
     no (outcome.Done r) at = refl
     no (outcome.Failed e) at = (tabled u past legal (quiet past none) later front pass nth stream it e at).0
 

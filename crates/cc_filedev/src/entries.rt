@@ -64,7 +64,7 @@ pub(crate) fn put_entry(
 
 /// An entry that stands whole in a file.
 #[derive(Clone, Copy)]
-pub(crate) struct Entry {
+pub(crate) struct FileEntry {
     pub lsn: u64,
     /// Where its bytes begin, and how many there are.
     pub from: u64,
@@ -74,14 +74,14 @@ pub(crate) struct Entry {
 }
 
 /// The entry with this head at a place, if it ends at most where its file does.
-fn whole(head: Head, place: u64, len: u64) -> Option<Entry>
+fn whole(head: Head, place: u64, len: u64) -> Option<FileEntry>
     ensures { IfSome result (λ entry. entry.end ≡ place + 12 + head.size × entry.end ≤ len) }
 {
     let from = place.checked_add(HEAD)?;
     let end = from.checked_add(u64::from(head.size))?;
     let Head { lsn, size } = head;
     if end <= len && is_lsn(lsn) {
-        Some(Entry {
+        Some(FileEntry {
             lsn,
             from,
             size,
@@ -93,7 +93,7 @@ fn whole(head: Head, place: u64, len: u64) -> Option<Entry>
 }
 
 /// The entry at a place of a file of `len` bytes; or none, where no whole one stands there.
-pub(crate) fn entry_at<F: FileExt>(file: &F, place: u64, len: u64) -> io::Result<Option<Entry>>
+pub(crate) fn entry_at<F: FileExt>(file: &F, place: u64, len: u64) -> io::Result<Option<FileEntry>>
     ensures { IfOk result (λ found. IfSome found (λ entry. entry.end ≤ len)) }
 {
     if len.saturating_sub(place) < HEAD {
@@ -106,23 +106,23 @@ pub(crate) fn entry_at<F: FileExt>(file: &F, place: u64, len: u64) -> io::Result
 
 /// The place of an entry, by its number from 0.
 #[derive(Clone, Copy)]
-pub(crate) struct Mark {
+pub(crate) struct EntryMark {
     pub nth: u64,
     pub place: u64,
 }
 
 /// The place of the first entry.
-const FIRST: Mark = Mark { nth: 0, place: 0 };
+const FIRST: EntryMark = EntryMark { nth: 0, place: 0 };
 
 /// What is known of the entries of a file.
 #[derive(Clone, Copy)]
 pub(crate) struct Entries {
     /// How many there are, and where the last one ends.
-    pub last: Mark,
+    pub last: EntryMark,
     /// Whether the file goes on behind them.
     pub has_tail: bool,
     // Behind the entry that was read last.
-    next: Mark,
+    next: EntryMark,
 }
 
 impl Entries {
@@ -152,7 +152,7 @@ impl Entries {
 
     /// Notes that an entry of so many bytes, its head among them, was put behind the others.
     pub(crate) fn note(&mut self, bytes: u64) {
-        self.last = Mark {
+        self.last = EntryMark {
             nth: self.last.nth.saturating_add(1),
             place: self.last.place.saturating_add(bytes),
         };
@@ -160,7 +160,7 @@ impl Entries {
 
     /// The `n`-th entry, counted from 0; or none, where there are not so many. Entries that are asked for in their order
     /// are found one behind the other, any other from the first on.
-    pub(crate) fn find<F: FileExt>(&mut self, file: &F, n: u64) -> io::Result<Option<Entry>> {
+    pub(crate) fn find<F: FileExt>(&mut self, file: &F, n: u64) -> io::Result<Option<FileEntry>> {
         if self.last.nth <= n {
             return Ok(None);
         }
@@ -174,10 +174,10 @@ impl Entries {
     }
 
     // The next entry, which is among those that were found whole.
-    fn pass<F: FileExt>(&mut self, file: &F) -> io::Result<Entry> {
+    fn pass<F: FileExt>(&mut self, file: &F) -> io::Result<FileEntry> {
         match entry_at(file, self.next.place, self.last.place)? {
             Some(entry) => {
-                self.next = Mark {
+                self.next = EntryMark {
                     nth: self.next.nth.saturating_add(1),
                     place: entry.end,
                 };
@@ -189,14 +189,14 @@ impl Entries {
 }
 
 /// Behind the last entry of a file of `len` bytes.
-fn last_mark<F: FileExt>(file: &F, len: u64) -> io::Result<Mark>
+fn last_mark<F: FileExt>(file: &F, len: u64) -> io::Result<EntryMark>
     ensures { IfOk result (λ mark. mark.place ≤ len) }
 {
     let mut place = 0;
     for nth in 0..u64::MAX {
         match entry_at(file, place, len)? {
             Some(entry) => place = entry.end,
-            None => return Ok(Mark { nth, place }),
+            None => return Ok(EntryMark { nth, place }),
         }
     }
     Err(io::Error::from(ErrorKind::FileTooLarge))

@@ -25,4 +25,4 @@ pub use disk::FileDisk;
 pub use folder::{FolderFile, InFolder};
 pub use log::FileLog;
 pub use output::Output;
-pub use script::{Place, PlaceOf, ScriptFile};
+pub use script::{FilePlace, PlaceOf, ScriptFile};

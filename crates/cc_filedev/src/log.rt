@@ -5,7 +5,7 @@ ghost use Rattle.cc_traits.specs.Stop.{faults_in, OnNoMemory};
 ghost use Rattle.cc_filedev.specs.Devices.{LogState};
 
 use crate::InFolder;
-use crate::entries::{Entries, Entry, is_lsn, put_entry};
+use crate::entries::{Entries, FileEntry, is_lsn, put_entry};
 use crate::kept::{KeptFile, counted};
 use cc_traits::{Faults, LogFile, Stop};
 use std::alloc::Global;
@@ -80,7 +80,7 @@ impl<P: InFolder> FileLog<P> {
     }
 
     // The `n`-th entry, if there is one.
-    fn find(&mut self, n: u64) -> io::Result<Option<Entry>>
+    fn find(&mut self, n: u64) -> io::Result<Option<FileEntry>>
         ensures broken { self.old.is_broken ≡ true → IsErr result }
         ensures kept { self.new ≡ self.old }
     {

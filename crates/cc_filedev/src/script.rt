@@ -8,7 +8,7 @@ use std::io::Read;
 use std::{fs, io};
 
 /// Where a file is.
-pub trait Place: Drop {
+pub trait FilePlace: Drop {
     /// The file, once it is open.
     type File: Read + Drop;
 
@@ -23,7 +23,7 @@ pub struct PlaceOf<'a, R: Files> {
     pub path: &'a str,
 }
 
-impl<'a, R: Files> Place for PlaceOf<'a, R> {
+impl<'a, R: Files> FilePlace for PlaceOf<'a, R> {
     type File = R::File;
 
     fn open(&self) -> io::Result<R::File> {
@@ -33,7 +33,7 @@ impl<'a, R: Files> Place for PlaceOf<'a, R> {
 
 /// The bytes of a file, which is opened as its first bytes are taken.
 #[derive(Drop)]
-pub struct ScriptFile<P: Place> {
+pub struct ScriptFile<P: FilePlace> {
     place: P,
     file: Option<P::File>,
     given: Given,
@@ -41,7 +41,7 @@ pub struct ScriptFile<P: Place> {
     faults: Faults,
 }
 
-impl<P: Place> ScriptFile<P> {
+impl<P: FilePlace> ScriptFile<P> {
     /// The file at a place, which is not open yet: it gave no byte, and no call has failed.
     pub fn new(place: P) -> ScriptFile<P>
         ensures none_given { result.given ≡ [] }
@@ -58,7 +58,7 @@ impl<P: Place> ScriptFile<P> {
     }
 }
 
-impl<P: Place> Source for ScriptFile<P> {
+impl<P: FilePlace> Source for ScriptFile<P> {
     ghost told = { λ _. None };
 
     ghost faults = { λ source. source.faults };

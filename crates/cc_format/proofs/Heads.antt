@@ -5,7 +5,7 @@ use Rattle.byteorder.specs.Endian.{little_bytes}
 use borrow.Rule.Slice.PartMut.{mid_of, post_of, put_mid}
 use Rattle.cc_model.specs.Records.{little_endian, record_page}
 use Rattle.cc_format.specs.declared.record.StreamRecord.{StreamRecord}
-use Rattle.cc_format.specs.Spelling.{first_page, spelling, IsInRange, Spells}
+use Rattle.cc_format.specs.Spelling.{first_version_page, spelling, IsInRange, SpellsStreamRecord}
 use Rattle.cc_format.proofs.Numbers.{low-first}
 
 -- the head with its letters alone
@@ -15,8 +15,8 @@ lettered letters = letters ++ replicate 20 0
 pub first_head : (letters four eight : List ℕ) (size : ℕ) → letters ≡ 78 ∷ 84 ∷ 67 ∷ 83 ∷ [] →
     four ≡ little_bytes 4 1 ++ drop 4 (mid_of 4 4 (lettered letters)) →
     eight ≡ little_bytes 8 size ++ drop 8 (mid_of 8 8 (put_mid 4 4 (lettered letters) four)) →
-    first_page size ≡ put_mid 8 8 (put_mid 4 4 (lettered letters) four) eight ++ replicate 4072 0
-unfolding first_page
+    first_version_page size ≡ put_mid 8 8 (put_mid 4 4 (lettered letters) four) eight ++ replicate 4072 0
+unfolding first_version_page
 first_head letters four eight size letters_is four_is eight_is =
     let told : four ≡ 1 ∷ 0 ∷ 0 ∷ 0 ∷ [] = rw letters_is at four_is in
     let number : eight ≡ little_endian 8 size = (rw (letters_is, told) at eight_is) ∙ low-first 8 size in
@@ -36,7 +36,7 @@ second_head letters four eight last size valid letters_is four_is eight_is last_
 
 -- a head that was put over zeros
 pub spelled_whole : (told : StreamRecord) (head copied filled out : List ℕ) → IsInRange told → spelling told ≡ head ++ replicate 4072 0 →
-    copied ≡ head → filled ≡ replicate (length out) 0 → length out ≡ 4096 → Spells (copied ++ post_of 0 24 filled) told
+    copied ≡ head → filled ≡ replicate (length out) 0 → length out ≡ 4096 → SpellsStreamRecord (copied ++ post_of 0 24 filled) told
 spelled_whole told head copied filled out in_range spelled copied_is filled_is long =
     let zeros : filled ≡ replicate 4096 0 = filled_is ∙ ap (λ (n : ℕ). replicate n 0) long in
     let behind : post_of 0 24 filled ≡ replicate 4072 0 = ap (λ (l : List ℕ). post_of 0 24 l) zeros in

@@ -23,20 +23,20 @@ pub record IsInRange (told : StreamRecord) : Type 0 where
 
 -- The record page of the first version, which says a size: the letters NTCS, the version 1, and the size. Every other byte
 -- is 0.
-unfoldable pub first_page : ℕ → List ℕ
-first_page size = 78 ∷ 84 ∷ 67 ∷ 83 ∷ (little_endian 4 1 ++ (little_endian 8 size ++ replicate 4080 0))
+unfoldable pub first_version_page : ℕ → List ℕ
+first_version_page size = 78 ∷ 84 ∷ 67 ∷ 83 ∷ (little_endian 4 1 ++ (little_endian 8 size ++ replicate 4080 0))
 
 -- the page of a record, by its version
 abbrev pub spelling : StreamRecord → List ℕ
-spelling (V1 size) = first_page size
+spelling (V1 size) = first_version_page size
 spelling (V2 size valid) = record_page size valid
 
 -- the page is the spelling of the record
-pub record Spells (page : List ℕ) (told : StreamRecord) : Type 0 where
+pub record SpellsStreamRecord (page : List ℕ) (told : StreamRecord) : Type 0 where
   pub in_range : IsInRange told
   pub spelled : page ≡ spelling told
 
 -- what a page is read as: the record that it spells, or none where it spells none
 abbrev pub IsReadAs : List ℕ → Option StreamRecord → Type 0
-IsReadAs page (Some told) = Spells page told
-IsReadAs page None = (told : StreamRecord) → Spells page told → ⊥
+IsReadAs page (Some told) = SpellsStreamRecord page told
+IsReadAs page None = (told : StreamRecord) → SpellsStreamRecord page told → ⊥

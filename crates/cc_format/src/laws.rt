@@ -2,9 +2,9 @@
 
 ghost use Rattle.std.specs.Prelude.{◌≡◌, ℕ, List};
 ghost use Rattle.cc_format.specs.declared.record.StreamRecord.{StreamRecord};
-ghost use Rattle.cc_format.specs.Spelling.{Spells};
+ghost use Rattle.cc_format.specs.Spelling.{SpellsStreamRecord};
 
 /// A page spells one record at most, whatever the versions.
 pub fn a_page_spells_one_record()
-    ensures { (page : List ℕ) → (one other : StreamRecord) → Spells page one → Spells page other → one ≡ other }
+    ensures { (page : List ℕ) → (one other : StreamRecord) → SpellsStreamRecord page one → SpellsStreamRecord page other → one ≡ other }
 {}

@@ -1,7 +1,7 @@
 //! The record of a stream, and the page that spells it.
 
 ghost use Rattle.std.specs.Prelude.{◌≡◌, ◌↔◌, ◌++◌, IsTrue, Some, replicate};
-ghost use Rattle.cc_format.specs.Spelling.{recorded_size, recorded_valid, spelling, IsInRange, IsReadAs, Spells};
+ghost use Rattle.cc_format.specs.Spelling.{recorded_size, recorded_valid, spelling, IsInRange, IsReadAs, SpellsStreamRecord};
 
 use byteorder::{ByteOrder, LittleEndian};
 
@@ -59,7 +59,7 @@ pub fn read_record(page: &[u8; 4096]) -> Option<StreamRecord>
 /// Makes `out` the page that spells the record.
 pub fn write_record(value: StreamRecord, out: &mut [u8; 4096])
     requires in_range { IsInRange value }
-    ensures { Spells out.new value }
+    ensures { SpellsStreamRecord out.new value }
 {
     out.fill(0);
     out[..24].copy_from_slice(&head_of(value));
@@ -97,7 +97,7 @@ fn head_of(value: StreamRecord) -> [u8; 24]
 
 // What the numbers of a page say, whatever else stands there.
 fn told_by(page: &[u8; 4096]) -> Option<StreamRecord>
-    ensures { (told : StreamRecord) → Spells page.now told → result ≡ Some told }
+    ensures { (told : StreamRecord) → SpellsStreamRecord page.now told → result ≡ Some told }
 {
     let version = LittleEndian::read_u32(&page[4..8]);
     let size = LittleEndian::read_u64(&page[8..16]);

@@ -14,7 +14,7 @@ use Rattle.std.proofs.lemmas.Map.Made.{length-from_keys}
 use Rattle.cc_model.specs.Numbers.{is_among}
 use Rattle.cc_laws.proofs.BlockPages.{is_member-among}
 use Rattle.cc_laws.proofs.Lists1.{count-le}
-use Rattle.cc_holds.specs.Blocks.{holds_at, AreRows, IsPlaceOf, HasBlocksOf}
+use Rattle.cc_holds.specs.Blocks.{holds_at, AreBlockRows, IsPlaceOf, HasHeldBlocks}
 use Rattle.cc_holds.specs.declared.block_rows.BlockRow.{BlockRow}
 
 pub is_member-range : (first n b : ℕ) → is_member nat_eq (range_with_len first n) b ≡ (nat_le first b && nat_lt b (first + n))
@@ -147,10 +147,10 @@ any-held b (row ∷ rows) held =
     go false rest some = let same : holds_at b rows ≡ 0 + holds_at b rows = omega arith in rest ∙ ap (nat_lt 0) same
 
 -- the blocks of the rows
-pub has-blocks : (rows : List BlockRow) → AreRows rows → HasBlocksOf rows (map (λ row. row.block) rows)
+pub has-blocks : (rows : List BlockRow) → AreBlockRows rows → HasHeldBlocks rows (map (λ row. row.block) rows)
 has-blocks rows are b = among-map b rows ∙ any-held b rows are.held
 
-pub distinct-blocks : (rows : List BlockRow) → AreRows rows → IsDistinct nat_eq (map (λ row. row.block) rows)
+pub distinct-blocks : (rows : List BlockRow) → AreBlockRows rows → IsDistinct nat_eq (map (λ row. row.block) rows)
 unfolding IsDistinct
 distinct-blocks [] are = tt
 distinct-blocks (row ∷ rows) are = (
@@ -167,13 +167,13 @@ distinct-blocks (row ∷ rows) are = (
         let more = past 0 row (omega arith) in
         (grind (arith, nat_tests), later m rows (λ k d lt. past (suc k) d (omega arith)))
 
-pub count-blocks : (rows : List BlockRow) (bs : List ℕ) → AreRows rows → HasBlocksOf rows bs → length rows ≡ distinct_count nat_eq bs
+pub count-blocks : (rows : List BlockRow) (bs : List ℕ) → AreBlockRows rows → HasHeldBlocks rows bs → length rows ≡ distinct_count nat_eq bs
 count-blocks rows bs are has =
     sym (length-map rows (λ (row : BlockRow). row.block))
     ∙ length-among (map (λ row. row.block) rows) bs (λ b. has-blocks rows are b ∙ sym (has b)) (distinct-blocks rows are)
 
 -- The places of the first block of a range and of the one behind it.
-module _ (rows : List BlockRow) (are : AreRows rows) (first end i j : ℕ) (le : first ≤ end) (at : IsPlaceOf first rows i) (past : IsPlaceOf end rows j) where
+module _ (rows : List BlockRow) (are : AreBlockRows rows) (first end i j : ℕ) (le : first ≤ end) (at : IsPlaceOf first rows i) (past : IsPlaceOf end rows j) where
   none : BlockRow
   none = record { block = 0; holds = 0 }
 
@@ -206,7 +206,7 @@ module _ (rows : List BlockRow) (are : AreRows rows) (first end i j : ℕ) (le :
       omega (arith, all, same)
 
   -- the rows before a range and behind it, and the range's blocks, are as many as all together
-  pub count-with : (bs : List ℕ) → HasBlocksOf rows bs → i + (length rows - j) + (end - first) ≡ distinct_count nat_eq (bs ++ range_with_len first (end - first))
+  pub count-with : (bs : List ℕ) → HasHeldBlocks rows bs → i + (length rows - j) + (end - first) ≡ distinct_count nat_eq (bs ++ range_with_len first (end - first))
   count-with bs has =
       let all = distinct_count-apart (map (λ row. row.block) rows) range (distinct-blocks rows are) in
       let ranged = distinct_count-range first (end - first) in

@@ -6,10 +6,10 @@ use Rattle.std.proofs.lemmas.List.{get_or_default}
 use Rattle.std.proofs.lemmas.List.Edits.{length-insert, get_or-insert_below, get_or-insert_at, get_or-insert_above, length-remove, get_or-remove_below, get_or-remove_above}
 use Rattle.std.proofs.lemmas.List.Sums.{sum_by-cons, sum_by-set, sum_by-remove}
 use Rattle.std.specs.List.Sorted.{IsNonDecreasingBy, IsPartitionPoint}
-use Rattle.cc_holds.specs.Blocks.{holds_at, AreRows, IsPlaceOf, one_within}
+use Rattle.cc_holds.specs.Blocks.{holds_at, AreBlockRows, IsPlaceOf, one_within}
 use Rattle.cc_holds.specs.declared.block_rows.BlockRow.{BlockRow}
 
-pub rows-rise : (rows : List BlockRow) → AreRows rows → IsNonDecreasingBy (λ row. row.block) rows
+pub rows-rise : (rows : List BlockRow) → AreBlockRows rows → IsNonDecreasingBy (λ row. row.block) rows
 rows-rise rows are i j d le within = elim (cases_lt i j) [
   | inl lt ↦ let less = are.ascend i j d lt within in omega (arith, less)
   | inr ge1 ↦ let same : i ≡ j = omega arith in subst (λ k. (get_or rows i d).block ≤ (get_or rows k d).block) same (omega arith)
@@ -33,7 +33,7 @@ none-at b (row ∷ rows) others =
     ∙ (let zeros : 0 + holds_at b rows ≡ 0 = omega (arith, rest) in zeros))
 
 -- where the row at a block's place is past the block, no row is the block's
-others-at : (block : ℕ) (rows : List BlockRow) (place : ℕ) → AreRows rows → IsPlaceOf block rows place → ((d : BlockRow) → place < length rows → block < (get_or rows place d).block) → (k : ℕ) (d : BlockRow) → k < length rows → ((get_or rows k d).block == block) ≡ false
+others-at : (block : ℕ) (rows : List BlockRow) (place : ℕ) → AreBlockRows rows → IsPlaceOf block rows place → ((d : BlockRow) → place < length rows → block < (get_or rows place d).block) → (k : ℕ) (d : BlockRow) → k < length rows → ((get_or rows k d).block == block) ≡ false
 others-at block rows place are at other k d within = elim (cases_lt k place) [
   | inl lt ↦ let less = at.before k d lt in grind (arith, nat_tests)
   | inr ge2 ↦ elim (cases_lt place k) [
@@ -48,7 +48,7 @@ pub record Found (block : ℕ) (rows : List BlockRow) (place : ℕ) : Type 0 whe
   pub same : (d : BlockRow) → (get_or rows place d).block ≡ block
 
 -- so it is where a hold has a byte in the block
-pub found-held : (block : ℕ) (rows : List BlockRow) (place : ℕ) → AreRows rows → IsPlaceOf block rows place → 0 < holds_at block rows → Found block rows place
+pub found-held : (block : ℕ) (rows : List BlockRow) (place : ℕ) → AreBlockRows rows → IsPlaceOf block rows place → 0 < holds_at block rows → Found block rows place
 found-held block rows place are at some = elim (cases_lt place (length rows)) [
   | inl within ↦ record { within = within; same = λ d. same d within }
   | inr past ↦ let none = none-at block rows (others-at block rows place are at (λ d lt. absurd (omega arith))) in absurd (omega arith)
@@ -93,7 +93,7 @@ module _ (rows : List BlockRow) (place : ℕ) (y : BlockRow) (within : place ≤
       subst (λ i. get_or (insert rows place y) i d ≡ get_or rows (k - 1) d) e (get_or-insert_above rows place y d (k - 1) (omega arith) within)
 
 -- a row goes in at its block's place, before the first of a later block
-rows-inserted : (block place n : ℕ) (rows : List BlockRow) → AreRows rows → IsPlaceOf block rows place → 0 < n → ((d : BlockRow) → place < length rows → block < (get_or rows place d).block) → AreRows (insert rows place (record { block = block; holds = n }))
+rows-inserted : (block place n : ℕ) (rows : List BlockRow) → AreBlockRows rows → IsPlaceOf block rows place → 0 < n → ((d : BlockRow) → place < length rows → block < (get_or rows place d).block) → AreBlockRows (insert rows place (record { block = block; holds = n }))
 rows-inserted block place n rows are at some other = record {
   ascend = λ i j d lt within. elim (cases_lt j place) [
     | inl jb ↦ less _ _ _ _ (below i d (omega arith)) (below j d jb) (are.ascend i j d lt (omega arith))
@@ -135,11 +135,11 @@ rows-inserted block place n rows are at some other = record {
         ]
 
 -- where the test has failed
-pub rows-noted : (block place : ℕ) (rows : List BlockRow) (r : Bool) → AreRows rows → IsPlaceOf block rows place → IsTest block place rows r → r ≡ false → AreRows (insert rows place (record { block = block; holds = 1 }))
+pub rows-noted : (block place : ℕ) (rows : List BlockRow) (r : Bool) → AreBlockRows rows → IsPlaceOf block rows place → IsTest block place rows r → r ≡ false → AreBlockRows (insert rows place (record { block = block; holds = 1 }))
 rows-noted block place rows r are at test fails =
     rows-inserted block place 1 rows are at (omega arith) (test-past block place rows r test fails at)
 
-pub rows-removed : (rows : List BlockRow) (place : ℕ) → AreRows rows → place < length rows → AreRows (remove rows place)
+pub rows-removed : (rows : List BlockRow) (place : ℕ) → AreBlockRows rows → place < length rows → AreBlockRows (remove rows place)
 rows-removed rows place are within = record {
   ascend = λ i j d lt jw. elim (cases_lt j place) [
     | inl jb ↦ less _ _ _ _ (below i d (omega arith)) (below j d jb) (are.ascend i j d lt (omega arith))

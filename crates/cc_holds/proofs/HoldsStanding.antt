@@ -17,10 +17,10 @@ use Rattle.cc_model.specs.History.{Effect, Did, CameIn, WentOut, Began, Ended, S
 use Rattle.cc_model.specs.Holds.{hold_at, changed_at, made, repinned, id_of, held_after, holds_of}
 use Rattle.cc_model.specs.Holds as held
 use Rattle.cc_laws.proofs.HoldSteps.{changes_holds, holds_of-done, holds_of-other, holds_of-came_in, holds_of-went_out, holds_of-began, holds_of-ended, holds_of-synced, holds_of-pin_mapped, holds_of-pinned_write, holds_of-set_dirty, holds_of-end_hold}
-use Rattle.cc_holds.specs.Holds.{hold_of, without, inserted, opened, written, cleaned, pinned, touched_at, Changes}
+use Rattle.cc_holds.specs.Holds.{hold_of, without_hold, inserted, opened, hold_written, cleaned, hold_pinned, touched_at, Changes}
 use Rattle.cc_holds.specs.Touched.{has_touched, widened}
 use Rattle.cc_model.specs.Numbers.{is_empty}
-use Rattle.cc_holds.specs.declared.holds.Hold.{Hold}
+use Rattle.cc_holds.specs.declared.holds.KeptHold.{KeptHold}
 use Rattle.cc_holds.specs.Stands.{Shown, IsHold, IdsAscend, HoldsStand}
 use Rattle.cc_holds.specs.Makes.{new_row, row_made}
 use Rattle.cc_holds.proofs.Zips.{reverse-onto, reverse-mapped, reverse-filtered, zip-onto, zip-mapped, zip-filtered}
@@ -33,7 +33,7 @@ unfolding holds_of
 stands-begun = record { each = tt; in_order = tt }
 
 -- a history with the same open holds
-pub stands-same : (g h : List Effect) (holds : List Hold) → holds_of g ≡ holds_of h → HoldsStand h holds → HoldsStand g holds
+pub stands-same : (g h : List Effect) (holds : List KeptHold) → holds_of g ≡ holds_of h → HoldsStand h holds → HoldsStand g holds
 stands-same g h holds same stands =
     record { each = subst (λ (hs : List held.Hold). AllZip IsHold (reverse hs) holds) (sym same) stands.each; in_order = stands.in_order }
 
@@ -43,7 +43,7 @@ moves_holds (Did pass call reply) = changes_holds call
 moves_holds other = false
 
 -- every other effect leaves the holds as they were
-pub stands-other : (e : Effect) (h : List Effect) (holds : List Hold) → moves_holds e ≡ false → HoldsStand h holds → HoldsStand (e ∷ h) holds
+pub stands-other : (e : Effect) (h : List Effect) (holds : List KeptHold) → moves_holds e ≡ false → HoldsStand h holds → HoldsStand (e ∷ h) holds
 stands-other (Did pass call reply) h holds other stands = stands-same _ h holds (holds_of-other pass call reply h other) stands
 stands-other (CameIn pass page from_disk) h holds other stands = stands-same _ h holds (holds_of-came_in pass page from_disk h) stands
 stands-other (WentOut pass page) h holds other stands = stands-same _ h holds (holds_of-went_out pass page h) stands
@@ -52,7 +52,7 @@ stands-other (Ended pass page how) h holds other stands = stands-same _ h holds 
 stands-other (Synced pass how) h holds other stands = stands-same _ h holds (holds_of-synced pass how h) stands
 
 -- a hold has the id of the one that is kept for it
-pub same_id : (hold : held.Hold) (kept : Hold) → IsHold hold kept → kept.row.id ≡ hold.id
+pub same_id : (hold : held.Hold) (kept : KeptHold) → IsHold hold kept → kept.row.id ≡ hold.id
 same_id hold kept is = ap (λ (s : Shown). s.id) is.shows
 
 -- what is so of each hold is so of each from the back
@@ -64,7 +64,7 @@ pub all-reversed : {A : Type 0} (P : A → Type 0) (xs : List A) → AllByRecurs
 all-reversed P [] all = tt
 all-reversed P (x ∷ xs) all = subst (AllByRecursion P) (sym (reverse-onto x xs)) (all-onto P (reverse xs) x (all-reversed P xs all.1) all.0)
 
-below-kept : (id : ℕ) (xs : List held.Hold) (holds : List Hold) → AllZip IsHold xs holds → AllByRecursion (λ (hold : held.Hold). hold.id < id) xs → IdsBelow id holds
+below-kept : (id : ℕ) (xs : List held.Hold) (holds : List KeptHold) → AllZip IsHold xs holds → AllByRecursion (λ (hold : held.Hold). hold.id < id) xs → IdsBelow id holds
 below-kept id [] [] each below = tt
 below-kept id [] (kept ∷ holds) each below = absurd each
 below-kept id (hold ∷ xs) [] each below = absurd each
@@ -114,29 +114,29 @@ changed-widened None more = refl
 changed-widened (Some span) more = refl
 
 -- a hold that is made
-pub stands-made : (row : HoldRow) (h : List Effect) (holds : List Hold) (pass : ℕ) (call : Call) (reply : Reply) → HoldsStand h holds → row_made call (id_of reply) (holds_of h) ≡ Some row → All (λ (hold : held.Hold). hold.id < row.id) (holds_of h) → HoldsStand (Did pass call reply ∷ h) (inserted holds (opened pass row))
+pub stands-made : (row : HoldRow) (h : List Effect) (holds : List KeptHold) (pass : ℕ) (call : Call) (reply : Reply) → HoldsStand h holds → row_made call (id_of reply) (holds_of h) ≡ Some row → All (λ (hold : held.Hold). hold.id < row.id) (holds_of h) → HoldsStand (Did pass call reply ∷ h) (inserted holds (opened pass row))
 stands-made row h holds pass call reply stands makes below =
     let after : holds_of (Did pass call reply ∷ h) ≡ made_row pass row (holds_of h) = holds_of-done pass call reply h ∙ held_after-made pass row call (id_of reply) (holds_of h) makes in
     let under : IdsBelow row.id holds = below-kept row.id (reverse (holds_of h)) holds stands.each (all-reversed _ (holds_of h) (recursion_from_All _ (holds_of h) below)) in
     let is : IsHold (record { id = row.id; pass = pass; file = row.file; at = row.at; len = row.len; kind = row.kind; exclusive = row.exclusive; owed = owed_by row.written }) (opened pass row) =
     record { shows = refl; by = refl; changed = changed-opened row.written; owes = touched-opened row.written } in
     record {
-      each = subst (λ (ks : List Hold). AllZip IsHold (reverse (holds_of (Did pass call reply ∷ h))) ks) (sym (inserted-last holds (opened pass row) under))
+      each = subst (λ (ks : List KeptHold). AllZip IsHold (reverse (holds_of (Did pass call reply ∷ h))) ks) (sym (inserted-last holds (opened pass row) under))
           (subst (λ (hs : List held.Hold). AllZip IsHold hs (holds ++ opened pass row ∷ [])) (sym (ap reverse after ∙ reverse-onto _ (holds_of h)))
           (zip-onto IsHold (reverse (holds_of h)) holds _ (opened pass row) stands.each is));
       in_order = subst IdsAscend (sym (inserted-last holds (opened pass row) under)) (ascend-onto holds (opened pass row) stands.in_order under);
     }
 
 -- a hold that is changed, on both sides alike
-module _ (change : held.Hold → held.Hold) (change_kept : Hold → Hold) (keeps : (hold : held.Hold) (kept : Hold) → IsHold hold kept → IsHold (change hold) (change_kept kept)) (kept_id : (kept : Hold) → (change_kept kept).row.id ≡ kept.row.id) (id : ℕ) where
-  changes-one : (hold : held.Hold) (kept : Hold) → IsHold hold kept → IsHold (if hold.id == id then change hold else hold) (changed_one id change_kept kept)
+module _ (change : held.Hold → held.Hold) (change_kept : KeptHold → KeptHold) (keeps : (hold : held.Hold) (kept : KeptHold) → IsHold hold kept → IsHold (change hold) (change_kept kept)) (kept_id : (kept : KeptHold) → (change_kept kept).row.id ≡ kept.row.id) (id : ℕ) where
+  changes-one : (hold : held.Hold) (kept : KeptHold) → IsHold hold kept → IsHold (if hold.id == id then change hold else hold) (changed_one id change_kept kept)
   changes-one hold kept is = rw (ap (λ n. n == id) (same_id hold kept is)) (go (hold.id == id))
     where
       go : (b : Bool) → IsHold (if b then change hold else hold) (if b then change_kept kept else kept)
       go true = keeps hold kept is
       go false = is
 
-  stands-mapped : (e : Effect) (h : List Effect) (holds new : List Hold) → holds_of (e ∷ h) ≡ changed_at id change (holds_of h) → HoldsStand h holds → new ≡ map (changed_one id change_kept) holds → HoldsStand (e ∷ h) new
+  stands-mapped : (e : Effect) (h : List Effect) (holds new : List KeptHold) → holds_of (e ∷ h) ≡ changed_at id change (holds_of h) → HoldsStand h holds → new ≡ map (changed_one id change_kept) holds → HoldsStand (e ∷ h) new
   stands-mapped e h holds new after stands is =
       subst (HoldsStand (e ∷ h)) (sym is) (record {
         each = subst (λ (hs : List held.Hold). AllZip IsHold hs (map (changed_one id change_kept) holds)) (sym (ap reverse after ∙ reverse-mapped _ (holds_of h)))
@@ -144,16 +144,16 @@ module _ (change : held.Hold → held.Hold) (change_kept : Hold → Hold) (keeps
         in_order = ascend-changed id change_kept kept_id holds stands.in_order;
       })
 
-  pub stands-changed : (e : Effect) (h : List Effect) (holds new : List Hold) → holds_of (e ∷ h) ≡ changed_at id change (holds_of h) → HoldsStand h holds → IsSome (hold_of holds id) → Changes holds new id change_kept → HoldsStand (e ∷ h) new
+  pub stands-changed : (e : Effect) (h : List Effect) (holds new : List KeptHold) → holds_of (e ∷ h) ≡ changed_at id change (holds_of h) → HoldsStand h holds → IsSome (hold_of holds id) → Changes holds new id change_kept → HoldsStand (e ∷ h) new
   stands-changed e h holds new after stands there changes =
       stands-mapped e h holds new after stands (changed-is id change_kept holds new stands.in_order there changes)
 
-  pub stands-absent : (e : Effect) (h : List Effect) (holds : List Hold) → holds_of (e ∷ h) ≡ changed_at id change (holds_of h) → HoldsStand h holds → hold_of holds id ≡ None → HoldsStand (e ∷ h) holds
+  pub stands-absent : (e : Effect) (h : List Effect) (holds : List KeptHold) → holds_of (e ∷ h) ≡ changed_at id change (holds_of h) → HoldsStand h holds → hold_of holds id ≡ None → HoldsStand (e ∷ h) holds
   stands-absent e h holds after stands absent =
       stands-mapped e h holds holds after stands (sym (changed-absent id change_kept holds absent))
 
 -- a hold that ends
-pub stands-ended : (id : ℕ) (h : List Effect) (holds : List Hold) (pass : ℕ) (reply : Reply) → HoldsStand h holds → HoldsStand (Did pass (call.EndHold id) reply ∷ h) (without holds id)
+pub stands-ended : (id : ℕ) (h : List Effect) (holds : List KeptHold) (pass : ℕ) (reply : Reply) → HoldsStand h holds → HoldsStand (Did pass (call.EndHold id) reply ∷ h) (without_hold holds id)
 stands-ended id h holds pass reply stands =
     subst (HoldsStand (Did pass (call.EndHold id) reply ∷ h)) (sym (without-is id holds stands.in_order)) (record {
       each = subst (λ (hs : List held.Hold). AllZip IsHold hs (filter (is_other id) holds)) (sym (ap reverse (holds_of-end_hold pass id reply h) ∙ reverse-filtered _ (holds_of h)))
@@ -162,35 +162,35 @@ stands-ended id h holds pass reply stands =
     })
 
 -- a mapped hold that becomes a pin
-module _ (id : ℕ) (exclusive : Bool) (h : List Effect) (holds : List Hold) (stands : HoldsStand h holds) (pass : ℕ) (reply : Reply) where
-  pins-both : (hold : held.Hold) (kept : Hold) → IsHold hold kept → IsHold (record hold { kind = kind.Pin; exclusive = exclusive }) (pinned exclusive kept)
+module _ (id : ℕ) (exclusive : Bool) (h : List Effect) (holds : List KeptHold) (stands : HoldsStand h holds) (pass : ℕ) (reply : Reply) where
+  pins-both : (hold : held.Hold) (kept : KeptHold) → IsHold hold kept → IsHold (record hold { kind = kind.Pin; exclusive = exclusive }) (hold_pinned exclusive kept)
   pins-both hold kept is =
       record { shows = ap (λ (s : Shown). record s { kind = kind.Pin; exclusive = exclusive }) is.shows; by = is.by; changed = is.changed; owes = is.owes }
 
-  pub stands-pinned : (new : List Hold) → IsSome (hold_of holds id) → Changes holds new id (pinned exclusive) → HoldsStand (Did pass (call.PinMapped id exclusive) reply ∷ h) new
-  stands-pinned new = stands-changed _ (pinned exclusive) pins-both (λ kept. refl) id _ h holds new (holds_of-pin_mapped pass id exclusive reply h) stands
+  pub stands-pinned : (new : List KeptHold) → IsSome (hold_of holds id) → Changes holds new id (hold_pinned exclusive) → HoldsStand (Did pass (call.PinMapped id exclusive) reply ∷ h) new
+  stands-pinned new = stands-changed _ (hold_pinned exclusive) pins-both (λ kept. refl) id _ h holds new (holds_of-pin_mapped pass id exclusive reply h) stands
 
   pub stands-unpinned : hold_of holds id ≡ None → HoldsStand (Did pass (call.PinMapped id exclusive) reply ∷ h) holds
-  stands-unpinned = stands-absent _ (pinned exclusive) pins-both (λ kept. refl) id _ h holds (holds_of-pin_mapped pass id exclusive reply h) stands
+  stands-unpinned = stands-absent _ (hold_pinned exclusive) pins-both (λ kept. refl) id _ h holds (holds_of-pin_mapped pass id exclusive reply h) stands
 
 -- a write through a hold
-module _ (id : ℕ) (span : Range) (at : ℕ) (bytes : List ℕ) (is : span ≡ whole_range at (length bytes)) (h : List Effect) (holds : List Hold) (stands : HoldsStand h holds) (pass : ℕ) (reply : Reply) where
-  writes-both : (hold : held.Hold) (kept : Hold) → IsHold hold kept → IsHold (record hold { owed = record { from = at; to = at + length bytes } ∷ hold.owed }) (written span kept)
+module _ (id : ℕ) (span : Range) (at : ℕ) (bytes : List ℕ) (is : span ≡ whole_range at (length bytes)) (h : List Effect) (holds : List KeptHold) (stands : HoldsStand h holds) (pass : ℕ) (reply : Reply) where
+  writes-both : (hold : held.Hold) (kept : KeptHold) → IsHold hold kept → IsHold (record hold { owed = record { from = at; to = at + length bytes } ∷ hold.owed }) (hold_written span kept)
   writes-both hold kept both =
       record { shows = both.shows; by = both.by; changed = changed-widened kept.row.written span; owes = λ p. rw is (touched-further kept.touched (whole_range at (length bytes)) hold.owed p (both.owes p)) }
 
-  pub stands-written : (new : List Hold) → IsSome (hold_of holds id) → Changes holds new id (written span) → HoldsStand (Did pass (call.PinnedWrite id at bytes) reply ∷ h) new
-  stands-written new = stands-changed _ (written span) writes-both (λ kept. refl) id _ h holds new (holds_of-pinned_write pass id at bytes reply h) stands
+  pub stands-written : (new : List KeptHold) → IsSome (hold_of holds id) → Changes holds new id (hold_written span) → HoldsStand (Did pass (call.PinnedWrite id at bytes) reply ∷ h) new
+  stands-written new = stands-changed _ (hold_written span) writes-both (λ kept. refl) id _ h holds new (holds_of-pinned_write pass id at bytes reply h) stands
 
   pub stands-unwritten : hold_of holds id ≡ None → HoldsStand (Did pass (call.PinnedWrite id at bytes) reply ∷ h) holds
-  stands-unwritten = stands-absent _ (written span) writes-both (λ kept. refl) id _ h holds (holds_of-pinned_write pass id at bytes reply h) stands
+  stands-unwritten = stands-absent _ (hold_written span) writes-both (λ kept. refl) id _ h holds (holds_of-pinned_write pass id at bytes reply h) stands
 
 -- a set-dirty of a hold
-module _ (id : ℕ) (lsn : Option ℕ) (h : List Effect) (holds : List Hold) (stands : HoldsStand h holds) (pass : ℕ) (reply : Reply) where
-  cleans-both : (hold : held.Hold) (kept : Hold) → IsHold hold kept → IsHold (record hold { owed = [] }) (cleaned kept)
+module _ (id : ℕ) (lsn : Option ℕ) (h : List Effect) (holds : List KeptHold) (stands : HoldsStand h holds) (pass : ℕ) (reply : Reply) where
+  cleans-both : (hold : held.Hold) (kept : KeptHold) → IsHold hold kept → IsHold (record hold { owed = [] }) (cleaned kept)
   cleans-both hold kept both = record { shows = both.shows; by = both.by; changed = refl; owes = λ p. refl }
 
-  pub stands-stamped : (new : List Hold) → IsSome (hold_of holds id) → Changes holds new id cleaned → HoldsStand (Did pass (call.SetDirty id lsn) reply ∷ h) new
+  pub stands-stamped : (new : List KeptHold) → IsSome (hold_of holds id) → Changes holds new id cleaned → HoldsStand (Did pass (call.SetDirty id lsn) reply ∷ h) new
   stands-stamped new = stands-changed _ cleaned cleans-both (λ kept. refl) id _ h holds new (holds_of-set_dirty pass id lsn reply h) stands
 
   pub stands-unstamped : hold_of holds id ≡ None → HoldsStand (Did pass (call.SetDirty id lsn) reply ∷ h) holds

@@ -11,10 +11,10 @@ use Rattle.cc_model.specs.Holds.{holds_of, range_held}
 use Rattle.cc_model.specs.Holds as held
 use Rattle.cc_model.specs.Views as views
 use Rattle.cc_laws.proofs.BlockPages.{is_member-among}
-use Rattle.cc_holds.specs.Blocks.{HasBlocksOf}
-use Rattle.cc_holds.specs.Holds.{range_of, has_block, held_blocks, active_blocks}
+use Rattle.cc_holds.specs.Blocks.{HasHeldBlocks}
+use Rattle.cc_holds.specs.Holds.{row_range, has_block, held_blocks, active_blocks}
 use Rattle.cc_holds.specs.declared.block_rows.BlockRow.{BlockRow}
-use Rattle.cc_holds.specs.declared.holds.Hold.{Hold}
+use Rattle.cc_holds.specs.declared.holds.KeptHold.{KeptHold}
 use Rattle.cc_holds.specs.Stands.{HoldsStand}
 use Rattle.cc_holds.proofs.BlockNumbers.{count-among}
 use Rattle.cc_holds.proofs.HoldBlocks.{Count, any-counted}
@@ -28,30 +28,30 @@ among-flat blocks b (x ∷ xs) =
     ∙ ap (λ t. is_among b (blocks x) || t) (among-flat blocks b xs)
 
 -- the holds that are kept have the blocks of the open ones
-pub among-held : (b : ℕ) (h : List Effect) (holds : List Hold) → HoldsStand h holds → is_among b (held_blocks holds) ≡ is_among b (held.held_blocks (holds_of h))
+pub among-held : (b : ℕ) (h : List Effect) (holds : List KeptHold) → HoldsStand h holds → is_among b (held_blocks holds) ≡ is_among b (held.held_blocks (holds_of h))
 among-held b h holds stands =
-    among-flat (λ (kept : Hold). blocks_of (range_of kept.row)) b holds
-    ∙ (any-kept (λ (hold : held.Hold). is_among b (blocks_of (range_held hold))) (λ kept. is_among b (blocks_of (range_of kept.row))) (λ hold kept is. ap (λ r. is_among b (blocks_of r)) (range-kept hold kept is)) h holds stands
+    among-flat (λ (kept : KeptHold). blocks_of (row_range kept.row)) b holds
+    ∙ (any-kept (λ (hold : held.Hold). is_among b (blocks_of (range_held hold))) (λ kept. is_among b (blocks_of (row_range kept.row))) (λ hold kept is. ap (λ r. is_among b (blocks_of r)) (range-kept hold kept is)) h holds stands
     ∙ sym (among-flat (λ (hold : held.Hold). blocks_of (range_held hold)) b (holds_of h)))
 
-pub active-kept : (h : List Effect) (holds : List Hold) → HoldsStand h holds → active_blocks holds ≡ views.active_blocks (holds_of h)
+pub active-kept : (h : List Effect) (holds : List KeptHold) → HoldsStand h holds → active_blocks holds ≡ views.active_blocks (holds_of h)
 active-kept h holds stands =
     count-among (held_blocks holds) (held.held_blocks (holds_of h)) (λ b. among-held b h holds stands)
 
 -- the rows that are kept beside holds have their blocks
-pub has-held : (holds : List Hold) (rows : List BlockRow) → Count holds rows → HasBlocksOf rows (held_blocks holds)
+pub has-held : (holds : List KeptHold) (rows : List BlockRow) → Count holds rows → HasHeldBlocks rows (held_blocks holds)
 has-held holds rows counts b =
-    among-flat (λ (kept : Hold). blocks_of (range_of kept.row)) b holds
+    among-flat (λ (kept : KeptHold). blocks_of (row_range kept.row)) b holds
     ∙ (any-block holds ∙ (any-counted (has_block b) holds ∙ ap (nat_lt 0) (sym (counts b))))
   where
-    any-block : (xs : List Hold) → list_any (λ (x : Hold). is_among b (blocks_of (range_of x.row))) xs ≡ list_any (has_block b) xs
+    any-block : (xs : List KeptHold) → list_any (λ (x : KeptHold). is_among b (blocks_of (row_range x.row))) xs ≡ list_any (has_block b) xs
     any-block [] = refl
     any-block (x ∷ xs) =
-        ap (λ t. t || list_any (λ (y : Hold). is_among b (blocks_of (range_of y.row))) xs) (sym (is_member-among b (blocks_of (range_of x.row))))
+        ap (λ t. t || list_any (λ (y : KeptHold). is_among b (blocks_of (row_range y.row))) xs) (sym (is_member-among b (blocks_of (row_range x.row))))
         ∙ ap (λ t. has_block b x || t) (any-block xs)
 
 -- and so those of the open holds
-pub has-kept : (h : List Effect) (holds : List Hold) (rows : List BlockRow) → HoldsStand h holds → Count holds rows → HasBlocksOf rows (held.held_blocks (holds_of h))
+pub has-kept : (h : List Effect) (holds : List KeptHold) (rows : List BlockRow) → HoldsStand h holds → Count holds rows → HasHeldBlocks rows (held.held_blocks (holds_of h))
 has-kept h holds rows stands counts b = sym (among-held b h holds stands) ∙ has-held holds rows counts b
 
 -- a range is that of its ends

@@ -19,8 +19,8 @@ use Rattle.cc_model.specs.Holds.{holds_of, hold_at, is_held, least_id, lesser, r
 use Rattle.cc_model.specs.Holds as held
 use Rattle.cc_model.specs.Stamps.{owes_stamp}
 use Rattle.cc_model.specs.Conflicts.{has_page_of, bars_pin}
-use Rattle.cc_holds.specs.Holds.{hold_of, range_of, overlaps, conflicts, is_unstamped, ends_past, first_id}
-use Rattle.cc_holds.specs.declared.holds.Hold.{Hold}
+use Rattle.cc_holds.specs.Holds.{hold_of, row_range, hold_overlaps, pin_conflicts, is_unstamped_through, ends_past, first_id}
+use Rattle.cc_holds.specs.declared.holds.KeptHold.{KeptHold}
 use Rattle.cc_holds.proofs.Overlap.{share_page-ends}
 use Rattle.cc_holds.specs.Stands.{Shown, shown, shown_row, IsHold, IdsAscend, HoldsStand}
 use Rattle.cc_holds.specs.Looks.{keeps_page, has_bytes}
@@ -33,7 +33,7 @@ use Rattle.cc_model.specs.Room.{owes_set_dirty}
 abbrev HeldAbove : ℕ → List held.Hold → Type 0
 HeldAbove id holds = AllByRecursion (λ (hold : held.Hold). id < hold.id) holds
 
-above-held : (id : ℕ) (xs : List held.Hold) (holds : List Hold) → AllZip IsHold xs holds → IdsAbove id holds → HeldAbove id xs
+above-held : (id : ℕ) (xs : List held.Hold) (holds : List KeptHold) → AllZip IsHold xs holds → IdsAbove id holds → HeldAbove id xs
 above-held id [] [] each above = tt
 above-held id [] (kept ∷ holds) each above = absurd each
 above-held id (hold ∷ xs) [] each above = absurd each
@@ -41,7 +41,7 @@ above-held id (hold ∷ xs) (kept ∷ holds) each above =
     (subst (λ n. id < n) (same_id hold kept each.0) above.0, above-held id xs holds each.1 above.1)
 
 -- the ids of the later holds, from the back, lie above that of the first
-above-first : (hold : held.Hold) (kept : Hold) (xs : List held.Hold) (holds : List Hold) → AllZip IsHold (hold ∷ xs) (kept ∷ holds) → IdsAscend (kept ∷ holds) → HeldAbove hold.id (reverse xs)
+above-first : (hold : held.Hold) (kept : KeptHold) (xs : List held.Hold) (holds : List KeptHold) → AllZip IsHold (hold ∷ xs) (kept ∷ holds) → IdsAscend (kept ∷ holds) → HeldAbove hold.id (reverse xs)
 above-first hold kept xs holds each ascend =
     subst (λ n. HeldAbove n (reverse xs)) (same_id hold kept each.0)
     (all-reversed _ xs (above-held kept.row.id xs holds each.1 ascend.0))
@@ -60,7 +60,7 @@ least-onto test (hold ∷ holds) last above = rw (least-onto test holds last abo
     go false true = refl
     go false false = refl
 
-least-listed : (p : held.Hold → Bool) (q : Hold → Bool) → ((hold : held.Hold) (kept : Hold) → IsHold hold kept → q kept ≡ p hold) → (xs : List held.Hold) (holds : List Hold) → AllZip IsHold xs holds → IdsAscend holds → first_id q holds ≡ least_id p (reverse xs)
+least-listed : (p : held.Hold → Bool) (q : KeptHold → Bool) → ((hold : held.Hold) (kept : KeptHold) → IsHold hold kept → q kept ≡ p hold) → (xs : List held.Hold) (holds : List KeptHold) → AllZip IsHold xs holds → IdsAscend holds → first_id q holds ≡ least_id p (reverse xs)
 least-listed p q same [] [] each ascend = refl
 least-listed p q same [] (kept ∷ holds) each ascend = absurd each
 least-listed p q same (hold ∷ xs) [] each ascend = absurd each
@@ -68,22 +68,22 @@ least-listed p q same (hold ∷ xs) (kept ∷ holds) each ascend =
     rw (same hold kept each.0) (go (p hold) (least-listed p q same xs holds each.1 ascend.1))
     ∙ sym (ap (least_id p) (reverse-onto hold xs) ∙ least-onto p (reverse xs) hold (above-first hold kept xs holds each ascend))
   where
-    go : (b : Bool) → first_id q holds ≡ least_id p (reverse xs) → option_map (λ (k : Hold). k.row.id) (cond b (Some kept) (find q holds)) ≡ cond b (Some hold.id) (least_id p (reverse xs))
+    go : (b : Bool) → first_id q holds ≡ least_id p (reverse xs) → option_map (λ (k : KeptHold). k.row.id) (cond b (Some kept) (find q holds)) ≡ cond b (Some hold.id) (least_id p (reverse xs))
     go true rest = ap (λ n. Some n) (same_id hold kept each.0)
     go false rest = rest
 
 -- a test that the definition's holds pass as those do that are kept for them: its least id
-pub least-kept : (p : held.Hold → Bool) (q : Hold → Bool) → ((hold : held.Hold) (kept : Hold) → IsHold hold kept → q kept ≡ p hold) → (h : List Effect) (holds : List Hold) → HoldsStand h holds → first_id q holds ≡ least_id p (holds_of h)
+pub least-kept : (p : held.Hold → Bool) (q : KeptHold → Bool) → ((hold : held.Hold) (kept : KeptHold) → IsHold hold kept → q kept ≡ p hold) → (h : List Effect) (holds : List KeptHold) → HoldsStand h holds → first_id q holds ≡ least_id p (holds_of h)
 least-kept p q same h holds stands =
     least-listed p q same (reverse (holds_of h)) holds stands.each stands.in_order
     ∙ ap (least_id p) (reverse-reverse (holds_of h))
 
 -- and whether any passes it
-pub any-kept : (p : held.Hold → Bool) (q : Hold → Bool) → ((hold : held.Hold) (kept : Hold) → IsHold hold kept → q kept ≡ p hold) → (h : List Effect) (holds : List Hold) → HoldsStand h holds → list_any q holds ≡ list_any p (holds_of h)
+pub any-kept : (p : held.Hold → Bool) (q : KeptHold → Bool) → ((hold : held.Hold) (kept : KeptHold) → IsHold hold kept → q kept ≡ p hold) → (h : List Effect) (holds : List KeptHold) → HoldsStand h holds → list_any q holds ≡ list_any p (holds_of h)
 any-kept p q same h holds stands =
     zip-any IsHold p q same (reverse (holds_of h)) holds stands.each ∙ any-reversed p (holds_of h)
 
-pub length-kept : (h : List Effect) (holds : List Hold) → HoldsStand h holds → length holds ≡ length (holds_of h)
+pub length-kept : (h : List Effect) (holds : List KeptHold) → HoldsStand h holds → length holds ≡ length (holds_of h)
 length-kept h holds stands = zip-length IsHold (reverse (holds_of h)) holds stands.each ∙ length-reverse (holds_of h)
 
 -- what is shown of the hold of an id
@@ -96,8 +96,8 @@ none-above id n (hold ∷ holds) same above =
     apart m less e = absurd (omega arith)
 
 -- what is the same of a hold and of the one that is kept for it
-module _ {X : Type 0} (f : Hold → X) (g : held.Hold → X) (same : (hold : held.Hold) (kept : Hold) → IsHold hold kept → f kept ≡ g hold) (id : ℕ) where
-  found-listed : (xs : List held.Hold) (holds : List Hold) → AllZip IsHold xs holds → IdsAscend holds → option_map f (hold_of holds id) ≡ option_map g (hold_at (reverse xs) id)
+module _ {X : Type 0} (f : KeptHold → X) (g : held.Hold → X) (same : (hold : held.Hold) (kept : KeptHold) → IsHold hold kept → f kept ≡ g hold) (id : ℕ) where
+  found-listed : (xs : List held.Hold) (holds : List KeptHold) → AllZip IsHold xs holds → IdsAscend holds → option_map f (hold_of holds id) ≡ option_map g (hold_at (reverse xs) id)
   found-listed [] [] each ascend = refl
   found-listed [] (kept ∷ holds) each ascend = absurd each
   found-listed (hold ∷ xs) [] each ascend = absurd each
@@ -115,33 +115,33 @@ module _ {X : Type 0} (f : Hold → X) (g : held.Hold → X) (same : (hold : hel
           (ap (λ x. Some x) (same hold kept each.0))
       go false other rest = rest ∙ ap (option_map g) (sym (or_none (hold_at (reverse xs) id)))
 
-  found-kept : (h : List Effect) (holds : List Hold) → HoldsStand h holds → option_map f (hold_of holds id) ≡ option_map g (hold_at (holds_of h) id)
+  found-kept : (h : List Effect) (holds : List KeptHold) → HoldsStand h holds → option_map f (hold_of holds id) ≡ option_map g (hold_at (holds_of h) id)
   found-kept h holds stands =
       found-listed (reverse (holds_of h)) holds stands.each stands.in_order
       ∙ ap (λ (hs : List held.Hold). option_map g (hold_at hs id)) (reverse-reverse (holds_of h))
 
-pub shown-kept : (id : ℕ) (h : List Effect) (holds : List Hold) → HoldsStand h holds → option_map shown_row (option_map (λ (k : Hold). k.row) (hold_of holds id)) ≡ option_map shown (hold_at (holds_of h) id)
+pub shown-kept : (id : ℕ) (h : List Effect) (holds : List KeptHold) → HoldsStand h holds → option_map shown_row (option_map (λ (k : KeptHold). k.row) (hold_of holds id)) ≡ option_map shown (hold_at (holds_of h) id)
 shown-kept id h holds stands =
-    twice (hold_of holds id) ∙ found-kept (λ (k : Hold). shown_row k.row) shown (λ hold kept is. is.shows) id h holds stands
+    twice (hold_of holds id) ∙ found-kept (λ (k : KeptHold). shown_row k.row) shown (λ hold kept is. is.shows) id h holds stands
   where
-    twice : (o : Option Hold) → option_map shown_row (option_map (λ (k : Hold). k.row) o) ≡ option_map (λ (k : Hold). shown_row k.row) o
+    twice : (o : Option KeptHold) → option_map shown_row (option_map (λ (k : KeptHold). k.row) o) ≡ option_map (λ (k : KeptHold). shown_row k.row) o
     twice None = refl
     twice (Some k) = refl
 
-pub maker-kept : (id : ℕ) (h : List Effect) (holds : List Hold) → HoldsStand h holds → option_map (λ (k : Hold). k.pass) (hold_of holds id) ≡ option_map (λ (hold : held.Hold). hold.pass) (hold_at (holds_of h) id)
-maker-kept id h holds stands = found-kept (λ (k : Hold). k.pass) (λ (hold : held.Hold). hold.pass) (λ hold kept is. is.by) id h holds stands
+pub maker-kept : (id : ℕ) (h : List Effect) (holds : List KeptHold) → HoldsStand h holds → option_map (λ (k : KeptHold). k.pass) (hold_of holds id) ≡ option_map (λ (hold : held.Hold). hold.pass) (hold_at (holds_of h) id)
+maker-kept id h holds stands = found-kept (λ (k : KeptHold). k.pass) (λ (hold : held.Hold). hold.pass) (λ hold kept is. is.by) id h holds stands
 
 -- whether the row of a hold that is kept says that it owes a set-dirty
 abbrev pub row_owes : Option HoldRow → Bool
 row_owes None = false
 row_owes (Some row) = is_pin row.kind && not (is_none row.written)
 
-pub set_dirty-kept : (id : ℕ) (h : List Effect) (holds : List Hold) → HoldsStand h holds → row_owes (option_map (λ (k : Hold). k.row) (hold_of holds id)) ≡ owes_set_dirty (hold_at (holds_of h) id)
+pub set_dirty-kept : (id : ℕ) (h : List Effect) (holds : List KeptHold) → HoldsStand h holds → row_owes (option_map (λ (k : KeptHold). k.row) (hold_of holds id)) ≡ owes_set_dirty (hold_at (holds_of h) id)
 set_dirty-kept id h holds stands =
     both (hold_of holds id) (hold_at (holds_of h) id)
-    (found-kept (λ (k : Hold). is_pin k.row.kind && not (is_none k.row.written)) (λ (hold : held.Hold). is_pin hold.kind && not (is_empty hold.owed)) (λ hold kept is. rw (ap (λ (s : Shown). is_pin s.kind) is.shows, is.changed) refl) id h holds stands)
+    (found-kept (λ (k : KeptHold). is_pin k.row.kind && not (is_none k.row.written)) (λ (hold : held.Hold). is_pin hold.kind && not (is_empty hold.owed)) (λ hold kept is. rw (ap (λ (s : Shown). is_pin s.kind) is.shows, is.changed) refl) id h holds stands)
   where
-    both : (o : Option Hold) (p : Option held.Hold) → option_map (λ (k : Hold). is_pin k.row.kind && not (is_none k.row.written)) o ≡ option_map (λ (hold : held.Hold). is_pin hold.kind && not (is_empty hold.owed)) p → row_owes (option_map (λ (k : Hold). k.row) o) ≡ owes_set_dirty p
+    both : (o : Option KeptHold) (p : Option held.Hold) → option_map (λ (k : KeptHold). is_pin k.row.kind && not (is_none k.row.written)) o ≡ option_map (λ (hold : held.Hold). is_pin hold.kind && not (is_empty hold.owed)) p → row_owes (option_map (λ (k : KeptHold). k.row) o) ≡ owes_set_dirty p
     both None None is = refl
     both None (Some hold) is = absurd (cc)
     both (Some k) None is = absurd (cc)
@@ -151,25 +151,25 @@ set_dirty-kept id h holds stands =
         some e = cc
 
 -- the range of a hold is that of the one that is kept for it
-pub range-kept : (hold : held.Hold) (kept : Hold) → IsHold hold kept → range_of kept.row ≡ range_held hold
+pub range-kept : (hold : held.Hold) (kept : KeptHold) → IsHold hold kept → row_range kept.row ≡ range_held hold
 range-kept hold kept is = ap (λ (s : Shown). whole_range s.at s.len) is.shows
 
-pub keeps_page-kept : (p : ℕ) (hold : held.Hold) (kept : Hold) → IsHold hold kept → keeps_page p kept ≡ has_page (range_held hold) p
+pub keeps_page-kept : (p : ℕ) (hold : held.Hold) (kept : KeptHold) → IsHold hold kept → keeps_page p kept ≡ has_page (range_held hold) p
 keeps_page-kept p hold kept is = ap (λ r. has_page r p) (range-kept hold kept is)
 
-pub owes-kept : (p : ℕ) (hold : held.Hold) (kept : Hold) → IsHold hold kept → is_unstamped p kept ≡ owes_stamp p hold
+pub owes-kept : (p : ℕ) (hold : held.Hold) (kept : KeptHold) → IsHold hold kept → is_unstamped_through p kept ≡ owes_stamp p hold
 owes-kept p hold kept is = rw (ap (λ (s : Shown). is_pin s.kind) is.shows, is.owes p) refl
 
-pub past-kept : (size : ℕ) (hold : held.Hold) (kept : Hold) → IsHold hold kept → ends_past size kept ≡ nat_lt size (hold.at + hold.len)
+pub past-kept : (size : ℕ) (hold : held.Hold) (kept : KeptHold) → IsHold hold kept → ends_past size kept ≡ nat_lt size (hold.at + hold.len)
 past-kept size hold kept is = ap (λ (s : Shown). nat_lt size (s.at + s.len)) is.shows
 
 and_assoc : (a b c : Bool) → ((a && b) && c) ≡ (a && (b && c))
 and_assoc true b c = refl
 and_assoc false b c = refl
 
-pub bars-kept : (span : Range) (exclusive : Bool) (hold : held.Hold) (kept : Hold) → IsHold hold kept → conflicts span exclusive kept ≡ bars_pin span exclusive hold
+pub bars-kept : (span : Range) (exclusive : Bool) (hold : held.Hold) (kept : KeptHold) → IsHold hold kept → pin_conflicts span exclusive kept ≡ bars_pin span exclusive hold
 bars-kept span exclusive hold kept is =
-    and_assoc (is_pin kept.row.kind) (exclusive || kept.row.exclusive) (overlaps span kept)
+    and_assoc (is_pin kept.row.kind) (exclusive || kept.row.exclusive) (hold_overlaps span kept)
     ∙ ap (λ (s : Shown). is_pin s.kind && ((exclusive || s.exclusive) && share_page (whole_range s.at s.len) span)) is.shows
 
 flip_share : (a b : Range) → share_page a b ≡ share_page b a
@@ -184,7 +184,7 @@ flip_share a b = share_page-ends a b ∙ (flip (nat_lt a.from a.to) (nat_lt b.fr
     flip false true r s = refl
     flip false false r s = refl
 
-pub shares-kept : (span : Range) (hold : held.Hold) (kept : Hold) → IsHold hold kept → overlaps span kept ≡ has_page_of (Some span) hold
+pub shares-kept : (span : Range) (hold : held.Hold) (kept : KeptHold) → IsHold hold kept → hold_overlaps span kept ≡ has_page_of (Some span) hold
 shares-kept span hold kept is =
     ap (λ r. share_page r span) (range-kept hold kept is) ∙ flip_share (range_held hold) span
 
@@ -195,7 +195,7 @@ some_page r true is = rw is (ap (λ n. list_any (λ p. true) (range_with_len (r.
     more a b less = omega arith
 some_page r false is = rw is refl
 
-pub bytes-kept : (hold : held.Hold) (kept : Hold) → IsHold hold kept → has_bytes kept ≡ has_page_of None hold
+pub bytes-kept : (hold : held.Hold) (kept : KeptHold) → IsHold hold kept → has_bytes kept ≡ has_page_of None hold
 bytes-kept hold kept is =
     ap (λ (s : Shown). nat_lt 0 s.len) is.shows
     ∙ sym (some_page (range_held hold) (nat_lt 0 hold.len) (shift hold.at hold.len))
@@ -204,10 +204,10 @@ bytes-kept hold kept is =
     shift at len = grind (arith, nat_tests)
 
 -- what is found is there
-pub found-any : (test : Hold → Bool) (holds : List Hold) → is_some (first_id test holds) ≡ list_any test holds
+pub found-any : (test : KeptHold → Bool) (holds : List KeptHold) → is_some (first_id test holds) ≡ list_any test holds
 found-any test [] = refl
 found-any test (kept ∷ holds) = go (test kept) (found-any test holds)
   where
-    go : (b : Bool) → is_some (first_id test holds) ≡ list_any test holds → is_some (option_map (λ (k : Hold). k.row.id) (cond b (Some kept) (find test holds))) ≡ (b || list_any test holds)
+    go : (b : Bool) → is_some (first_id test holds) ≡ list_any test holds → is_some (option_map (λ (k : KeptHold). k.row.id) (cond b (Some kept) (find test holds))) ≡ (b || list_any test holds)
     go true rest = refl
     go false rest = rest

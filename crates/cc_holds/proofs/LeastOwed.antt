@@ -17,9 +17,9 @@ use Rattle.cc_model.specs.Ranges.{span_has}
 use Rattle.cc_model.specs.Stamps.{owes_stamp, owed_pages}
 use Rattle.cc_laws.proofs.BlockPages.{Above, Rises, rises-ascending}
 use Rattle.cc_laws.proofs.DirtyAmong.{is_among-ascending}
-use Rattle.cc_holds.specs.Holds.{is_unstamped}
+use Rattle.cc_holds.specs.Holds.{is_unstamped_through}
 use Rattle.cc_holds.specs.Touched.{has_touched}
-use Rattle.cc_holds.specs.declared.holds.Hold.{Hold}
+use Rattle.cc_holds.specs.declared.holds.KeptHold.{KeptHold}
 use Rattle.cc_holds.specs.Stands.{HoldsStand}
 use Rattle.cc_holds.specs.Looks.{with_least, with_owed}
 use Rattle.cc_holds.proofs.PagesOwed.{among-pages_of}
@@ -113,18 +113,18 @@ least_of-more span there (n ∷ ns) o least =
     (least_of-more span (λ q. there q || (n == q)) ns (with_least span o n) (least_of-one (span_has span) there n o least))
 
 -- the pages to which a hold owes a stamp
-least_of-hold : (span : Option Range) (there : ℕ → Bool) (kept : Hold) (o : Option ℕ) → IsLeastOf (span_has span) there o → IsLeastOf (span_has span) (λ q. there q || is_unstamped q kept) (with_owed span o kept)
+least_of-hold : (span : Option Range) (there : ℕ → Bool) (kept : KeptHold) (o : Option ℕ) → IsLeastOf (span_has span) there o → IsLeastOf (span_has span) (λ q. there q || is_unstamped_through q kept) (with_owed span o kept)
 least_of-hold span there kept o least = go (is_pin kept.row.kind)
   where
     go : (b : Bool) → IsLeastOf (span_has span) (λ q. there q || (b && has_touched kept.touched q)) (if b then fold (with_least span) o kept.touched else o)
     go true = least_of-more span there kept.touched o least
     go false = least_of-same (span_has span) there _ o (λ q. sym (or_none (there q))) least
 
-least_of-holds : (span : Option Range) (there : ℕ → Bool) (holds : List Hold) (o : Option ℕ) → IsLeastOf (span_has span) there o → IsLeastOf (span_has span) (λ q. there q || list_any (is_unstamped q) holds) (fold (with_owed span) o holds)
+least_of-holds : (span : Option Range) (there : ℕ → Bool) (holds : List KeptHold) (o : Option ℕ) → IsLeastOf (span_has span) there o → IsLeastOf (span_has span) (λ q. there q || list_any (is_unstamped_through q) holds) (fold (with_owed span) o holds)
 least_of-holds span there [] o least = least_of-same (span_has span) there _ o (λ q. sym (or_none (there q))) least
 least_of-holds span there (kept ∷ holds) o least =
-    least_of-same (span_has span) _ _ (fold (with_owed span) (with_owed span o kept) holds) (λ q. or_assoc (there q) (is_unstamped q kept) (list_any (is_unstamped q) holds))
-    (least_of-holds span (λ q. there q || is_unstamped q kept) holds (with_owed span o kept) (least_of-hold span there kept o least))
+    least_of-same (span_has span) _ _ (fold (with_owed span) (with_owed span o kept) holds) (λ q. or_assoc (there q) (is_unstamped_through q kept) (list_any (is_unstamped_through q) holds))
+    (least_of-holds span (λ q. there q || is_unstamped_through q kept) holds (with_owed span o kept) (least_of-hold span there kept o least))
 
 -- the pages of holds to which they owe a stamp, by the definition
 among-ranges : (p : ℕ) (owed : List Range) → is_among p (flat_map pages_of owed) ≡ list_any (λ r. has_page r p) owed
@@ -182,8 +182,8 @@ found-least test (n ∷ ns) o rises least = go (test n) refl o least (found-leas
         apart false other = other
 
 -- the least page of the span to which a kept pin owes a stamp is that of the definition
-pub least_owed-kept : (span : Option Range) (h : List Effect) (holds : List Hold) → HoldsStand h holds → find (span_has span) (owed_pages (holds_of h)) ≡ fold (with_owed span) None holds
+pub least_owed-kept : (span : Option Range) (h : List Effect) (holds : List KeptHold) → HoldsStand h holds → find (span_has span) (owed_pages (holds_of h)) ≡ fold (with_owed span) None holds
 least_owed-kept span h holds stands =
     found-least (span_has span) (owed_pages (holds_of h)) (fold (with_owed span) None holds) (rises-ascending (flat_map pages_owed (holds_of h)))
-    (least_of-same (span_has span) _ _ (fold (with_owed span) None holds) (λ q. is_among-ascending q (flat_map pages_owed (holds_of h)) ∙ (among-owed q (holds_of h) ∙ sym (any-kept (owes_stamp q) (is_unstamped q) (owes-kept q) h holds stands)))
+    (least_of-same (span_has span) _ _ (fold (with_owed span) None holds) (λ q. is_among-ascending q (flat_map pages_owed (holds_of h)) ∙ (among-owed q (holds_of h) ∙ sym (any-kept (owes_stamp q) (is_unstamped_through q) (owes-kept q) h holds stands)))
     (least_of-holds span (λ q. false) holds None (λ q at. absurd (cc))))

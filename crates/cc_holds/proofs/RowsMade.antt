@@ -16,11 +16,11 @@ use Rattle.cc_model.specs.Cache.{makes_hold}
 use Rattle.cc_model.specs.History.{Effect, Did, history}
 use Rattle.cc_model.specs.Legal.{IsLegal}
 use Rattle.cc_model.specs.Setup.{Setup}
-use Rattle.cc_holds.specs.Done.{MakesAbove, takes_memory}
+use Rattle.cc_holds.specs.Done.{MakesAbove, takes_hold_memory}
 use Rattle.cc_holds.proofs.MadeIds.{id-made}
 use Rattle.cc_model.specs.Holds.{Hold, hold_at, holds_of, id_of, repinned}
 use Rattle.cc_laws.proofs.HoldSteps.{holds_of-done}
-use Rattle.cc_holds.specs.declared.holds.Hold as kept
+use Rattle.cc_holds.specs.declared.holds.KeptHold as kept
 use Rattle.cc_holds.specs.Makes.{new_row, row_made, row_named}
 use Rattle.cc_holds.specs.Stands.{HoldsStand}
 use Rattle.cc_holds.proofs.HoldsStanding.{stands-same, stands-other}
@@ -62,7 +62,7 @@ changes-none (call.EndHold hold) pins writes stamps ends = absurd (ends hold ref
 changes-none other pins writes stamps ends = refl
 
 -- a call that neither makes a hold nor changes one
-pub stands-unmade : (call : Call) (h : List Effect) (pass : ℕ) (reply : Reply) (holds : List kept.Hold) → changes_one call ≡ false → HoldsStand h holds → row_made call (id_of reply) (holds_of h) ≡ None → HoldsStand (Did pass call reply ∷ h) holds
+pub stands-unmade : (call : Call) (h : List Effect) (pass : ℕ) (reply : Reply) (holds : List kept.KeptHold) → changes_one call ≡ false → HoldsStand h holds → row_made call (id_of reply) (holds_of h) ≡ None → HoldsStand (Did pass call reply ∷ h) holds
 stands-unmade (call.Map file at len) h pass reply holds other stands none = absurd (cc)
 stands-unmade (call.PinRead file at len exclusive) h pass reply holds other stands none = absurd (cc)
 stands-unmade (call.PreparePin file at len zero exclusive) h pass reply holds other stands none = absurd (cc)
@@ -96,7 +96,7 @@ makes-above u past pass nth s call reply legal row is =
     id-made u past pass nth s call reply legal (row-makes call (id_of reply) (holds_of (history past s)) row is)
 
 -- a call for which memory is sure makes no hold
-pub sure-makes_none : (it : Call) → takes_memory it ≡ false → makes_hold it ≡ false
+pub sure-makes_none : (it : Call) → takes_hold_memory it ≡ false → makes_hold it ≡ false
 sure-makes_none (call.PinnedWrite hold at bytes) sure = refl
 sure-makes_none other sure = sure
 

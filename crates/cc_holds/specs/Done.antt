@@ -18,6 +18,6 @@ abbrev pub MakesAbove : Call → ℕ → List Hold → Type 0
 MakesAbove call id holds = (row : HoldRow) → row_made call id holds ≡ Some row → All (λ hold. hold.id < id) holds
 
 -- whether memory may be wanting for a call: where it makes a hold, or writes through one
-abbrev pub takes_memory : Call → Bool
-takes_memory (call.PinnedWrite hold at bytes) = true
-takes_memory other = makes_hold other
+abbrev pub takes_hold_memory : Call → Bool
+takes_hold_memory (call.PinnedWrite hold at bytes) = true
+takes_hold_memory other = makes_hold other

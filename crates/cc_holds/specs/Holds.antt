@@ -9,26 +9,26 @@ use Rattle.cc_entry.specs.declared.hold.HoldRow.{HoldRow}
 use Rattle.cc_entry.specs.Kinds.{is_pin}
 use Rattle.cc_entry.specs.Pages.{whole_range, share_page, pages_of, blocks_of}
 use Rattle.cc_holds.specs.Touched.{has_touched, with_pages, widened}
-use Rattle.cc_holds.specs.declared.holds.Hold.{Hold}
+use Rattle.cc_holds.specs.declared.holds.KeptHold.{KeptHold}
 
 -- whether a hold has this id
-abbrev pub has_id : ℕ → Hold → Bool
+abbrev pub has_id : ℕ → KeptHold → Bool
 has_id id h = h.row.id == id
 
 -- the hold of an id
-abbrev pub hold_of : List Hold → ℕ → Option Hold
+abbrev pub hold_of : List KeptHold → ℕ → Option KeptHold
 hold_of holds id = find (has_id id) holds
 
 -- without the hold of an id
-abbrev pub without : List Hold → ℕ → List Hold
-without holds id = remove holds (position_or_len (has_id id) holds)
+abbrev pub without_hold : List KeptHold → ℕ → List KeptHold
+without_hold holds id = remove holds (position_or_len (has_id id) holds)
 
 -- with a further hold in the order of ids
-abbrev pub inserted : List Hold → Hold → List Hold
+abbrev pub inserted : List KeptHold → KeptHold → List KeptHold
 inserted holds h = insert holds (position_or_len (λ x. nat_lt h.row.id x.row.id) holds) h
 
 -- the hold of this id is changed by f, and the others stay
-abbrev pub Changes : List Hold → List Hold → ℕ → (Hold → Hold) → Type 0
+abbrev pub Changes : List KeptHold → List KeptHold → ℕ → (KeptHold → KeptHold) → Type 0
 Changes old new id f = IfSome (hold_of old id) (λ h. new ≡ slice_set old (position_or_len (has_id id) old) (f h))
 
 -- the pages of a span, where there is one
@@ -37,60 +37,60 @@ touched_at None = []
 touched_at (Some span) = with_pages [] (pages_of span)
 
 -- a hold as a pass opens it: what it was written through so far is its span
-abbrev pub opened : ℕ → HoldRow → Hold
+abbrev pub opened : ℕ → HoldRow → KeptHold
 opened pass row = record { row = row; pass = pass; touched = touched_at row.written }
 
 -- a hold after a write through it
-abbrev pub written : Range → Hold → Hold
-written span h = record h {
+abbrev pub hold_written : Range → KeptHold → KeptHold
+hold_written span h = record h {
   row = record (h.row) { written = widened h.row.written span };
   touched = with_pages h.touched (pages_of span);
 }
 
 -- a hold after a set-dirty
-abbrev pub cleaned : Hold → Hold
+abbrev pub cleaned : KeptHold → KeptHold
 cleaned h = record h { row = record (h.row) { written = None }; touched = [] }
 
 -- a mapped hold made a pin
-abbrev pub pinned : Bool → Hold → Hold
-pinned exclusive h = record h { row = record (h.row) { kind = kind.Pin; exclusive = exclusive } }
+abbrev pub hold_pinned : Bool → KeptHold → KeptHold
+hold_pinned exclusive h = record h { row = record (h.row) { kind = kind.Pin; exclusive = exclusive } }
 
 -- the range of a hold
-abbrev pub range_of : HoldRow → Range
-range_of row = whole_range row.at row.len
+abbrev pub row_range : HoldRow → Range
+row_range row = whole_range row.at row.len
 
 -- whether a hold has a byte in a page of the span
-abbrev pub overlaps : Range → Hold → Bool
-overlaps span h = share_page (range_of h.row) span
+abbrev pub hold_overlaps : Range → KeptHold → Bool
+hold_overlaps span h = share_page (row_range h.row) span
 
 -- whether a hold is a pin that forbids another one on the span
-abbrev pub conflicts : Range → Bool → Hold → Bool
-conflicts span exclusive h = is_pin h.row.kind && (exclusive || h.row.exclusive) && overlaps span h
+abbrev pub pin_conflicts : Range → Bool → KeptHold → Bool
+pin_conflicts span exclusive h = is_pin h.row.kind && (exclusive || h.row.exclusive) && hold_overlaps span h
 
 -- whether a hold is a pin through which the page was written, with no set-dirty since
-abbrev pub is_unstamped : ℕ → Hold → Bool
-is_unstamped page h = is_pin h.row.kind && has_touched h.touched page
+abbrev pub is_unstamped_through : ℕ → KeptHold → Bool
+is_unstamped_through page h = is_pin h.row.kind && has_touched h.touched page
 
 -- whether a hold ends past a size
-abbrev pub ends_past : ℕ → Hold → Bool
+abbrev pub ends_past : ℕ → KeptHold → Bool
 ends_past size h = nat_lt size (h.row.at + h.row.len)
 
 -- the id of the first hold that passes
-abbrev pub first_id : (Hold → Bool) → List Hold → Option ℕ
+abbrev pub first_id : (KeptHold → Bool) → List KeptHold → Option ℕ
 first_id passes holds = option_map (λ h. h.row.id) (find passes holds)
 
 -- no hold that passes has a lesser id
-abbrev pub IsLeast : (Hold → Bool) → List Hold → Option ℕ → Type 0
-IsLeast passes holds least = IfSome least (λ id. All (λ h. passes h ≡ true → id ≤ h.row.id) holds)
+abbrev pub IsLeastHold : (KeptHold → Bool) → List KeptHold → Option ℕ → Type 0
+IsLeastHold passes holds least = IfSome least (λ id. All (λ h. passes h ≡ true → id ≤ h.row.id) holds)
 
 -- whether a hold has a byte in the block
-abbrev pub has_block : ℕ → Hold → Bool
-has_block block h = is_member nat_eq (blocks_of (range_of h.row)) block
+abbrev pub has_block : ℕ → KeptHold → Bool
+has_block block h = is_member nat_eq (blocks_of (row_range h.row)) block
 
 -- the blocks of each hold in turn
-abbrev pub held_blocks : List Hold → List ℕ
-held_blocks holds = flat_map (λ h. blocks_of (range_of h.row)) holds
+abbrev pub held_blocks : List KeptHold → List ℕ
+held_blocks holds = flat_map (λ h. blocks_of (row_range h.row)) holds
 
 -- how many blocks the holds have, each counted once
-abbrev pub active_blocks : List Hold → ℕ
+abbrev pub active_blocks : List KeptHold → ℕ
 active_blocks holds = distinct_count nat_eq (held_blocks holds)

@@ -24,9 +24,9 @@ new_row id file at len its_kind exclusive written = record {
 }
 
 -- what a prepare of a pin writes: the whole range, where it zeroes it
-abbrev pub zeroed : Bool → ℕ → ℕ → Option Range
-zeroed true at len = Some (record { from = at; to = at + len })
-zeroed false at len = None
+abbrev pub zeroed_by_prepare : Bool → ℕ → ℕ → Option Range
+zeroed_by_prepare true at len = Some (record { from = at; to = at + len })
+zeroed_by_prepare false at len = None
 
 -- where the range ends that a call zeroes, 0 where it makes no zeroed pin
 abbrev pub zeroed_end : Call → ℕ
@@ -38,7 +38,7 @@ abbrev pub row_named : Call → ℕ → Option HoldRow
 row_named (call.Map file at len) id = Some (new_row id file at len kind.Map false None)
 row_named (call.PinRead file at len exclusive) id = Some (new_row id file at len kind.Pin exclusive None)
 row_named (call.PreparePin file at len zero exclusive) id =
-    Some (new_row id file at len kind.Pin exclusive (zeroed zero at len))
+    Some (new_row id file at len kind.Pin exclusive (zeroed_by_prepare zero at len))
 row_named (call.MdlRead file at len) id = Some (new_row id file at len kind.ReadChain false None)
 row_named (call.MdlWrite file at len) id = Some (new_row id file at len kind.WriteChain false None)
 row_named other id = None

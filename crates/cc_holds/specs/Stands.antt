@@ -10,7 +10,7 @@ use Rattle.cc_model.specs.Numbers.{is_empty}
 use Rattle.cc_model.specs.Holds.{holds_of}
 use Rattle.cc_model.specs.Holds as held
 use Rattle.cc_holds.specs.Touched.{has_touched}
-use Rattle.cc_holds.specs.declared.holds.Hold.{Hold}
+use Rattle.cc_holds.specs.declared.holds.KeptHold.{KeptHold}
 
 -- What is shown of a hold: all but the caller that made it and the bytes for which it owes a stamp.
 pub record Shown : Type 0 where
@@ -45,18 +45,18 @@ shown_row row = record {
 
 -- A hold of the definition and the one that is kept for it: both show the same, were made by the same pass, and owe a
 -- stamp to the same pages, and at all.
-pub record IsHold (hold : held.Hold) (kept : Hold) : Type 0 where
+pub record IsHold (hold : held.Hold) (kept : KeptHold) : Type 0 where
   pub shows : shown_row kept.row ≡ shown hold
   pub by : kept.pass ≡ hold.pass
   pub changed : is_none kept.row.written ≡ is_empty hold.owed
   pub owes : (p : ℕ) → has_touched kept.touched p ≡ list_any (λ r. has_page r p) hold.owed
 
 -- each hold has a greater id than those before it
-abbrev pub IdsAscend : List Hold → Type 0
+abbrev pub IdsAscend : List KeptHold → Type 0
 IdsAscend [] = ⊤
 IdsAscend (kept ∷ holds) = AllByRecursion (λ later. kept.row.id < later.row.id) holds × IdsAscend holds
 
 -- What is kept stands for a history: its open holds, one for one, the oldest first.
-pub record HoldsStand (h : List Effect) (holds : List Hold) : Type 0 where
+pub record HoldsStand (h : List Effect) (holds : List KeptHold) : Type 0 where
   pub each : AllZip IsHold (reverse (holds_of h)) holds
   pub in_order : IdsAscend holds

@@ -6,7 +6,7 @@ ghost use Rattle.cc_model.specs.History.{Effect, Did};
 ghost use Rattle.cc_model.specs.Holds.{holds_of, id_of};
 ghost use Rattle.cc_holds.specs.Stands.{HoldsStand};
 ghost use Rattle.cc_holds.specs.Makes.{row_made, zeroed_end};
-ghost use Rattle.cc_holds.specs.Done.{MakesAbove, takes_memory, written_end};
+ghost use Rattle.cc_holds.specs.Done.{MakesAbove, takes_hold_memory, written_end};
 
 use crate::open_holds::OpenHolds;
 use cc_entry::{Call, NoMemory, Span};
@@ -22,7 +22,7 @@ impl OpenHolds {
             HoldsStand h self.old → id_of reply ≡ id → MakesAbove call.now id (holds_of h) →
             HoldsStand (Did pass call.now reply ∷ h) self.new) }
         ensures refused { OnErr result (self.new ≡ self.old) }
-        ensures sure { takes_memory call.now ≡ false → IsOk result }
+        ensures sure { takes_hold_memory call.now ≡ false → IsOk result }
     {
         match self.row_made(call, id) {
             Some(row) => self.make(pass, row),
@@ -37,7 +37,7 @@ impl OpenHolds {
             HoldsStand h self.old → row_made call.now (id_of reply) (holds_of h) ≡ None →
             HoldsStand (Did pass call.now reply ∷ h) self.new) }
         ensures refused { OnErr result (self.new ≡ self.old) }
-        ensures sure { takes_memory call.now ≡ false → IsOk result }
+        ensures sure { takes_hold_memory call.now ≡ false → IsOk result }
     {
         match call {
             Call::PinMapped { hold, exclusive } => {

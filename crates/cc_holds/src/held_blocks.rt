@@ -4,7 +4,7 @@ ghost use Rattle.std.specs.Prelude.{◌≡◌, ℕ, ◌+◌, ◌-◌, ◌<◌, �
 ghost use Rattle.std.specs.List.{IsDistinct, range_with_len};
 ghost use Rattle.std.specs.Set.{distinct_count};
 ghost use Rattle.cc_model.specs.Numbers.{is_among};
-ghost use Rattle.cc_holds.specs.Blocks.{holds_at, HasBlocksOf, one_within};
+ghost use Rattle.cc_holds.specs.Blocks.{holds_at, HasHeldBlocks, one_within};
 
 use crate::block_rows::{BlockRow, note_all, place_of, release_all};
 use cc_entry::NoMemory;
@@ -20,13 +20,13 @@ pub(crate) struct HeldBlocks {
 impl Model for HeldBlocks {
     ghost use Rattle.std.specs.Prelude.{List};
     ghost use Rattle.cc_holds.specs.declared.block_rows.BlockRow.{BlockRow};
-    ghost use Rattle.cc_holds.specs.Blocks.{AreRows};
+    ghost use Rattle.cc_holds.specs.Blocks.{AreBlockRows};
 
     ghost Value = { List BlockRow };
 
     ghost view = { λ b. b.rows.items };
 
-    ghost invariant = { λ b. AreRows b.rows.items };
+    ghost invariant = { λ b. AreBlockRows b.rows.items };
 }
 
 impl HeldBlocks {
@@ -65,7 +65,7 @@ impl HeldBlocks {
 
     /// How many blocks there are.
     pub(crate) fn count(&self) -> usize
-        ensures { (bs : List ℕ) → HasBlocksOf self.now bs → result ≡ distinct_count nat_eq bs }
+        ensures { (bs : List ℕ) → HasHeldBlocks self.now bs → result ≡ distinct_count nat_eq bs }
     {
         self.rows.len()
     }
@@ -73,8 +73,8 @@ impl HeldBlocks {
     /// The blocks, each once. Answers `NoMemory` where memory is wanting.
     pub(crate) fn all(&self, alloc: Global) -> Result<Vec<u64>, NoMemory>
         ensures distinct { IfOk result (λ blocks. IsDistinct nat_eq blocks.items) }
-        ensures same { IfOk result (λ blocks. HasBlocksOf self.now blocks.items) }
-        ensures counted { IfOk result (λ blocks. (bs : List ℕ) → HasBlocksOf self.now bs →
+        ensures same { IfOk result (λ blocks. HasHeldBlocks self.now blocks.items) }
+        ensures counted { IfOk result (λ blocks. (bs : List ℕ) → HasHeldBlocks self.now bs →
             vec_len blocks ≡ distinct_count nat_eq bs) }
     {
         let mut blocks = Vec::new(alloc);
@@ -88,7 +88,7 @@ impl HeldBlocks {
         requires in_order { first ≤ end }
         ensures same { IfOk result (λ blocks. (b : ℕ) → is_among b blocks.items
             ≡ (nat_lt 0 (holds_at b self.now) || is_among b (range_with_len first (end - first)))) }
-        ensures counted { IfOk result (λ blocks. (bs : List ℕ) → HasBlocksOf self.now bs →
+        ensures counted { IfOk result (λ blocks. (bs : List ℕ) → HasHeldBlocks self.now bs →
             vec_len blocks ≡ distinct_count nat_eq (bs ++ range_with_len first (end - first))) }
     {
         let before = place_of(&self.rows, first);
@@ -104,7 +104,7 @@ impl HeldBlocks {
     pub(crate) fn count_with(&self, first: u64, end: u64) -> u64
         requires in_order { first ≤ end }
         requires fits { end ≤ 2 ^ 62 }
-        ensures { (bs : List ℕ) → HasBlocksOf self.now bs →
+        ensures { (bs : List ℕ) → HasHeldBlocks self.now bs →
             result ≡ distinct_count nat_eq (bs ++ range_with_len first (end - first)) }
     {
         let before = place_of(&self.rows, first);

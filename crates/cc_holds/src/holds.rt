@@ -2,7 +2,7 @@
 
 ghost use Rattle.std.specs.Prelude.{◌≡◌, ℕ, count_by, ◌+◌, ◌<◌, [], ◌∷◌, ◌++◌, All, OnOk, OnErr, IsSome, IsTrue, true, min};
 ghost use Rattle.std.specs.Option.{option_copied, option_map};
-ghost use Rattle.cc_holds.specs.Holds.{hold_of, without, inserted, Changes, opened, written, cleaned, pinned, overlaps, conflicts, is_unstamped, ends_past, first_id, IsLeast, has_block, active_blocks};
+ghost use Rattle.cc_holds.specs.Holds.{hold_of, without_hold, inserted, Changes, opened, hold_written, cleaned, hold_pinned, hold_overlaps, pin_conflicts, is_unstamped_through, ends_past, first_id, IsLeastHold, has_block, active_blocks};
 ghost use Rattle.cc_holds.specs.Blocks.{holds_at};
 
 use crate::blocks::block_range;
@@ -19,18 +19,18 @@ use std::marker::Model;
 
 /// A hold, the pass that made it, and the pages that were written through it since its last set-dirty.
 #[derive(Drop)]
-pub struct Hold {
+pub struct KeptHold {
     pub row: HoldRow,
     pub pass: u32,
     pub touched: TouchedPages,
 }
 
-impl Hold {
+impl KeptHold {
     ghost use Rattle.std.specs.Prelude.{◌≡◌, OnOk, OnErr};
-    ghost use Rattle.cc_holds.specs.Holds.{written, cleaned, pinned};
+    ghost use Rattle.cc_holds.specs.Holds.{hold_written, cleaned, hold_pinned};
 
     fn write(&mut self, span: Span) -> Result<(), NoMemory>
-        ensures ok { OnOk result (self.new ≡ written span self.old) }
+        ensures ok { OnOk result (self.new ≡ hold_written span self.old) }
         ensures err { OnErr result (self.new ≡ self.old) }
     {
         self.touched.touch(span)?;
@@ -46,7 +46,7 @@ impl Hold {
     }
 
     fn pin(&mut self, exclusive: bool)
-        ensures { self.new ≡ pinned exclusive self.old }
+        ensures { self.new ≡ hold_pinned exclusive self.old }
     {
         self.row.kind = HoldKind::Pin;
         self.row.exclusive = exclusive;
@@ -56,17 +56,17 @@ impl Hold {
 /// The open holds of a stream, by id.
 #[derive(Drop)]
 pub struct Holds {
-    holds: Vec<Hold>,
+    holds: Vec<KeptHold>,
     blocks: HeldBlocks,
     alloc: Global,
 }
 
 impl Model for Holds {
     ghost use Rattle.std.specs.Prelude.{List};
-    ghost use Rattle.cc_holds.specs.declared.holds.Hold.{Hold};
+    ghost use Rattle.cc_holds.specs.declared.holds.KeptHold.{KeptHold};
     ghost use Rattle.cc_holds.specs.Blocks.{AreKept};
 
-    ghost Value = { List Hold };
+    ghost Value = { List KeptHold };
 
     ghost view = { λ h. h.holds.items };
 
@@ -86,7 +86,7 @@ impl Holds {
     }
 
     /// The holds, by id.
-    pub fn all(&self) -> &[Hold]
+    pub fn all(&self) -> &[KeptHold]
         ensures { result.now ≡ self.now }
     {
         &self.holds
@@ -131,7 +131,7 @@ impl Holds {
         insert_reserved(
             &mut self.holds,
             place,
-            Hold {
+            KeptHold {
                 row: hold,
                 pass,
                 touched,
@@ -143,13 +143,13 @@ impl Holds {
     /// Ends the hold of an id.
     pub fn remove(&mut self, id: u64) -> Option<HoldRow>
         ensures row { result ≡ option_map (λ h. h.row) (hold_of self.old id) }
-        ensures rest { self.new ≡ without self.old id }
+        ensures rest { self.new ≡ without_hold self.old id }
     {
         let place = place_of(&self.holds, id);
         if place == self.holds.len() {
             return None;
         }
-        let Hold {
+        let KeptHold {
             row,
             pass: _,
             touched: _,
@@ -162,7 +162,7 @@ impl Holds {
     /// Notes a write through the hold of an id. Answers `NoMemory`, and then nothing has changed.
     pub fn touch(&mut self, id: u64, span: Span) -> Result<(), NoMemory>
         requires { IsSome (hold_of self.old id) }
-        ensures ok { OnOk result (Changes self.old self.new id (written span)) }
+        ensures ok { OnOk result (Changes self.old self.new id (hold_written span)) }
         ensures err { OnErr result (self.new ≡ self.old) }
     {
         let place = place_of(&self.holds, id);
@@ -181,7 +181,7 @@ impl Holds {
     /// Makes the mapped hold of an id a pin.
     pub fn pin(&mut self, id: u64, exclusive: bool)
         requires { IsSome (hold_of self.old id) }
-        ensures { Changes self.old self.new id (pinned exclusive) }
+        ensures { Changes self.old self.new id (hold_pinned exclusive) }
     {
         let place = place_of(&self.holds, id);
         self.holds[place].pin(exclusive);
@@ -189,24 +189,24 @@ impl Holds {
 
     /// The least id of a hold that shares a page with the span.
     pub fn overlapping(&self, span: Span) -> Option<u64>
-        ensures first { result ≡ first_id (overlaps span) self.now }
-        ensures least { IsLeast (overlaps span) self.now result }
+        ensures first { result ≡ first_id (hold_overlaps span) self.now }
+        ensures least { IsLeastHold (hold_overlaps span) self.now result }
     {
         first_overlapping(&self.holds, span)
     }
 
     /// The least id of a pin that forbids a pin on the span: one of the two is exclusive.
     pub fn pin_conflict(&self, span: Span, exclusive: bool) -> Option<u64>
-        ensures first { result ≡ first_id (conflicts span exclusive) self.now }
-        ensures least { IsLeast (conflicts span exclusive) self.now result }
+        ensures first { result ≡ first_id (pin_conflicts span exclusive) self.now }
+        ensures least { IsLeastHold (pin_conflicts span exclusive) self.now result }
     {
         first_conflict(&self.holds, span, exclusive)
     }
 
     /// The least id of a pin through which the page was written, with no set-dirty since.
     pub fn unstamped(&self, page: u64) -> Option<u64>
-        ensures first { result ≡ first_id (is_unstamped page) self.now }
-        ensures least { IsLeast (is_unstamped page) self.now result }
+        ensures first { result ≡ first_id (is_unstamped_through page) self.now }
+        ensures least { IsLeastHold (is_unstamped_through page) self.now result }
     {
         first_unstamped(&self.holds, page)
     }
@@ -214,7 +214,7 @@ impl Holds {
     /// The least id of a hold that ends past a size.
     pub fn ending_past(&self, size: u64) -> Option<u64>
         ensures first { result ≡ first_id (ends_past size) self.now }
-        ensures least { IsLeast (ends_past size) self.now result }
+        ensures least { IsLeastHold (ends_past size) self.now result }
     {
         first_past(&self.holds, size)
     }
@@ -222,7 +222,7 @@ impl Holds {
     /// The least id of a hold.
     pub fn first(&self) -> Option<u64>
         ensures first { result ≡ first_id (λ _. true) self.now }
-        ensures least { IsLeast (λ _. true) self.now result }
+        ensures least { IsLeastHold (λ _. true) self.now result }
     {
         first_of(&self.holds)
     }

@@ -32,7 +32,7 @@ mod reserved;
 mod rows;
 mod touched;
 
-pub use holds::{Hold, Holds};
+pub use holds::{Holds, KeptHold};
 pub use open_holds::OpenHolds;
 pub use ranges::overlaps;
 pub use touched::TouchedPages;

@@ -3,31 +3,31 @@
 ghost use Rattle.std.specs.Prelude.{◌≡◌};
 ghost use Rattle.std.specs.List.{list_any};
 ghost use Rattle.cc_entry.specs.Pages.{has_page, share_page};
-ghost use Rattle.cc_holds.specs.Holds.{range_of, conflicts, first_id};
+ghost use Rattle.cc_holds.specs.Holds.{row_range, pin_conflicts, first_id};
 ghost use Rattle.cc_holds.specs.Overlap.{ends_share_page};
 ghost use Rattle.cc_holds.specs.Looks.{keeps_page, has_bytes};
 
-use crate::Hold;
+use crate::KeptHold;
 use crate::owed::is_pin;
 use cc_entry::HoldRow;
 use cc_events::range_has;
 
 /// Whether some hold has the page.
-pub(crate) fn any_keeps_page(holds: &[Hold], page: u64) -> bool
+pub(crate) fn any_keeps_page(holds: &[KeptHold], page: u64) -> bool
     ensures { result ≡ list_any (keeps_page page) holds.now }
 {
     holds.iter().any(|hold| has_page(&hold.row, page))
 }
 
 fn has_page(row: &HoldRow, page: u64) -> bool
-    ensures { result ≡ has_page (range_of row.now) page }
+    ensures { result ≡ has_page (row_range row.now) page }
 {
     let from = u128::from(row.at);
     range_has(from, from + u128::from(row.len), u128::from(page))
 }
 
 /// The least id of a hold that has a byte.
-pub(crate) fn first_with_bytes(holds: &[Hold]) -> Option<u64>
+pub(crate) fn first_with_bytes(holds: &[KeptHold]) -> Option<u64>
     ensures { result ≡ first_id has_bytes holds.now }
 {
     holds
@@ -37,8 +37,13 @@ pub(crate) fn first_with_bytes(holds: &[Hold]) -> Option<u64>
 }
 
 /// The least id of a pin that bars a pin of the bytes from `from` up to, and without, `to`.
-pub(crate) fn first_in_the_way(holds: &[Hold], from: u128, to: u128, exclusive: bool) -> Option<u64>
-    ensures { result ≡ first_id (conflicts (record { from = from; to = to }) exclusive) holds.now }
+pub(crate) fn first_in_the_way(
+    holds: &[KeptHold],
+    from: u128,
+    to: u128,
+    exclusive: bool,
+) -> Option<u64>
+    ensures { result ≡ first_id (pin_conflicts (record { from = from; to = to }) exclusive) holds.now }
 {
     holds
         .iter()
@@ -51,7 +56,7 @@ pub(crate) fn first_in_the_way(holds: &[Hold], from: u128, to: u128, exclusive: 
 }
 
 fn shares_page(row: &HoldRow, from: u128, to: u128) -> bool
-    ensures { result ≡ share_page (range_of row.now) (record { from = from; to = to }) }
+    ensures { result ≡ share_page (row_range row.now) (record { from = from; to = to }) }
 {
     let start = u128::from(row.at);
     let end = start + u128::from(row.len);

@@ -33,9 +33,9 @@ pub struct OpenHolds {
 
 impl Model for OpenHolds {
     ghost use Rattle.std.specs.Prelude.{List};
-    ghost use Rattle.cc_holds.specs.declared.holds.Hold.{Hold};
+    ghost use Rattle.cc_holds.specs.declared.holds.KeptHold.{KeptHold};
 
-    ghost Value = { List Hold };
+    ghost Value = { List KeptHold };
 
     ghost view = { λ s. s.holds };
 }

@@ -5,12 +5,12 @@ ghost use Rattle.cc_entry.specs.Kinds.{is_pin};
 ghost use Rattle.cc_model.specs.Holds.{lesser};
 ghost use Rattle.cc_holds.specs.Looks.{with_least, with_owed};
 
-use crate::Hold;
+use crate::KeptHold;
 use cc_entry::{HoldKind, Span};
 use cc_events::span_has;
 
 /// The least page of a span to which a pin owes a stamp.
-pub(crate) fn least_owed(holds: &[Hold], span: &Option<Span>) -> Option<u64>
+pub(crate) fn least_owed(holds: &[KeptHold], span: &Option<Span>) -> Option<u64>
     ensures { result ≡ fold (with_owed span.now) None holds.now }
 {
     let mut least = None;
@@ -21,7 +21,7 @@ pub(crate) fn least_owed(holds: &[Hold], span: &Option<Span>) -> Option<u64>
 }
 
 // The lesser of a page, where there is one, and of those of a span to which a pin owes a stamp.
-fn with_owed(span: &Option<Span>, least: Option<u64>, hold: &Hold) -> Option<u64>
+fn with_owed(span: &Option<Span>, least: Option<u64>, hold: &KeptHold) -> Option<u64>
     ensures { result ≡ with_owed span.now least hold.now }
 {
     if is_pin(hold.row.kind) {

@@ -2,7 +2,7 @@
 
 ghost use Rattle.std.specs.Prelude.{◌≡◌, ◌+◌, ◌↔◌, IsTrue};
 ghost use Rattle.cc_entry.specs.Pages.{share_page};
-ghost use Rattle.cc_holds.specs.Holds.{range_of};
+ghost use Rattle.cc_holds.specs.Holds.{row_range};
 ghost use Rattle.cc_holds.specs.Overlap.{ends_share_page, HaveBytesInOnePage};
 ghost use Rattle.cc_holds.specs.Touched.{widened};
 
@@ -13,8 +13,8 @@ const PAGE_SIZE: u128 = 4096;
 
 /// Whether a hold and a span have bytes in one page.
 pub fn overlaps(row: &HoldRow, span: Span) -> bool
-    ensures value { result ≡ share_page (range_of row.now) span }
-    ensures bytes { IsTrue result ↔ HaveBytesInOnePage (range_of row.now) span }
+    ensures value { result ≡ share_page (row_range row.now) span }
+    ensures bytes { IsTrue result ↔ HaveBytesInOnePage (row_range row.now) span }
 {
     share_page(u128::from(row.at), end_of(row), span.from(), span.to())
 }

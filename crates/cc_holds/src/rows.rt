@@ -2,7 +2,7 @@
 
 ghost use Rattle.std.specs.Prelude.{◌≡◌, ◌<◌, ◌^◌, ◌&&◌, None, is_none, not};
 ghost use Rattle.cc_entry.specs.Kinds.{is_pin};
-ghost use Rattle.cc_holds.specs.Makes.{new_row, row_named, zeroed, zeroed_end};
+ghost use Rattle.cc_holds.specs.Makes.{new_row, row_named, zeroed_by_prepare, zeroed_end};
 
 use crate::owed::is_pin;
 use cc_entry::{Call, FileId, HoldKind, HoldRow, Span};

@@ -20,7 +20,7 @@ use Rattle.cc_model.specs.History.{Effect, Did, history}
 use Rattle.cc_model.specs.Images.{Transfer, open_of}
 use Rattle.cc_model.specs.Numbers.{is_among}
 use Rattle.cc_model.specs.Objects.{had_map}
-use Rattle.cc_model.specs.Residency.{is_resident, mapped_blocks}
+use Rattle.cc_model.specs.Residency.{is_resident, mapped_block_count}
 use Rattle.cc_model.specs.Settings.{quota_of}
 use Rattle.cc_model.specs.Setup.{Setup}
 use Rattle.cc_model.specs.Touches.{sizes, valid_of, is_dirty, is_mapped}
@@ -36,8 +36,8 @@ use Rattle.cc_laws.proofs.SoundFacts.{dirty_resident-good, within_quota-good}
 use Rattle.cc_laws.proofs.Steady.{IsSteady, needs_no_map}
 use Rattle.cc_laws.proofs.SteadyPasts.{IsSteady-good}
 use Rattle.cc_images.specs.Images.{Images, ImagesStand, AscendsByPage, is_first_grown}
-use Rattle.cc_images.specs.Changes.{has_page_of, with_page_of, starts, raised, lowered}
-use Rattle.cc_images.specs.Following.{makes_map, MayFollow, MayOpen}
+use Rattle.cc_images.specs.Changes.{has_page_of_bytes, with_page_of, starts, with_raised_length, lowered}
+use Rattle.cc_images.specs.Following.{makes_map, MayFollowImages, MayOpen}
 use Rattle.cc_images.proofs.LowSteps.{low-done, low-within, low-kept, low-uninitialised}
 use Rattle.cc_images.proofs.GrownPages.{grown-dirty}
 use Rattle.cc_images.proofs.FirstBytes.{same_tests, IsFirst, IsFirst-grown, grown-IsFirst, has-grown, first-fallen, fallen-first, first-kept, first-here, first-start, Risen, AsBefore, Here, Start, risen}
@@ -51,7 +51,7 @@ pub record IsDone (h : List Effect) (pass : ℕ) (call : Call) (reply : Reply) :
   pub few : dirty_count (Did pass call reply ∷ h) ≤ 64 * quota_of (Did pass call reply ∷ h)
 
 -- dirty pages are within the quota
-few-dirty : (h : List Effect) → ((p : ℕ) → is_dirty h p ≡ true → is_resident h p ≡ true) → mapped_blocks h ≤ quota_of h → dirty_count h ≤ 64 * quota_of h
+few-dirty : (h : List Effect) → ((p : ℕ) → is_dirty h p ≡ true → is_resident h p ≡ true) → mapped_block_count h ≤ quota_of h → dirty_count h ≤ 64 * quota_of h
 few-dirty h resident within = chain (is_mapped h) (dirty_count-views h resident within)
   where
     chain : (b : Bool) → dirty_count h ≤ 64 * (if b then quota_of h else 0) → dirty_count h ≤ 64 * quota_of h
@@ -227,7 +227,7 @@ module _ (h : List Effect) (pass : ℕ) (it : Call) (reply : Reply) (done : IsDo
       abbrev last : ℕ
       last = (now - 1) / 4096 + 1
 
-      with-first : (byte : ℕ) → (b : Bool) → has_page_of i.grown (was / 4096) ≡ b → is_among byte (if b then i.grown else i.grown ++ was ∷ []) ≡ true → IsFirst (low_of h (byte / 4096)) now byte
+      with-first : (byte : ℕ) → (b : Bool) → has_page_of_bytes i.grown (was / 4096) ≡ b → is_among byte (if b then i.grown else i.grown ++ was ∷ []) ≡ true → IsFirst (low_of h (byte / 4096)) now byte
       with-first byte true some among = first-kept (low_of h (byte / 4096)) was now byte rises (kept-first byte among)
       with-first byte false none among = go (is_among byte i.grown) refl (sym (among-append byte i.grown (was ∷ [])) ∙ among)
         where
@@ -240,7 +240,7 @@ module _ (h : List Effect) (pass : ℕ) (it : Call) (reply : Reply) (done : IsDo
                   none-passes : is_among n i.grown ≡ true → ⊥
                   none-passes among = cc (none, any-passes n page among)
                     where
-                      any-passes : (m : ℕ) → m / 4096 ≡ was / 4096 → is_among m i.grown ≡ true → has_page_of i.grown (was / 4096) ≡ true
+                      any-passes : (m : ℕ) → m / 4096 ≡ was / 4096 → is_among m i.grown ≡ true → has_page_of_bytes i.grown (was / 4096) ≡ true
                       any-passes m same there = any-among (λ byte. byte / 4096 == was / 4096) m i.grown there (eq-eqb _ _ same)
 
           go : (b : Bool) → is_among byte i.grown ≡ b → (b || (was == byte || false)) ≡ true → IsFirst (low_of h (byte / 4096)) now byte
@@ -251,11 +251,11 @@ module _ (h : List Effect) (pass : ℕ) (it : Call) (reply : Reply) (done : IsDo
               at true same it = subst (λ n. IsFirst (low_of h (n / 4096)) now n) (eqb-true was byte same) here
               at false other it = absurd (cc)
 
-      raised-first : (byte : ℕ) → is_among byte (raised i.grown was now) ≡ true → is_first_grown (Did pass it reply ∷ h) byte ≡ true
+      raised-first : (byte : ℕ) → is_among byte (with_raised_length i.grown was now) ≡ true → is_first_grown (Did pass it reply ∷ h) byte ≡ true
       raised-first byte among = later-first byte (go (is_among byte (with_page_of i.grown was)) refl (sym (among-append byte (with_page_of i.grown was) (starts (was / 4096 + 1) last)) ∙ among))
         where
           go : (b : Bool) → is_among byte (with_page_of i.grown was) ≡ b → (b || is_among byte (starts (was / 4096 + 1) last)) ≡ true → IsFirst (low_of h (byte / 4096)) now byte
-          go true there it = with-first byte (has_page_of i.grown (was / 4096)) refl there
+          go true there it = with-first byte (has_page_of_bytes i.grown (was / 4096)) refl there
           go false absent it =
               let k = among-range (was / 4096 + 1) (last - (was / 4096 + 1)) byte it in
               let above : was / 4096 + 1 ≤ k.page = k.above in
@@ -266,7 +266,7 @@ module _ (h : List Effect) (pass : ℕ) (it : Call) (reply : Reply) (done : IsDo
               let first = first-start (low_of h k.page) was now k.page (low-below k.page) (omega arith) start in
               subst (λ n. IsFirst (low_of h (byte / 4096)) now n) (sym k.is) (subst (λ p. IsFirst (low_of h p) now (4096 * k.page)) (sym page) first)
 
-      first-raised : (byte : ℕ) → is_first_grown (Did pass it reply ∷ h) byte ≡ true → is_among byte (raised i.grown was now) ≡ true
+      first-raised : (byte : ℕ) → is_first_grown (Did pass it reply ∷ h) byte ≡ true → is_among byte (with_raised_length i.grown was now) ≡ true
       first-raised byte is = among-append byte (with_page_of i.grown was) (starts (was / 4096 + 1) last) ∙ go (risen (low_of h (byte / 4096)) was now byte (low-below (byte / 4096)) rises first)
         where
           first : IsFirst (low_of h (byte / 4096)) now byte
@@ -277,7 +277,7 @@ module _ (h : List Effect) (pass : ℕ) (it : Call) (reply : Reply) (done : IsDo
           kept false there = among-append byte i.grown (was ∷ []) ∙ or_left _ _ there
 
           -- where the page of the place is there already, the place itself is not its first byte
-          here : byte ≡ was → (b : Bool) → has_page_of i.grown (was / 4096) ≡ b → is_among byte (if b then i.grown else i.grown ++ was ∷ []) ≡ true
+          here : byte ≡ was → (b : Bool) → has_page_of_bytes i.grown (was / 4096) ≡ b → is_among byte (if b then i.grown else i.grown ++ was ∷ []) ≡ true
           here same true some = absurd (no (any-some (λ n. n / 4096 == was / 4096) i.grown some))
             where
               no : IsPassed (λ n. n / 4096 == was / 4096) i.grown → ⊥
@@ -290,28 +290,28 @@ module _ (h : List Effect) (pass : ℕ) (it : Call) (reply : Reply) (done : IsDo
           here same false none = among-append byte i.grown (was ∷ []) ∙ or_right (is_among byte i.grown) _ (or_left _ _ (eq-eqb was byte (sym same)))
 
           go : Risen (low_of h (byte / 4096)) was now byte → (is_among byte (with_page_of i.grown was) || is_among byte (starts (was / 4096 + 1) last)) ≡ true
-          go (AsBefore was_first) = or_left _ _ (kept (has_page_of i.grown (was / 4096)) (first-kept_too byte was_first))
-          go (Here same) = or_left _ _ (here same (has_page_of i.grown (was / 4096)) refl)
+          go (AsBefore was_first) = or_left _ _ (kept (has_page_of_bytes i.grown (was / 4096)) (first-kept_too byte was_first))
+          go (Here same) = or_left _ _ (here same (has_page_of_bytes i.grown (was / 4096)) refl)
           go (Start start later) =
               let below : byte < now = first.below in
               let within : byte / 4096 ≤ (now - 1) / 4096 = omega arith in
               let among = range-among (was / 4096 + 1) (last - (was / 4096 + 1)) (byte / 4096) (omega arith) (omega arith) in
               or_right (is_among byte (with_page_of i.grown was)) _ (subst (λ n. is_among n (starts (was / 4096 + 1) last) ≡ true) (sym start) among)
 
-      in-order : AscendsByPage (raised i.grown was now)
+      in-order : AscendsByPage (with_raised_length i.grown was now)
       in-order = ascends-raised i.grown was stands.in_order (λ n among. (kept-first n among).below) last
 
       -- there is room for the pages that have grown
-      pub room-raised : length (raised i.grown was now) ≤ i.grown_room
+      pub room-raised : length (with_raised_length i.grown was now) ≤ i.grown_room
       room-raised =
-          let dirty = length-dirty (Did pass it reply ∷ h) (raised i.grown was now) in-order
+          let dirty = length-dirty (Did pass it reply ∷ h) (with_raised_length i.grown was now) in-order
           (λ n among. done.grown_is_dirty (n / 4096) (has-grown (Did pass it reply ∷ h) n (IsFirst-grown (Did pass it reply ∷ h) n (raised-first n among)))) in
           let few : dirty_count (Did pass it reply ∷ h) ≤ 64 * quota_of (Did pass it reply ∷ h) = done.few in
           let room : 64 * quota_of h ≤ i.grown_room = stands.grown_has_room in
           omega (arith, dirty, quota-done)
 
       -- it rises
-      pub stands-raised : (room : ℕ) → i.grown_room ≤ room → ImagesStand (Did pass it reply ∷ h) (record { grown = raised i.grown was now; begun = i.begun; unknown = i.unknown; grown_room = room; unknown_room = i.unknown_room })
+      pub stands-raised : (room : ℕ) → i.grown_room ≤ room → ImagesStand (Did pass it reply ∷ h) (record { grown = with_raised_length i.grown was now; begun = i.begun; unknown = i.unknown; grown_room = room; unknown_room = i.unknown_room })
       stands-raised room more = record {
         grown_are = λ byte. same_tests _ _ (raised-first byte) (first-raised byte);
         in_order = in-order;
@@ -329,11 +329,11 @@ module _ (h : List Effect) (pass : ℕ) (it : Call) (reply : Reply) (done : IsDo
           least a b c ab cb = omega arith
 
 -- a done call that makes no map, with what it may do
-module _ {u : Setup} {past : List Entry} {pass nth s : ℕ} {it : Call} {reply : Reply} {i : Images} {was now : ℕ} (may : MayFollow u past pass nth s it reply i was now) where
+module _ {u : Setup} {past : List Entry} {pass nth s : ℕ} {it : Call} {reply : Reply} {i : Images} {was now : ℕ} (may : MayFollowImages u past pass nth s it reply i was now) where
   done-may : IsDone (history past s) pass it reply
   done-may = IsDone-good u past pass nth s it reply may.good
 
-  pub room-may : was < now → length (raised i.grown was now) ≤ i.grown_room
+  pub room-may : was < now → length (with_raised_length i.grown was now) ≤ i.grown_room
   room-may rises = room-raised (history past s) pass it reply done-may may.makes_none i was now may.was_is may.now_is rises may.stands
 
   -- the bytes that are kept are below the valid data length before the call
@@ -343,7 +343,7 @@ module _ {u : Setup} {past : List Entry} {pass nth s : ℕ} {it : Call} {reply :
       less : (byte : ℕ) → IsFirst (low_of (history past s) (byte / 4096)) (valid_of (history past s)) byte → byte < was
       less byte first = let below : byte < valid_of (history past s) = first.below in omega (arith, may.was_is)
 
-  pub raised-may : was < now → (room : ℕ) → i.grown_room ≤ room → ImagesStand (Did pass it reply ∷ history past s) (record { grown = raised i.grown was now; begun = i.begun; unknown = i.unknown; grown_room = room; unknown_room = i.unknown_room })
+  pub raised-may : was < now → (room : ℕ) → i.grown_room ≤ room → ImagesStand (Did pass it reply ∷ history past s) (record { grown = with_raised_length i.grown was now; begun = i.begun; unknown = i.unknown; grown_room = room; unknown_room = i.unknown_room })
   raised-may rises = stands-raised (history past s) pass it reply done-may may.makes_none i was now may.was_is may.now_is rises may.stands
 
   pub fallen-may : now ≤ was → (begun : ℕ) → begun ≡ min i.begun now → ImagesStand (Did pass it reply ∷ history past s) (record { grown = lowered i.grown now; begun = begun; unknown = i.unknown; grown_room = i.grown_room; unknown_room = i.unknown_room })

@@ -22,8 +22,8 @@ use Rattle.cc_laws.proofs.ImageSteps.{open_of-ended, image-ended_good, image-end
 use Rattle.cc_laws.proofs.QuotaSteps.{quota_of-ended}
 use Rattle.cc_laws.proofs.SizeSteps.{sizes-ended}
 use Rattle.cc_images.specs.Images.{Images, ImagesStand, AscendsByPage, is_first_grown}
-use Rattle.cc_images.specs.Changes.{grew_past, moved_up, regrown, without_page, written, with_unknown}
-use Rattle.cc_images.specs.Following.{MayEnd}
+use Rattle.cc_images.specs.Changes.{grew_past, moved_up, regrown, without_page, with_written_page, with_unknown}
+use Rattle.cc_images.specs.Following.{MayEndTransfer}
 use Rattle.cc_images.proofs.LowSteps.{low-order, low-ended_good, low-ended_other}
 use Rattle.cc_images.proofs.GrownPages.{grown-dirty}
 use Rattle.cc_images.proofs.FirstBytes.{same_tests, IsFirst, IsFirst-grown, grown-IsFirst}
@@ -255,23 +255,23 @@ module _ (h : List Effect) (pass page : ℕ) (how : End) (i : Images) (end : IsE
           go false other =
               and_from _ _ (first-kept_too byte (from-later byte (low_of h (byte / 4096)) (low-other (byte / 4096) (flipped page (byte / 4096) ∙ other)) grown)) (ap not other)
 
-    grown-written : (valid : ℕ) → valid ≡ valid_of h → (byte : ℕ) → is_among byte (written i.grown page i.begun valid) ≡ is_first_grown (Ended pass page how ∷ h) byte
+    grown-written : (valid : ℕ) → valid ≡ valid_of h → (byte : ℕ) → is_among byte (with_written_page i.grown page i.begun valid) ≡ is_first_grown (Ended pass page how ∷ h) byte
     grown-written valid is byte =
-        ap (λ v. is_among byte (written i.grown page i.begun v)) is ∙ go (grew_past page i.begun (valid_of h)) refl
+        ap (λ v. is_among byte (with_written_page i.grown page i.begun v)) is ∙ go (grew_past page i.begun (valid_of h)) refl
       where
         go : (b : Bool) → grew_past page i.begun (valid_of h) ≡ b → is_among byte (if b then regrown i.grown page i.begun else without_page i.grown page) ≡ is_first_grown (Ended pass page how ∷ h) byte
         go true grew = same_tests _ _ (regrown-first grew byte) (first-regrown grew byte)
         go false not_grew = same_tests _ _ (without-first not_grew byte) (first-without not_grew byte)
 
-    order-written : (valid : ℕ) → valid ≡ valid_of h → AscendsByPage (written i.grown page i.begun valid)
-    order-written valid is = subst (λ v. AscendsByPage (written i.grown page i.begun v)) (sym is) (go (grew_past page i.begun (valid_of h)) refl)
+    order-written : (valid : ℕ) → valid ≡ valid_of h → AscendsByPage (with_written_page i.grown page i.begun valid)
+    order-written valid is = subst (λ v. AscendsByPage (with_written_page i.grown page i.begun v)) (sym is) (go (grew_past page i.begun (valid_of h)) refl)
       where
         go : (b : Bool) → grew_past page i.begun (valid_of h) ≡ b → AscendsByPage (if b then regrown i.grown page i.begun else without_page i.grown page)
         go true grew = ascends-map (λ n. moved_up page i.begun n) (same-page grew) i.grown stands.in_order
         go false not_grew = ascends-filter (λ n. not (n / 4096 == page)) i.grown stands.in_order
 
     -- a good end
-    pub stands-good : (valid : ℕ) → valid ≡ valid_of h → ImagesStand (Ended pass page how ∷ h) (record { grown = written i.grown page i.begun valid; begun = i.begun; unknown = without page i.unknown; grown_room = i.grown_room; unknown_room = i.unknown_room })
+    pub stands-good : (valid : ℕ) → valid ≡ valid_of h → ImagesStand (Ended pass page how ∷ h) (record { grown = with_written_page i.grown page i.begun valid; begun = i.begun; unknown = without page i.unknown; grown_room = i.grown_room; unknown_room = i.unknown_room })
     stands-good valid is = record {
       grown_are = grown-written valid is;
       in_order = order-written valid is;
@@ -300,11 +300,11 @@ module _ (h : List Effect) (pass page : ℕ) (how : End) (i : Images) (end : IsE
             ∙ (all (is_among p i.unknown) ∙ (stands.unknown_are p ∙ sym (ap not (known-other p other))))
 
 -- the end of a transfer, with what it may do
-module _ {u : Setup} {past : List Entry} {pass page s : ℕ} {how : End} {i : Images} {valid : ℕ} (may : MayEnd u past pass (record { stream = s; page = page }) how i valid) where
+module _ {u : Setup} {past : List Entry} {pass page s : ℕ} {how : End} {i : Images} {valid : ℕ} (may : MayEndTransfer u past pass (record { stream = s; page = page }) how i valid) where
   end-may : IsEnd (history past s) pass page how
   end-may = IsEnd-good u past pass (record { stream = s; page = page }) how may.good
 
-  pub good-may : ended_ok how ≡ true → ImagesStand (Ended pass page how ∷ history past s) (record { grown = written i.grown page i.begun valid; begun = i.begun; unknown = without page i.unknown; grown_room = i.grown_room; unknown_room = i.unknown_room })
+  pub good-may : ended_ok how ≡ true → ImagesStand (Ended pass page how ∷ history past s) (record { grown = with_written_page i.grown page i.begun valid; begun = i.begun; unknown = without page i.unknown; grown_room = i.grown_room; unknown_room = i.unknown_room })
   good-may good = stands-good (history past s) pass page how i end-may may.stands good valid may.valid_is
 
   pub failed-may : ended_ok how ≡ false → (room : ℕ) → ImagesStand (Ended pass page how ∷ history past s) (record { grown = i.grown; begun = i.begun; unknown = with_unknown i.unknown page; grown_room = i.grown_room; unknown_room = room })

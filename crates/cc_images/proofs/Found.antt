@@ -11,7 +11,7 @@ use Rattle.std.specs.declared.option.Option.TheVariants.{Some, None}
 use Rattle.cc_entry.specs.Place.{File, Page, Range}
 use Rattle.cc_entry.specs.declared.call.Call.TheVariants as call
 use Rattle.cc_entry.specs.declared.error.CcError.TheVariants as error
-use Rattle.cc_dirty.specs.Order.{same_page, precedes, IsAscending}
+use Rattle.cc_dirty.specs.Order.{same_page, precedes, RowsAscend}
 use Rattle.cc_dirty.specs.Table.{row_of}
 use Rattle.cc_dirty.specs.declared.row.Row.{Row}
 use Rattle.cc_model.specs.Discards.{is_known, low_of, has_grown, unsettled, grown}
@@ -76,7 +76,7 @@ apart-after a b ab ba = grind (arith, nat_tests)
 not-before : (a : Page) → precedes a a ≡ true → ⊥
 not-before a before = grind (arith, nat_tests)
 
-first-row : (test other : Row → Bool) (rows : List Row) (x y : Row) → IsAscending rows → find test rows ≡ Some x → find other rows ≡ Some y → test y ≡ true → precedes y.page x.page ≡ true → ⊥
+first-row : (test other : Row → Bool) (rows : List Row) (x y : Row) → RowsAscend rows → find test rows ≡ Some x → find other rows ≡ Some y → test y ≡ true → precedes y.page x.page ≡ true → ⊥
 first-row test other [] x y ascends found also passes before = absurd (cc)
 first-row test other (z ∷ rows) x y ascends found also passes before =
     go (test z) refl found (other z) refl also (first-row test other rows x y (tails (λ a b. precedes a.page b.page ≡ true) z rows ascends))

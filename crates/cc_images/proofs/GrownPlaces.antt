@@ -6,7 +6,7 @@ use Rattle.std.proofs.lemmas.List.{get_or_default}
 use Rattle.std.specs.List.{AllByRecursion, All}
 use Rattle.std.specs.List.Sorted.{IsNonDecreasingBy, IsPartitionPoint}
 use Rattle.cc_images.specs.Images.{AscendsByPage}
-use Rattle.cc_images.specs.Changes.{IsByteOf, grew_past, regrown, without_page, written}
+use Rattle.cc_images.specs.Changes.{IsByteOfPage, grew_past, regrown, without_page, with_written_page}
 
 all-at : {X : Type 0} (P : X → Type 0) (xs : List X) → AllByRecursion P xs → (k : ℕ) (d : X) → k < length xs → P (get_or xs k d)
 all-at P [] all k d lt = absurd (omega arith)
@@ -45,7 +45,7 @@ others-kept (x ∷ xs) page others =
     let here : (x / 4096 == page) ≡ false = others 0 x (omega arith) in
     rw here (ap (λ ys. x ∷ ys) (others-kept xs page (λ k d lt. others (suc k) d (omega arith))))
 
-pub others-written : (bytes : List ℕ) (page low valid : ℕ) → All (λ byte. (byte / 4096 == page) ≡ false) bytes → bytes ≡ written bytes page low valid
+pub others-written : (bytes : List ℕ) (page low valid : ℕ) → All (λ byte. (byte / 4096 == page) ≡ false) bytes → bytes ≡ with_written_page bytes page low valid
 others-written bytes page low valid others = go (grew_past page low valid)
   where
     go : (b : Bool) → bytes ≡ (if b then regrown bytes page low else without_page bytes page)
@@ -56,7 +56,7 @@ others-written bytes page low valid others = go (grew_past page low valid)
 later-others : (x : ℕ) (xs : List ℕ) (page : ℕ) → AllByRecursion (λ later. x / 4096 < later / 4096) xs → (x / 4096 == page) ≡ true → All (λ byte. (byte / 4096 == page) ≡ false) xs
 later-others x xs page later is k d lt = differs-later (get_or xs k d / 4096) (x / 4096) page (all-at (λ later. x / 4096 < later / 4096) xs later k d lt) is
 
-pub regrown-at : (bytes : List ℕ) (page low place : ℕ) → AscendsByPage bytes → IsByteOf bytes page place → set bytes place (max (get_or bytes place 0) low) ≡ regrown bytes page low
+pub regrown-at : (bytes : List ℕ) (page low place : ℕ) → AscendsByPage bytes → IsByteOfPage bytes page place → set bytes place (max (get_or bytes place 0) low) ≡ regrown bytes page low
 regrown-at [] page low place order at = absurd (omega (arith, at.0))
 regrown-at (x ∷ xs) page low zero order at =
     let here : (x / 4096 == page) ≡ true = at.1 in
@@ -66,7 +66,7 @@ regrown-at (x ∷ xs) page low (suc place) order at =
     let here : (x / 4096 == page) ≡ false = differs-earlier (x / 4096) (get_or xs place 0 / 4096) page (all-at (λ later. x / 4096 < later / 4096) xs order.0 place 0 within) at.1 in
     rw here (ap (λ ys. x ∷ ys) (regrown-at xs page low place order.1 (within, at.1)))
 
-pub removed-at : (bytes : List ℕ) (page place : ℕ) → AscendsByPage bytes → IsByteOf bytes page place → remove bytes place ≡ without_page bytes page
+pub removed-at : (bytes : List ℕ) (page place : ℕ) → AscendsByPage bytes → IsByteOfPage bytes page place → remove bytes place ≡ without_page bytes page
 removed-at [] page place order at = absurd (omega (arith, at.0))
 removed-at (x ∷ xs) page zero order at =
     let here : (x / 4096 == page) ≡ true = at.1 in

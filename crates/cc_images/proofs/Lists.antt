@@ -17,7 +17,7 @@ use Rattle.cc_model.specs.Touches.{is_dirty, dirty_pages}
 use Rattle.cc_laws.proofs.BlockPages.{Rises, IsDistinct-rises, is_member-among}
 use Rattle.cc_laws.proofs.DirtyAmong.{dirty-among}
 use Rattle.cc_images.specs.Images.{AscendsByPage}
-use Rattle.cc_images.specs.Changes.{has_page_of, with_page_of, starts}
+use Rattle.cc_images.specs.Changes.{has_page_of_bytes, with_page_of, starts}
 
 -- one page more
 pub starts-more : (bytes : List ℕ) (from to : ℕ) → from ≤ to → (bytes ++ starts from to) ++ 4096 * to ∷ [] ≡ bytes ++ starts from (to + 1)
@@ -192,7 +192,7 @@ length-dirty h ns ascends each =
 
 -- the order after the valid data length rose: the page of the place up to which it was valid comes last
 module _ (ns : List ℕ) (was : ℕ) (ascends : AscendsByPage ns) (below : (n : ℕ) → is_among n ns ≡ true → n < was) where
-  apart : has_page_of ns (was / 4096) ≡ false → (n : ℕ) → is_among n ns ≡ true → n / 4096 < was / 4096
+  apart : has_page_of_bytes ns (was / 4096) ≡ false → (n : ℕ) → is_among n ns ≡ true → n / 4096 < was / 4096
   apart none n among = go (n / 4096 == was / 4096) refl
     where
       less : (a b : ℕ) → a ≤ b → (a == b) ≡ false → a < b
@@ -203,14 +203,14 @@ module _ (ns : List ℕ) (was : ℕ) (ascends : AscendsByPage ns) (below : (n : 
       go false other = let under : n < was = below n among in less (n / 4096) (was / 4096) (omega arith) other
 
   ascends-with : AscendsByPage (with_page_of ns was)
-  ascends-with = go (has_page_of ns (was / 4096)) refl
+  ascends-with = go (has_page_of_bytes ns (was / 4096)) refl
     where
-      go : (b : Bool) → has_page_of ns (was / 4096) ≡ b → AscendsByPage (if b then ns else ns ++ was ∷ [])
+      go : (b : Bool) → has_page_of_bytes ns (was / 4096) ≡ b → AscendsByPage (if b then ns else ns ++ was ∷ [])
       go true some = ascends
       go false none = ascends-push ns was ascends (all-among (λ m. m / 4096 < was / 4096) ns (apart none))
 
   all-with : AllByRecursion (λ m. m / 4096 < was / 4096 + 1) (with_page_of ns was)
-  all-with = go (has_page_of ns (was / 4096))
+  all-with = go (has_page_of_bytes ns (was / 4096))
     where
       each : AllByRecursion (λ m. m / 4096 < was / 4096 + 1) ns
       each = all-among (λ m. m / 4096 < was / 4096 + 1) ns (λ n among. let under : n < was = below n among in omega arith)
@@ -223,7 +223,7 @@ module _ (ns : List ℕ) (was : ℕ) (ascends : AscendsByPage ns) (below : (n : 
   ascends-raised to = ascends-range (with_page_of ns was) (was / 4096 + 1) (to - (was / 4096 + 1)) ascends-with all-with
 
 -- the last byte alone may be of the page of one past all of them
-pub last-page : (ns : List ℕ) (byte last : ℕ) → slice_get ns (length ns - 1) ≡ Some last → AscendsByPage ns → AllByRecursion (λ n. n < byte) ns → (last / 4096 == byte / 4096) ≡ has_page_of ns (byte / 4096)
+pub last-page : (ns : List ℕ) (byte last : ℕ) → slice_get ns (length ns - 1) ≡ Some last → AscendsByPage ns → AllByRecursion (λ n. n < byte) ns → (last / 4096 == byte / 4096) ≡ has_page_of_bytes ns (byte / 4096)
 last-page [] byte last at ascends below = absurd (cc)
 last-page (n ∷ []) byte last at ascends below = let same : n ≡ last = cc in alone (last / 4096 == byte / 4096) (n / 4096 == byte / 4096) (ap (λ m. m / 4096 == byte / 4096) (sym same))
   where
@@ -237,4 +237,4 @@ last-page (n ∷ m ∷ ns) byte last at ascends below =
     let more : suc (suc (length ns)) - 1 ≡ suc (length ns) = omega arith in
     let less : suc (length ns) - 1 ≡ length ns = omega arith in
     let there : slice_get (m ∷ ns) (length ns) ≡ Some last = subst (λ k. slice_get (n ∷ m ∷ ns) k ≡ Some last) more at in
-    last-page (m ∷ ns) byte last (ap (slice_get (m ∷ ns)) less ∙ there) ascends.1 below.1 ∙ sym (ap (λ b. b || has_page_of (m ∷ ns) (byte / 4096)) apart)
+    last-page (m ∷ ns) byte last (ap (slice_get (m ∷ ns)) less ∙ there) ascends.1 below.1 ∙ sym (ap (λ b. b || has_page_of_bytes (m ∷ ns) (byte / 4096)) apart)

@@ -22,7 +22,7 @@ makes_map h other = false
 
 -- A call of a stream that makes no map may be followed: the journal with it is good so far, the images stand
 -- for the stream before it, and so do the valid data lengths before and after it.
-pub record MayFollow (u : Setup) (past : List Entry) (pass nth s : ℕ) (call : Call) (reply : Reply)
+pub record MayFollowImages (u : Setup) (past : List Entry) (pass nth s : ℕ) (call : Call) (reply : Reply)
     (i : Images) (was now : ℕ) : Type 0 where
   pub good : IsGoodSoFar u (entry.Call pass nth (Some s) call (outcome.Done reply) ∷ past)
   pub stands : ImagesStand (history past s) i
@@ -31,7 +31,7 @@ pub record MayFollow (u : Setup) (past : List Entry) (pass nth s : ℕ) (call : 
   pub now_is : now ≡ valid_of (Did pass call reply ∷ history past s)
 
 -- there is a journal at whose end such a call may be followed
-pub record IsFollowing (i : Images) (was now : ℕ) : Type 0 where
+pub record IsFollowingImages (i : Images) (was now : ℕ) : Type 0 where
   pub u : Setup
   pub past : List Entry
   pub pass : ℕ
@@ -39,7 +39,7 @@ pub record IsFollowing (i : Images) (was now : ℕ) : Type 0 where
   pub s : ℕ
   pub call : Call
   pub reply : Reply
-  pub may : MayFollow u past pass nth s call reply i was now
+  pub may : MayFollowImages u past pass nth s call reply i was now
 
 -- an initialise that makes the map of a stream may be followed
 pub record MayOpen (u : Setup) (past : List Entry) (pass nth s : ℕ) (file : File) (sizes : FileSizes)
@@ -50,7 +50,7 @@ pub record MayOpen (u : Setup) (past : List Entry) (pass nth s : ℕ) (file : Fi
   pub unmapped : is_mapped (history past s) ≡ false
 
 -- the end of a page's transfer may be followed, at this valid data length
-pub record MayEnd (u : Setup) (past : List Entry) (pass : ℕ) (page : Page) (how : End) (i : Images)
+pub record MayEndTransfer (u : Setup) (past : List Entry) (pass : ℕ) (page : Page) (how : End) (i : Images)
     (valid : ℕ) : Type 0 where
   pub good : IsGoodSoFar u (entry.WriteEnd pass page how ∷ past)
   pub stands : ImagesStand (history past page.stream) i
@@ -62,4 +62,4 @@ pub record IsEnding (page : ℕ) (how : End) (i : Images) (valid : ℕ) : Type 0
   pub past : List Entry
   pub pass : ℕ
   pub s : ℕ
-  pub may : MayEnd u past pass (record { stream = s; page = page }) how i valid
+  pub may : MayEndTransfer u past pass (record { stream = s; page = page }) how i valid

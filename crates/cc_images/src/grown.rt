@@ -7,7 +7,7 @@ ghost use Rattle.std.specs.Option.{option_map};
 ghost use Rattle.std.specs.VecDeque.{deque_capacity};
 ghost use Rattle.cc_model.specs.Ranges.{span_has};
 ghost use Rattle.cc_images.specs.Images.{AscendsByPage};
-ghost use Rattle.cc_images.specs.Changes.{has_page_of, with_page_of, starts, raised, lowered, grew_past, IsByteOf, written};
+ghost use Rattle.cc_images.specs.Changes.{has_page_of_bytes, with_page_of, starts, with_raised_length, lowered, grew_past, IsByteOfPage, with_written_page};
 
 use cc_entry::Span;
 use cc_events::span_has;
@@ -19,8 +19,8 @@ pub(crate) fn raise(bytes: &mut VecDeque<u64>, was: u64, now: u64)
     requires rises { was < now }
     requires in_order { AscendsByPage bytes.old.items }
     requires below { AllByRecursion (λ byte. byte < was) bytes.old.items }
-    requires room { length (raised bytes.old.items was now) ≤ deque_capacity bytes.old }
-    ensures bytes { bytes.new.items ≡ raised bytes.old.items was now }
+    requires room { length (with_raised_length bytes.old.items was now) ≤ deque_capacity bytes.old }
+    ensures bytes { bytes.new.items ≡ with_raised_length bytes.old.items was now }
     ensures capacity { deque_capacity bytes.old ≤ deque_capacity bytes.new }
 {
     push_first(bytes, was);
@@ -44,7 +44,7 @@ fn push_first(bytes: &mut VecDeque<u64>, byte: u64)
 fn ends_with_page_of(bytes: &VecDeque<u64>, byte: u64) -> bool
     requires in_order { AscendsByPage bytes.now.items }
     requires below { AllByRecursion (λ other. other < byte) bytes.now.items }
-    ensures { result ≡ has_page_of bytes.now.items (byte / 4096) }
+    ensures { result ≡ has_page_of_bytes bytes.now.items (byte / 4096) }
 {
     match bytes.back() {
         Some(last) => *last / 4096 == byte / 4096,
@@ -76,7 +76,7 @@ pub(crate) fn lower(bytes: &mut VecDeque<u64>, now: u64)
 /// The disk took a page; `low` is the least valid data length since its transfer began.
 pub(crate) fn write(bytes: &mut VecDeque<u64>, page: u64, low: u64, valid: u64)
     requires { AscendsByPage bytes.old.items }
-    ensures bytes { bytes.new.items ≡ written bytes.old.items page low valid }
+    ensures bytes { bytes.new.items ≡ with_written_page bytes.old.items page low valid }
     ensures capacity { deque_capacity bytes.new ≡ deque_capacity bytes.old }
 {
     match place_of(bytes, page) {
@@ -88,7 +88,7 @@ pub(crate) fn write(bytes: &mut VecDeque<u64>, page: u64, low: u64, valid: u64)
 // Where the byte of a page stands, by binary search.
 fn place_of(bytes: &VecDeque<u64>, page: u64) -> Option<usize>
     requires { AscendsByPage bytes.now.items }
-    ensures some { IfSome result (λ place. IsByteOf bytes.now.items page place) }
+    ensures some { IfSome result (λ place. IsByteOfPage bytes.now.items page place) }
     ensures none { result ≡ None → All (λ byte. (byte / 4096 == page) ≡ false) bytes.now.items }
 {
     let place = bytes.partition_point(|byte| *byte / 4096 < page);
@@ -106,8 +106,8 @@ fn place_of(bytes: &VecDeque<u64>, page: u64) -> Option<usize>
 // The disk took the page whose byte stands at a place.
 fn write_at(bytes: &mut VecDeque<u64>, place: usize, page: u64, low: u64, valid: u64)
     requires in_order { AscendsByPage bytes.old.items }
-    requires place { IsByteOf bytes.old.items page place }
-    ensures bytes { bytes.new.items ≡ written bytes.old.items page low valid }
+    requires place { IsByteOfPage bytes.old.items page place }
+    ensures bytes { bytes.new.items ≡ with_written_page bytes.old.items page low valid }
     ensures capacity { deque_capacity bytes.new ≡ deque_capacity bytes.old }
 {
     if grew_past(page, low, valid) {

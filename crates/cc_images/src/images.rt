@@ -15,7 +15,7 @@ ghost use Rattle.cc_model.specs.Setup.{Setup};
 ghost use Rattle.cc_model.specs.Touches.{valid_of, dirty_pages};
 ghost use Rattle.cc_images.specs.Begins.{HasRoomToBegin};
 ghost use Rattle.cc_images.specs.Images.{ImagesStand};
-ghost use Rattle.cc_images.specs.Following.{MayFollow, IsFollowing, MayOpen, MayEnd, IsEnding};
+ghost use Rattle.cc_images.specs.Following.{MayFollowImages, IsFollowingImages, MayOpen, MayEndTransfer, IsEnding};
 ghost use Rattle.cc_images.specs.Dirty.{AreDirty};
 
 use crate::room::Room;
@@ -82,10 +82,10 @@ impl Images {
 
     /// Follows any other call that was done, given the valid data lengths before and after it. It takes no memory.
     pub fn done(&mut self, was: u64, now: u64)
-        requires may { IsFollowing self.old was now }
+        requires may { IsFollowingImages self.old was now }
         ensures room { HasRoomToBegin self.old → HasRoomToBegin self.new }
         ensures stands { (u : Setup) (past : List Entry) (pass nth s : ℕ) (call : Call) (reply : Reply) →
-            MayFollow u past pass nth s call reply self.old was now →
+            MayFollowImages u past pass nth s call reply self.old was now →
             ImagesStand (Did pass call reply ∷ history past s) self.new }
     {
         if was < now {
@@ -132,7 +132,7 @@ impl Images {
     pub fn ended(&mut self, page: u64, how: End, valid: u64)
         requires may { IsEnding page how self.old valid }
         ensures { (u : Setup) (past : List Entry) (pass s : ℕ) →
-            MayEnd u past pass (record { stream = s; page = page }) how self.old valid →
+            MayEndTransfer u past pass (record { stream = s; page = page }) how self.old valid →
             ImagesStand (Ended pass page how ∷ history past s) self.new }
     {
         match how {

@@ -9,7 +9,7 @@ use Rattle.cc_entry.specs.declared.entry.Entry.TheVariants as entry
 use Rattle.cc_entry.specs.declared.reply.Outcome.{Outcome}
 use Rattle.cc_model.specs.Passes.{calls_of, is_call_of, is_store, up_to_call}
 use Rattle.cc_laws.proofs.PassSteps.{calls_of-call, calls_of-other, up_to_call-call, up_to_call-other}
-use Rattle.cc_journal.specs.Calls.{CountsCalls, count_in, counted, ends_in_store, owes_in, owes_store, owing}
+use Rattle.cc_journal.specs.Calls.{CountsCalls, call_count_in, call_count, ends_in_store, owes_in, owes_store, owing}
 use Rattle.cc_journal.specs.declared.calls.PassCalls.{PassCalls}
 
 -- no call has ended in an empty past
@@ -19,7 +19,7 @@ counts_none counts is = record { count = λ pass. rw is refl; owes = λ pass. rw
 
 -- the count of the pass of a call after it, and what it owes then
 abbrev pub after_call : List (ℕ × PassCalls) → ℕ → Bool → PassCalls
-after_call old pass stores = record { count = count_in old pass + 1; owes = stores }
+after_call old pass stores = record { count = call_count_in old pass + 1; owes = stores }
 
 -- what is kept of a pass after a call of one
 abbrev pub IsKept : List (ℕ × PassCalls) → List (ℕ × PassCalls) → ℕ → Bool → Type 0
@@ -33,11 +33,11 @@ counts_call old new pass nth stream call ended past is stood = record { count = 
     kept : (q : ℕ) (b : Bool) → nat_eq pass q ≡ b → lookup (nat_eq q) new ≡ cond b (Some (after_call old pass (is_store call ended))) (lookup (nat_eq q) old)
     kept q b same = is q ∙ ap (λ (b : Bool). cond b (Some (after_call old pass (is_store call ended))) (lookup (nat_eq q) old)) same
 
-    go : (q : ℕ) (b : Bool) → nat_eq pass q ≡ b → count_in new q ≡ calls_of (entry.Call pass nth stream call ended ∷ past) q
+    go : (q : ℕ) (b : Bool) → nat_eq pass q ≡ b → call_count_in new q ≡ calls_of (entry.Call pass nth stream call ended ∷ past) q
     go q true same =
-        ap counted (kept q true same)
+        ap call_count (kept q true same)
         ∙ (omega (arith, stood.count pass) ∙ (ap (λ (n : ℕ). suc (calls_of past n)) (eqb-true pass q same) ∙ sym (calls_of-call pass nth stream call ended past q same)))
-    go q false other = ap counted (kept q false other) ∙ (stood.count q ∙ sym (calls_of-other (entry.Call pass nth stream call ended) past q other))
+    go q false other = ap call_count (kept q false other) ∙ (stood.count q ∙ sym (calls_of-other (entry.Call pass nth stream call ended) past q other))
 
     owe : (q : ℕ) (b : Bool) → nat_eq pass q ≡ b → owes_in new q ≡ owes_store (entry.Call pass nth stream call ended ∷ past) q
     owe q true same = ap owing (kept q true same) ∙ sym (ap ends_in_store (up_to_call-call pass nth stream call ended past q same))

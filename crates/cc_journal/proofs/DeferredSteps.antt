@@ -11,7 +11,7 @@ use Rattle.cc_entry.specs.declared.entry.Entry.TheVariants as entry
 use Rattle.cc_entry.specs.declared.hold.Deferral.{Deferral}
 use Rattle.cc_model.specs.Throttle.{queue, deferred}
 use Rattle.cc_laws.proofs.QueueSteps.{queue-deferred, queue-retried, queue-posted, queue-other, deferred-deferred, deferred-other, is_defer, is_defer_or_post}
-use Rattle.cc_journal.specs.Queue.{with_routines, SameIds, deferrals_of, routines_of, QueueStands, AllUnposted}
+use Rattle.cc_journal.specs.Queue.{with_routines, SameIds, deferrals_of_writes, routines_of, QueueStands, AllUnposted}
 
 -- as many routines as writes
 pub same_length : {Q : Type 0} (deferrals : List Deferral) (routines : List (ℕ × Q))
@@ -116,11 +116,11 @@ pub stands_defer : {Q : Type 0} (old new : List (Deferral × Q)) (count count' :
     → QueueStands past old count
     → QueueStands (entry.Defer pass d.id d.file d.pages retrying ∷ past) new (count' + 1)
 stands_defer old new count count' d routine true past pass kept is stood = (
-  ap deferrals_of is ∙ (ap (λ (l : List Deferral). d ∷ l) stood.0 ∙ sym (queue-retried pass d.id d.file d.pages past)),
+  ap deferrals_of_writes is ∙ (ap (λ (l : List Deferral). d ∷ l) stood.0 ∙ sym (queue-retried pass d.id d.file d.pages past)),
   omega (arith, kept, stood.1, deferred-deferred pass d.id d.file d.pages true past),
 )
 stands_defer old new count count' d routine false past pass kept is stood = (
-  ap deferrals_of is
+  ap deferrals_of_writes is
       ∙ (map-append (λ w. w.0) old ((d, routine) ∷ [])
       ∙ (ap (λ (l : List Deferral). l ++ d ∷ []) stood.0
       ∙ sym (queue-deferred pass d.id d.file d.pages past))),
@@ -132,7 +132,7 @@ pub stands_post : {Q : Type 0} (old new : List (Deferral × Q)) (count count' id
     → new ≡ drop 1 old → count' ≡ count → QueueStands past old count
     → QueueStands (entry.Posted id ∷ past) new count'
 stands_post old new count count' id past is kept stood = (
-  ap deferrals_of is ∙ (map_drop (λ w. w.0) old ∙ (ap (drop 1) stood.0 ∙ sym (queue-posted id past))),
+  ap deferrals_of_writes is ∙ (map_drop (λ w. w.0) old ∙ (ap (drop 1) stood.0 ∙ sym (queue-posted id past))),
   kept ∙ (stood.1 ∙ sym (deferred-other (entry.Posted id) past refl)),
 )
 
@@ -142,7 +142,7 @@ pub stands_length : {Q : Type 0} (writes : List (Deferral × Q)) (count : ℕ) (
 stands_length writes count past stood = sym (length-map writes (λ w. w.0)) ∙ ap length stood.0
 
 head_id : {Q : Type 0} (writes : List (Deferral × Q))
-    → option_map (λ d. d.id) (slice_get (deferrals_of writes) 0) ≡ option_map (λ w. w.0.id) (slice_get writes 0)
+    → option_map (λ d. d.id) (slice_get (deferrals_of_writes writes) 0) ≡ option_map (λ w. w.0.id) (slice_get writes 0)
 head_id [] = refl
 head_id (w ∷ writes) = refl
 
@@ -185,3 +185,8 @@ pub unposted_head : {Q : Type 0} (posted : Q → Bool) (writes : List (Deferral 
     → AllUnposted posted writes → ForSome (slice_get writes 0) (λ w. posted w.1 ≡ false)
 unposted_head posted [] all w is = absurd (cc)
 unposted_head posted (v ∷ writes) all w is = let same : v ≡ w = cc in rw (← same) (all 0 v (omega arith))
+
+-- the routines that wait have the ids of their writes
+pub ids_same : {Q : Type 0} (writes : List (Deferral × Q)) → map (λ (w : ℕ × Q). w.0) (routines_of writes) ≡ map (λ (d : Deferral). d.id) (deferrals_of_writes writes)
+ids_same [] = refl
+ids_same (w ∷ writes) = ap (λ ids. w.0.id ∷ ids) (ids_same writes)

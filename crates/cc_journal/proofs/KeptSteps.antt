@@ -14,8 +14,8 @@ use Rattle.cc_model.specs.Throttle.{may_go, queue, deferred}
 use Rattle.cc_stream.specs.Stream.{Stream}
 use Rattle.cc_journal.specs.Calls.{CountsCalls}
 use Rattle.cc_journal.specs.declared.calls.PassCalls.{PassCalls}
-use Rattle.cc_journal.specs.Kept.{Kept, HasMemory}
-use Rattle.cc_journal.specs.Places.{Places}
+use Rattle.cc_journal.specs.Kept.{KeptStands, HasMemory}
+use Rattle.cc_journal.specs.Places.{HeldPlaces}
 use Rattle.cc_journal.specs.Queue.{Waiting, QueueStands}
 use Rattle.cc_journal.specs.Scans.{ScansStand}
 use Rattle.cc_journal.specs.Streams.{StreamsStand, leaves_streams}
@@ -28,7 +28,7 @@ use Rattle.cc_journal.proofs.DeferredSteps.{queue_stands_other}
 use Rattle.cc_journal.proofs.StreamsSteps.{total_by, stands_left}
 
 -- an empty journal
-pub kept_none : {Q : Type 0} (states : List Stream) (places : Places) (table : Table) (counts : List (ℕ × PassCalls)) (waiting : Waiting Q) (total : ℕ) (last : Option Page) → StreamsStand [] states places table.rows → CountsCalls [] counts → QueueStands [] waiting.writes waiting.count → ScansStand [] total last → table.rows ≡ [] → 16384 ≤ table.capacity → waiting.writes ≡ [] → Kept [] states places table counts 0 waiting total last
+pub kept_none : {Q : Type 0} (states : List Stream) (places : HeldPlaces) (table : Table) (counts : List (ℕ × PassCalls)) (waiting : Waiting Q) (total : ℕ) (last : Option Page) → StreamsStand [] states places table.rows → CountsCalls [] counts → QueueStands [] waiting.writes waiting.count → ScansStand [] total last → table.rows ≡ [] → 16384 ≤ table.capacity → waiting.writes ≡ [] → KeptStands [] states places table counts 0 waiting total last
 unfolding holds_made
 kept_none states places table counts waiting total last streams calls queue scans empty capacity none = record {
   streams = streams;
@@ -45,11 +45,11 @@ pub memory_none : (capacity entry_room place_room count_room : ℕ) → capacity
 memory_none capacity entry_room place_room count_room limit = record { within = omega arith; countable = limit; for_entries = omega arith; for_places = omega arith; for_counts = omega arith }
 
 -- an entry was placed on a reserved place
-pub memory_placed : (capacity len now_len reserved room now_room places counts : ℕ) → 0 < reserved → now_len ≡ len + 1 → now_room ≡ room → HasMemory capacity len reserved (room - len) places counts → HasMemory capacity now_len (reserved - 1) (now_room - now_len) places counts
+pub memory_placed : (capacity len now_len reserved room now_room places counts : ℕ) → 0 < reserved → now_len ≡ suc len → now_room ≡ room - 1 → HasMemory capacity len reserved room places counts → HasMemory capacity now_len (reserved - 1) now_room places counts
 memory_placed capacity len now_len reserved room now_room places counts some longer same memory = record {
   within = omega (arith, memory.within, some, longer);
   countable = memory.countable;
-  for_entries = omega (arith, memory.for_entries, longer, same);
+  for_entries = omega (arith, memory.for_entries, same);
   for_places = omega (arith, memory.for_places);
   for_counts = omega (arith, memory.for_counts);
 }
@@ -91,7 +91,7 @@ unfolding may_go
 may_go_by u past s n own total count threshold is_own is_total is_count is = rw (is_own, is_total, is_count, is) refl
 
 -- an entry that is no deferral and no post
-pub kept_push : {Q : Type 0} (e : Entry) (past : List Entry) (states now_states : List Stream) (places now_places : Places) (table now_table : Table) (counts now_counts : List (ℕ × PassCalls)) (holds made : ℕ) (waiting : Waiting Q) (total now_total : ℕ) (last now_last : Option Page) → Kept past states places table counts holds waiting total last → is_defer_or_post e ≡ false → dirty_total (e ∷ past) ≤ 16384 → StreamsStand (e ∷ past) now_states now_places now_table.rows → Sound now_table.rows → now_table.capacity ≡ table.capacity → CountsCalls (e ∷ past) now_counts → made ≡ holds_made_by e → ScansStand (e ∷ past) now_total now_last → Kept (e ∷ past) now_states now_places now_table now_counts (holds + made) waiting now_total now_last
+pub kept_push : {Q : Type 0} (e : Entry) (past : List Entry) (states now_states : List Stream) (places now_places : HeldPlaces) (table now_table : Table) (counts now_counts : List (ℕ × PassCalls)) (holds made : ℕ) (waiting : Waiting Q) (total now_total : ℕ) (last now_last : Option Page) → KeptStands past states places table counts holds waiting total last → is_defer_or_post e ≡ false → dirty_total (e ∷ past) ≤ 16384 → StreamsStand (e ∷ past) now_states now_places now_table.rows → Sound now_table.rows → now_table.capacity ≡ table.capacity → CountsCalls (e ∷ past) now_counts → made ≡ holds_made_by e → ScansStand (e ∷ past) now_total now_last → KeptStands (e ∷ past) now_states now_places now_table now_counts (holds + made) waiting now_total now_last
 unfolding holds_made
 kept_push e past states now_states places now_places table now_table counts now_counts holds made waiting total now_total last now_last kept kind few streams sound capacity calls is scans = record {
   streams = streams;
@@ -105,7 +105,7 @@ kept_push e past states now_states places now_places table now_table counts now_
 }
 
 -- an entry that changes the queue alone
-pub kept_queue : {Q : Type 0} (e : Entry) (past : List Entry) (states : List Stream) (places : Places) (table : Table) (counts : List (ℕ × PassCalls)) (holds : ℕ) (waiting now_waiting : Waiting Q) (total : ℕ) (last : Option Page) → Kept past states places table counts holds waiting total last → leaves_streams e ≡ true → ((me : ℕ) → is_call_of me e ≡ false) → holds_made_by e ≡ 0 → is_scan e ≡ false → QueueStands (e ∷ past) now_waiting.writes now_waiting.count → length now_waiting.writes ≤ 64 → Kept (e ∷ past) states places table counts holds now_waiting total last
+pub kept_queue : {Q : Type 0} (e : Entry) (past : List Entry) (states : List Stream) (places : HeldPlaces) (table : Table) (counts : List (ℕ × PassCalls)) (holds : ℕ) (waiting now_waiting : Waiting Q) (total : ℕ) (last : Option Page) → KeptStands past states places table counts holds waiting total last → leaves_streams e ≡ true → ((me : ℕ) → is_call_of me e ≡ false) → holds_made_by e ≡ 0 → is_scan e ≡ false → QueueStands (e ∷ past) now_waiting.writes now_waiting.count → length now_waiting.writes ≤ 64 → KeptStands (e ∷ past) states places table counts holds now_waiting total last
 unfolding holds_made
 kept_queue e past states places table counts holds waiting now_waiting total last kept left no_call none no_scan queue short = record {
   streams = stands_left e past states places table.rows left kept.streams;
@@ -119,7 +119,7 @@ kept_queue e past states places table counts holds waiting now_waiting total las
 }
 
 -- an entry that changes nothing of it
-pub kept_other : {Q : Type 0} (e : Entry) (past : List Entry) (states : List Stream) (places : Places) (table : Table) (counts : List (ℕ × PassCalls)) (holds : ℕ) (waiting : Waiting Q) (total : ℕ) (last : Option Page) → Kept past states places table counts holds waiting total last → leaves_streams e ≡ true → ((me : ℕ) → is_call_of me e ≡ false) → holds_made_by e ≡ 0 → is_scan e ≡ false → is_defer_or_post e ≡ false → Kept (e ∷ past) states places table counts holds waiting total last
+pub kept_other : {Q : Type 0} (e : Entry) (past : List Entry) (states : List Stream) (places : HeldPlaces) (table : Table) (counts : List (ℕ × PassCalls)) (holds : ℕ) (waiting : Waiting Q) (total : ℕ) (last : Option Page) → KeptStands past states places table counts holds waiting total last → leaves_streams e ≡ true → ((me : ℕ) → is_call_of me e ≡ false) → holds_made_by e ≡ 0 → is_scan e ≡ false → is_defer_or_post e ≡ false → KeptStands (e ∷ past) states places table counts holds waiting total last
 kept_other e past states places table counts holds waiting total last kept left no_call none no_scan no_wait =
     kept_queue e past states places table counts holds waiting waiting total last kept left no_call none no_scan (queue_stands_other waiting.writes waiting.count e past no_wait kept.queue) kept.short
 

@@ -11,12 +11,12 @@ use Rattle.cc_entry.specs.declared.entry.Entry.{Entry}
 use Rattle.cc_entry.specs.declared.place.DirtyRow.{DirtyRow}
 use Rattle.cc_dirty.specs.declared.row.Row.{Row}
 use Rattle.cc_dirty.specs.Order.{precedes}
-use Rattle.cc_dirty.specs.Table.{is_of, Sound}
+use Rattle.cc_dirty.specs.Table.{is_row_of_stream, Sound}
 use Rattle.cc_journal.specs.Rows.{Follows}
 use Rattle.cc_model.specs.History.{Effect, history}
 use Rattle.cc_model.specs.Touches.{dirty_pages}
 use Rattle.cc_model.specs.Settings.{log_of}
-use Rattle.cc_model.specs.Stamps.{row_of, rows_of, is_log, dirty_table}
+use Rattle.cc_model.specs.Stamps.{dirty_row_of, dirty_rows_of, is_log, dirty_table}
 use Rattle.cc_journal.specs.Stamped.{lsns_in, answer_for, answer_in}
 use Rattle.cc_journal.proofs.RowLsns.{of_page, of_row, Ordered, ordered, rows-are}
 
@@ -24,14 +24,14 @@ use Rattle.cc_journal.proofs.RowLsns.{of_page, of_row, Ordered, ordered, rows-ar
 from_stream : (a b : Page) → precedes a b ≡ true → a.stream ≤ b.stream
 from_stream a b before = grind (arith, nat_tests)
 
-none-below : (s : ℕ) (r : Row) (rows : List Row) → s < r.page.stream → AllByRecursion (λ b. precedes r.page b.page ≡ true) rows → filter (is_of s) rows ≡ []
+none-below : (s : ℕ) (r : Row) (rows : List Row) → s < r.page.stream → AllByRecursion (λ b. precedes r.page b.page ≡ true) rows → filter (is_row_of_stream s) rows ≡ []
 none-below s r [] less before = refl
 none-below s r (b ∷ rows) less before =
     let from : r.page.stream ≤ b.page.stream = from_stream r.page b.page before.0 in
     rw (ne_eqb b.page.stream s (λ e. omega arith)) (none-below s r rows less before.1)
 
 abbrev by_stream : List Row → ℕ → List Row
-by_stream rows s = filter (is_of s) rows
+by_stream rows s = filter (is_row_of_stream s) rows
 
 module _ (r : Row) (rows : List Row) where
   -- a row adds nothing to the streams past its own
@@ -77,9 +77,9 @@ flat_map-same f g (n ∷ ns) same = rw (same n, flat_map-same f g ns same) refl
 abbrev answer_of : ℕ → ℕ × Option (ℕ × ℕ) → Option DirtyRow
 answer_of s page = option_map (λ lsns. record { page = record { stream = s; page = page.0 }; oldest = lsns.0; newest = lsns.1 }) page.1
 
-answers-pages : (s : ℕ) (h : List Effect) (ps : List ℕ) → filter_map (row_of s h) ps ≡ filter_map (answer_of s) (map (of_page h) ps)
+answers-pages : (s : ℕ) (h : List Effect) (ps : List ℕ) → filter_map (dirty_row_of s h) ps ≡ filter_map (answer_of s) (map (of_page h) ps)
 answers-pages s h [] = refl
-answers-pages s h (p ∷ ps) = ap (cons_option (row_of s h p)) (answers-pages s h ps)
+answers-pages s h (p ∷ ps) = ap (cons_option (dirty_row_of s h p)) (answers-pages s h ps)
 
 module _ (past : List Entry) (log s : ℕ) where
   abbrev is_its : Bool
@@ -96,7 +96,7 @@ module _ (past : List Entry) (log s : ℕ) where
       page : ◌≡◌ {A = Page} r.page (record { stream = s; page = r.page.page })
       page = let k : ◌≡◌ {A = Page} (record { stream = r.page.stream; page = r.page.page }) (record { stream = s; page = r.page.page }) = cc in k
 
-  answers-rows : (rows : List Row) → filter_map (answer_in past log) (filter (is_of s) rows) ≡ cond is_its (listed (filter (is_of s) rows)) []
+  answers-rows : (rows : List Row) → filter_map (answer_in past log) (filter (is_row_of_stream s) rows) ≡ cond is_its (listed (filter (is_row_of_stream s) rows)) []
   answers-rows [] = nothing is_its
     where
       nothing : (t : Bool) → [] ≡ cond {A = List DirtyRow} t [] []
@@ -108,14 +108,14 @@ module _ (past : List Entry) (log s : ℕ) where
       one true o rest = refl
       one false o rest = refl
 
-      go : (t : Bool) → (r.page.stream == s) ≡ t → filter_map (answer_in past log) (filter (is_of s) rows) ≡ cond is_its (listed (filter (is_of s) rows)) []
-          → filter_map (answer_in past log) (cond t (r ∷ filter (is_of s) rows) (filter (is_of s) rows)) ≡ cond is_its (listed (cond t (r ∷ filter (is_of s) rows) (filter (is_of s) rows))) []
+      go : (t : Bool) → (r.page.stream == s) ≡ t → filter_map (answer_in past log) (filter (is_row_of_stream s) rows) ≡ cond is_its (listed (filter (is_row_of_stream s) rows)) []
+          → filter_map (answer_in past log) (cond t (r ∷ filter (is_row_of_stream s) rows) (filter (is_row_of_stream s) rows)) ≡ cond is_its (listed (cond t (r ∷ filter (is_row_of_stream s) rows) (filter (is_row_of_stream s) rows))) []
       go true same rest =
-          rw (answer-row r (eqb-true r.page.stream s same), rest) (one is_its (answer_of s (of_row r)) (listed (filter (is_of s) rows)))
+          rw (answer-row r (eqb-true r.page.stream s same), rest) (one is_its (answer_of s (of_row r)) (listed (filter (is_row_of_stream s) rows)))
       go false other rest = rest
 
   -- the rows of a stream that are answered are the table's
-  answers-stream : (rows : List Row) → Sound rows → Follows past rows → filter_map (answer_in past log) (by_stream rows s) ≡ rows_of past log s
+  answers-stream : (rows : List Row) → Sound rows → Follows past rows → filter_map (answer_in past log) (by_stream rows s) ≡ dirty_rows_of past log s
   answers-stream rows sound follows =
       answers-rows rows
       ∙ ap (λ (l : List DirtyRow). cond is_its l [])
@@ -127,5 +127,5 @@ unfolding dirty_table
 table-rows past log rows sound follows =
     ap (filter_map (answer_in past log)) (sym (streams-rows 16 rows (ordered rows sound.ascending) sound.numbered))
     ∙ (filter_map-flat_map (answer_in past log) (by_stream rows) (range_with_len 0 16)
-    ∙ flat_map-same (λ s. filter_map (answer_in past log) (by_stream rows s)) (rows_of past log) (range_with_len 0 16)
+    ∙ flat_map-same (λ s. filter_map (answer_in past log) (by_stream rows s)) (dirty_rows_of past log) (range_with_len 0 16)
     (λ s. answers-stream past log s rows sound follows))

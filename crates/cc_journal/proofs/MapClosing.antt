@@ -8,7 +8,7 @@ use Rattle.cc_entry.specs.declared.call.Call.TheVariants as call
 use Rattle.cc_entry.specs.declared.entry.Entry.{Entry}
 use Rattle.cc_entry.specs.declared.reply.Reply.{Reply}
 use Rattle.cc_dirty.specs.declared.row.Row.{Row}
-use Rattle.cc_dirty.specs.Table.{is_of, Sound}
+use Rattle.cc_dirty.specs.Table.{is_row_of_stream, Sound}
 use Rattle.cc_events.specs.Events.{truncation_by}
 use Rattle.cc_model.specs.History.{Did, history}
 use Rattle.cc_model.specs.Numbers.{is_empty, ascending}
@@ -74,7 +74,7 @@ is_mapped-closes past rows s pass file truncate cut reply objects_open follows s
     ∙ (sym (list_any-ascending (λ p. is_dirty h p && begins_below cut p) (touched h))
     ∙ (list_any-kept (is_dirty h) (begins_below cut) (ascending (touched h))
     ∙ (ap (list_any (begins_below cut)) (sym (dirty_pages-rows past rows s follows sound))
-    ∙ (list_any-map (begins_below cut) (λ r. r.page.page) (filter (is_of s) rows)
-    ∙ sym (list_any-kept (is_of s) (λ r. begins_below cut r.page.page) rows))))) in
+    ∙ (list_any-map (begins_below cut) (λ r. r.page.page) (filter (is_row_of_stream s) rows)
+    ∙ sym (list_any-kept (is_row_of_stream s) (λ r. begins_below cut r.page.page) rows))))) in
     ap (λ (b : Bool). b || list_any (is_left s cut) rows) open_is
     ∙ ap (λ (b : Bool). not (is_empty (objects (Did pass it reply ∷ h))) || b) (sym left)

@@ -23,14 +23,14 @@ use Rattle.cc_model.specs.Touches.{is_dirty, size_of}
 use Rattle.cc_laws.proofs.HistorySteps.{history-done, history-done_other}
 use Rattle.cc_stream.specs.Stream.{Stream}
 use Rattle.cc_journal.specs.Journal.{MayBePushed}
-use Rattle.cc_journal.specs.Places.{Places}
+use Rattle.cc_journal.specs.Places.{HeldPlaces}
 use Rattle.cc_journal.specs.Rows.{Follows}
-use Rattle.cc_journal.specs.Streams.{StreamsStand, reach, hold_named, no_state, HasRoomFor, HasRoomForEntry}
+use Rattle.cc_journal.specs.Streams.{StreamsStand, touched_range, hold_in_event, no_state, HasRoomForRows, HasRoomForEntry}
 use Rattle.cc_journal.proofs.RowCounts.{rows-dirty, room-absent}
 
 -- the range that an act touches, by the stream before it
 abbrev reach_in : Act → List Effect → Range
-reach_in a h = let what = event_of_act a in reach what (size_of h) (place_in (holds_of h) (hold_named what))
+reach_in a h = let what = event_of_act a in touched_range what (size_of h) (place_in (holds_of h) (hold_in_event what))
 
 -- whether an act touches pages: then it takes none away
 abbrev is_touching : Act → Bool
@@ -108,7 +108,7 @@ still_dirty pass nth stream call reply past q is dirty = go (stream == q.stream)
 module _ (pass nth stream : ℕ) (call : Call) (reply : Reply) (past : List Entry) (table : Table) (sound : Sound table.rows) (follows : Follows past table.rows) (few : length table.rows ≤ 16384)
     (capacity : 16384 ≤ table.capacity) (below : stream < 16) (may : MayBePushed past (entry.Call pass nth (Some stream) call (outcome.Done reply))) where
   -- one that touches pages
-  room_touching : is_touching (act_of call) ≡ true → HasRoomFor table stream (reach_in (act_of call) (history past stream))
+  room_touching : is_touching (act_of call) ≡ true → HasRoomForRows table stream (reach_in (act_of call) (history past stream))
   room_touching is = record {
     numbered = λ p has. may.numbered stream p (now p has);
     room = omega (
@@ -125,21 +125,21 @@ module _ (pass nth stream : ℕ) (call : Call) (reply : Reply) (past : List Entr
       now p has = dirty_here pass nth stream call reply past p is ∙ now_dirty (has_page (reach_in (act_of call) (history past stream)) p) (is_dirty (history past stream) p) has
 
   -- one that touches none
-  room_other : is_touching (act_of call) ≡ false → HasRoomFor table stream (reach_in (act_of call) (history past stream))
+  room_other : is_touching (act_of call) ≡ false → HasRoomForRows table stream (reach_in (act_of call) (history past stream))
   room_other is = rw (reach_none (act_of call) (history past stream) is) (record { numbered = λ p has. absurd (cc); room = omega (arith, few, capacity) })
 
-  room_reached : HasRoomFor table stream (reach_in (act_of call) (history past stream))
+  room_reached : HasRoomForRows table stream (reach_in (act_of call) (history past stream))
   room_reached = go (is_touching (act_of call)) refl
     where
-      go : (b : Bool) → is_touching (act_of call) ≡ b → HasRoomFor table stream (reach_in (act_of call) (history past stream))
+      go : (b : Bool) → is_touching (act_of call) ≡ b → HasRoomForRows table stream (reach_in (act_of call) (history past stream))
       go true is = room_touching is
       go false is = room_other is
 
 -- an entry that may be pushed has room
-pub room_for : (e : Entry) (past : List Entry) (states : List Stream) (places : Places) (table : Table) → Sound table.rows → StreamsStand past states places table.rows → length table.rows ≤ 16384 → 16384 ≤ table.capacity → MayBePushed past e → HasRoomForEntry states places table e
+pub room_for : (e : Entry) (past : List Entry) (states : List Stream) (places : HeldPlaces) (table : Table) → Sound table.rows → StreamsStand past states places table.rows → length table.rows ≤ 16384 → 16384 ≤ table.capacity → MayBePushed past e → HasRoomForEntry states places table e
 room_for (entry.Call pass nth (Some stream) call (outcome.Done reply)) past states places table sound stands few capacity may =
     let what = event_of_act (act_of call) in
-    λ below. rw ((stands.each stream no_state below).size, stands.held stream (hold_named what))
+    λ below. rw ((stands.each stream no_state below).size, stands.held stream (hold_in_event what))
     (room_reached pass nth stream call reply past table sound stands.unwritten few capacity below may)
 room_for (entry.Call pass nth (Some stream) call (outcome.Failed error)) past states places table sound stands few capacity may = tt
 room_for (entry.Call pass nth None call ended) past states places table sound stands few capacity may = tt

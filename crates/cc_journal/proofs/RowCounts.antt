@@ -16,9 +16,9 @@ use Rattle.cc_entry.specs.Pages.{has_page, pages_of}
 use Rattle.cc_entry.specs.declared.entry.Entry.{Entry}
 use Rattle.cc_dirty.specs.declared.row.Unwritten.{Unwritten}
 use Rattle.cc_dirty.specs.declared.row.Row.{Row}
-use Rattle.cc_dirty.specs.Order.{same_page, precedes, IsAscending}
+use Rattle.cc_dirty.specs.Order.{same_page, precedes, RowsAscend}
 use Rattle.cc_dirty.specs.Unwritten.{is_touched}
-use Rattle.cc_dirty.specs.Table.{row_of, is_of, Sound}
+use Rattle.cc_dirty.specs.Table.{row_of, is_row_of_stream, Sound}
 use Rattle.cc_model.specs.Numbers.{is_empty, is_among, placed, ascending}
 use Rattle.cc_model.specs.History.{Effect, history}
 use Rattle.cc_model.specs.Objects.{objects}
@@ -36,7 +36,7 @@ abbrev Ordered : List Row → Type 0
 Ordered [] = Unit {0}
 Ordered (r ∷ rows) = AllByRecursion (λ b. precedes r.page b.page ≡ true) rows × Ordered rows
 
-ordered : (rows : List Row) → IsAscending rows → Ordered rows
+ordered : (rows : List Row) → RowsAscend rows → Ordered rows
 ordered [] up = tt
 ordered (r ∷ rows) up = (
   recursion_from_All (λ b. precedes r.page b.page ≡ true) rows (λ k d lt. up 0 (suc k) d (omega arith) (omega arith)),
@@ -45,7 +45,7 @@ ordered (r ∷ rows) up = (
 
 -- the pages of a stream that have rows
 pages_in : ℕ → List Row → List ℕ
-pages_in s rows = map (λ r. r.page.page) (filter (is_of s) rows)
+pages_in s rows = map (λ r. r.page.page) (filter (is_row_of_stream s) rows)
 
 above-pages_in : (s : ℕ) (r : Row) (rows : List Row) → (r.page.stream == s) ≡ true → AllByRecursion (λ b. precedes r.page b.page ≡ true) rows → Above r.page.page (pages_in s rows)
 unfolding pages_in
@@ -55,7 +55,7 @@ above-pages_in s r (b ∷ rows) here before = go (b.page.stream == s) refl (abov
     less : (c d : Page) → (c.stream == s) ≡ true → (d.stream == s) ≡ true → precedes c d ≡ true → c.page < d.page
     less c d same also it = grind (arith, nat_tests)
 
-    go : (t : Bool) → (b.page.stream == s) ≡ t → Above r.page.page (map (λ r. r.page.page) (filter (is_of s) rows)) → Above r.page.page (map (λ r. r.page.page) (cond t (b ∷ filter (is_of s) rows) (filter (is_of s) rows)))
+    go : (t : Bool) → (b.page.stream == s) ≡ t → Above r.page.page (map (λ r. r.page.page) (filter (is_row_of_stream s) rows)) → Above r.page.page (map (λ r. r.page.page) (cond t (b ∷ filter (is_row_of_stream s) rows) (filter (is_row_of_stream s) rows)))
     go true same rest = (less r.page b.page here same before.0, rest)
     go false other rest = rest
 
@@ -64,7 +64,7 @@ unfolding pages_in
 rises-pages_in s [] up = tt
 rises-pages_in s (r ∷ rows) up = go (r.page.stream == s) refl (rises-pages_in s rows up.1)
   where
-    go : (t : Bool) → (r.page.stream == s) ≡ t → Rises (map (λ r. r.page.page) (filter (is_of s) rows)) → Rises (map (λ r. r.page.page) (cond t (r ∷ filter (is_of s) rows) (filter (is_of s) rows)))
+    go : (t : Bool) → (r.page.stream == s) ≡ t → Rises (map (λ r. r.page.page) (filter (is_row_of_stream s) rows)) → Rises (map (λ r. r.page.page) (cond t (r ∷ filter (is_row_of_stream s) rows) (filter (is_row_of_stream s) rows)))
     go true same rest = (above-pages_in s r rows same up.0, rest)
     go false other rest = rest
 
@@ -73,8 +73,8 @@ unfolding pages_in
 is_among-pages_in s p [] = refl
 is_among-pages_in s p (r ∷ rows) = go (r.page.stream == s) (r.page.page == p) refl (is_among-pages_in s p rows)
   where
-    go : (t u : Bool) → (r.page.page == p) ≡ u → is_among p (map (λ r. r.page.page) (filter (is_of s) rows)) ≡ not (is_absent rows (record { stream = s; page = p }))
-        → is_among p (map (λ r. r.page.page) (cond t (r ∷ filter (is_of s) rows) (filter (is_of s) rows))) ≡ not (elim (cond (t && u) (Some r) (row_of rows (record { stream = s; page = p }))) [ None ↦ true | Some row ↦ false ])
+    go : (t u : Bool) → (r.page.page == p) ≡ u → is_among p (map (λ r. r.page.page) (filter (is_row_of_stream s) rows)) ≡ not (is_absent rows (record { stream = s; page = p }))
+        → is_among p (map (λ r. r.page.page) (cond t (r ∷ filter (is_row_of_stream s) rows) (filter (is_row_of_stream s) rows))) ≡ not (elim (cond (t && u) (Some r) (row_of rows (record { stream = s; page = p }))) [ None ↦ true | Some row ↦ false ])
     go true true same rest = or_left _ _ same
     go true false other rest = rw other rest
     go false u is rest = rest
@@ -172,16 +172,16 @@ pages_in-dirty past rows s follows sound =
     (λ p. is_among-pages_in s p rows ∙ (rows-dirty past rows (record { stream = s; page = p }) follows sound ∙ sym (is_among-dirty (history past s) p)))
 
 -- the pages of the rows of a stream are its dirty pages, in order
-pub dirty_pages-rows : (past : List Entry) (rows : List Row) (s : ℕ) → Follows past rows → Sound rows → map (λ r. r.page.page) (filter (is_of s) rows) ≡ dirty_pages (history past s)
+pub dirty_pages-rows : (past : List Entry) (rows : List Row) (s : ℕ) → Follows past rows → Sound rows → map (λ r. r.page.page) (filter (is_row_of_stream s) rows) ≡ dirty_pages (history past s)
 unfolding pages_in
 dirty_pages-rows past rows s follows sound = pages_in-dirty past rows s follows sound
 
-length-pages_in : (s : ℕ) (rows : List Row) → length (pages_in s rows) ≡ count_by (is_of s) rows
+length-pages_in : (s : ℕ) (rows : List Row) → length (pages_in s rows) ≡ count_by (is_row_of_stream s) rows
 unfolding pages_in
-length-pages_in s rows = length-map (filter (is_of s) rows) (λ r. r.page.page) ∙ length-filter (is_of s) rows
+length-pages_in s rows = length-map (filter (is_row_of_stream s) rows) (λ r. r.page.page) ∙ length-filter (is_row_of_stream s) rows
 
 -- the rows of a stream are as many as its dirty pages
-pub dirty_count-rows : (past : List Entry) (rows : List Row) (s : ℕ) → Follows past rows → Sound rows → count_by (is_of s) rows ≡ dirty_count (history past s)
+pub dirty_count-rows : (past : List Entry) (rows : List Row) (s : ℕ) → Follows past rows → Sound rows → count_by (is_row_of_stream s) rows ≡ dirty_count (history past s)
 dirty_count-rows past rows s follows sound = sym (length-pages_in s rows) ∙ ap length (pages_in-dirty past rows s follows sound)
 
 sum_by-same : (f g : ℕ → ℕ) (ns : List ℕ) → ((n : ℕ) → f n ≡ g n) → sum_by f ns ≡ sum_by g ns
@@ -221,7 +221,7 @@ sum_by-one t a (suc n) amount low high = go (t == a) refl (sum_by-one t (a + 1) 
         rw (sum_by-cons (λ s. cond (t == s) amount 0) a (range_with_len (a + 1) n)) (omega arith)
 
 -- rows of streams below a bound, stream by stream
-length-streams : (n : ℕ) (rows : List Row) → All (λ r. r.page.stream < n) rows → length rows ≡ sum_by (λ s. count_by (is_of s) rows) (range_with_len 0 n)
+length-streams : (n : ℕ) (rows : List Row) → All (λ r. r.page.stream < n) rows → length rows ≡ sum_by (λ s. count_by (is_row_of_stream s) rows) (range_with_len 0 n)
 length-streams n [] below = sym (none 0 n)
   where
     none : (a n : ℕ) → sum_by (λ s. 0) (range_with_len a n) ≡ 0
@@ -230,13 +230,13 @@ length-streams n [] below = sym (none 0 n)
         let rest : sum_by (λ s. 0) (range_with_len (a + 1) n) ≡ 0 = none (a + 1) n in
         rw (sum_by-cons (λ s. 0) a (range_with_len (a + 1) n)) (omega arith)
 length-streams n (r ∷ rows) below =
-    let rest : length rows ≡ sum_by (λ s. count_by (is_of s) rows) (range_with_len 0 n) = length-streams n rows (All-tail (λ r. r.page.stream < n) r rows below) in
+    let rest : length rows ≡ sum_by (λ s. count_by (is_row_of_stream s) rows) (range_with_len 0 n) = length-streams n rows (All-tail (λ r. r.page.stream < n) r rows below) in
     let high : r.page.stream < n = All-head (λ r. r.page.stream < n) r rows below in
     let one : sum_by (λ s. cond (r.page.stream == s) 1 0) (range_with_len 0 n) ≡ 1 = sum_by-one r.page.stream 0 n 1 (omega arith) (omega arith) in
-    let parts : sum_by (λ s. count_by (is_of s) (r ∷ rows)) (range_with_len 0 n) ≡ sum_by (λ s. cond (r.page.stream == s) 1 0 + count_by (is_of s) rows) (range_with_len 0 n) =
-    sum_by-same (λ s. count_by (is_of s) (r ∷ rows)) (λ s. cond (r.page.stream == s) 1 0 + count_by (is_of s) rows) (range_with_len 0 n) (λ s. sum_by-cons (λ r. cond (is_of s r) 1 0) r rows) in
-    let split : sum_by (λ s. cond (r.page.stream == s) 1 0 + count_by (is_of s) rows) (range_with_len 0 n) ≡ sum_by (λ s. cond (r.page.stream == s) 1 0) (range_with_len 0 n) + sum_by (λ s. count_by (is_of s) rows) (range_with_len 0 n) =
-    sum_by-plus (λ s. cond (r.page.stream == s) 1 0) (λ s. count_by (is_of s) rows) (range_with_len 0 n) in
+    let parts : sum_by (λ s. count_by (is_row_of_stream s) (r ∷ rows)) (range_with_len 0 n) ≡ sum_by (λ s. cond (r.page.stream == s) 1 0 + count_by (is_row_of_stream s) rows) (range_with_len 0 n) =
+    sum_by-same (λ s. count_by (is_row_of_stream s) (r ∷ rows)) (λ s. cond (r.page.stream == s) 1 0 + count_by (is_row_of_stream s) rows) (range_with_len 0 n) (λ s. sum_by-cons (λ r. cond (is_row_of_stream s r) 1 0) r rows) in
+    let split : sum_by (λ s. cond (r.page.stream == s) 1 0 + count_by (is_row_of_stream s) rows) (range_with_len 0 n) ≡ sum_by (λ s. cond (r.page.stream == s) 1 0) (range_with_len 0 n) + sum_by (λ s. count_by (is_row_of_stream s) rows) (range_with_len 0 n) =
+    sum_by-plus (λ s. cond (r.page.stream == s) 1 0) (λ s. count_by (is_row_of_stream s) rows) (range_with_len 0 n) in
     omega arith
 
 -- all rows are as many as the dirty pages of all streams
@@ -244,7 +244,7 @@ pub dirty_total-rows : (past : List Entry) (rows : List Row) → Follows past ro
 unfolding dirty_total
 dirty_total-rows past rows follows sound below =
     length-streams 16 rows below
-    ∙ sum_by-same (λ s. count_by (is_of s) rows) (λ s. dirty_count (history past s)) (range_with_len 0 16) (λ s. dirty_count-rows past rows s follows sound)
+    ∙ sum_by-same (λ s. count_by (is_row_of_stream s) rows) (λ s. dirty_count (history past s)) (range_with_len 0 16) (λ s. dirty_count-rows past rows s follows sound)
 
 list_any-placed : (test : ℕ → Bool) (n : ℕ) (ns : List ℕ) → list_any test (placed n ns) ≡ (test n || list_any test ns)
 list_any-placed test n [] = refl
@@ -280,7 +280,7 @@ list_any-left test (n ∷ ns) = go (test n) (list_any-left test ns)
     go false rest = rest
 
 -- a stream is mapped where an object is open or a page has a row
-pub is_mapped-rows : (past : List Entry) (rows : List Row) → Follows past rows → Sound rows → (s : ℕ) → is_mapped (history past s) ≡ (not (is_empty (objects (history past s))) || nat_lt 0 (count_by (is_of s) rows))
+pub is_mapped-rows : (past : List Entry) (rows : List Row) → Follows past rows → Sound rows → (s : ℕ) → is_mapped (history past s) ≡ (not (is_empty (objects (history past s))) || nat_lt 0 (count_by (is_row_of_stream s) rows))
 is_mapped-rows past rows follows sound s =
     ap (λ t. not (is_empty (objects (history past s))) || t)
     (sym (list_any-ascending (is_dirty (history past s)) (touched (history past s)))
@@ -349,9 +349,9 @@ module _ (past : List Entry) (rows : List Row) (sound : Sound rows) (dirty : (q 
       let has : not (is_absent rows (record { stream = s; page = q })) ≡ true = sym (is_among-pages_in s q rows) ∙ is in
       and_from _ _ (is_among-dirty (history past s) q ∙ dirty (record { stream = s; page = q }) (not-true (is_absent rows (record { stream = s; page = q })) has)) has
 
-  count-within : (s : ℕ) → count_by (is_of s) rows ≤ dirty_count (history past s)
+  count-within : (s : ℕ) → count_by (is_row_of_stream s) rows ≤ dirty_count (history past s)
   count-within s =
-      let long : length (pages_in s rows) ≡ count_by (is_of s) rows = length-pages_in s rows in
+      let long : length (pages_in s rows) ≡ count_by (is_row_of_stream s) rows = length-pages_in s rows in
       let few : length (pages_in s rows) + 0 ≤ length (dirty_pages (history past s)) =
       both_within (has_row s) (pages_in s rows) [] (dirty_pages (history past s)) (rises-pages_in s rows (ordered rows sound.ascending)) tt (row-among s) (λ q is. absurd (cc)) in
       omega arith
@@ -367,21 +367,21 @@ module _ (past : List Entry) (rows : List Row) (sound : Sound rows) (dirty : (q 
         twice true = refl
         twice false = refl
 
-    absent-within : count_by (is_of s) rows + absent_count rows s range ≤ dirty_count (history past s)
+    absent-within : count_by (is_row_of_stream s) rows + absent_count rows s range ≤ dirty_count (history past s)
     absent-within =
-        let long : length (pages_in s rows) ≡ count_by (is_of s) rows = length-pages_in s rows in
+        let long : length (pages_in s rows) ≡ count_by (is_row_of_stream s) rows = length-pages_in s rows in
         let more : length (filter (λ p. is_absent rows (record { stream = s; page = p })) (pages_of range)) ≡ absent_count rows s range = length-filter (λ p. is_absent rows (record { stream = s; page = p })) (pages_of range) in
         let few : length (pages_in s rows) + length (filter (λ p. is_absent rows (record { stream = s; page = p })) (pages_of range)) ≤ length (dirty_pages (history past s)) =
         both_within (has_row s) (pages_in s rows) (filter (λ p. is_absent rows (record { stream = s; page = p })) (pages_of range)) (dirty_pages (history past s))
         (rises-pages_in s rows (ordered rows sound.ascending)) (rises-filter (λ p. is_absent rows (record { stream = s; page = p })) (pages_of range) (rises-pages range)) (row-among s) absent-among in
         omega arith
 
-    each-within : (t : ℕ) → count_by (is_of t) rows + cond (s == t) (absent_count rows s range) 0 ≤ dirty_count (history past t)
+    each-within : (t : ℕ) → count_by (is_row_of_stream t) rows + cond (s == t) (absent_count rows s range) 0 ≤ dirty_count (history past t)
     each-within t = go (s == t) refl
       where
-        go : (b : Bool) → (s == t) ≡ b → count_by (is_of t) rows + cond b (absent_count rows s range) 0 ≤ dirty_count (history past t)
-        go true same = subst (λ u. count_by (is_of u) rows + absent_count rows s range ≤ dirty_count (history past u)) (eqb-true s t same) absent-within
-        go false other = let few : count_by (is_of t) rows ≤ dirty_count (history past t) = count-within t in omega arith
+        go : (b : Bool) → (s == t) ≡ b → count_by (is_row_of_stream t) rows + cond b (absent_count rows s range) 0 ≤ dirty_count (history past t)
+        go true same = subst (λ u. count_by (is_row_of_stream u) rows + absent_count rows s range ≤ dirty_count (history past u)) (eqb-true s t same) absent-within
+        go false other = let few : count_by (is_row_of_stream t) rows ≤ dirty_count (history past t) = count-within t in omega arith
 
 -- the rows and a range's pages without one are at most as many as the dirty pages, where all are dirty
 pub room-absent : (past : List Entry) (rows : List Row) (s : ℕ) (range : Range) → Sound rows → All (λ r. r.page.stream < 16) rows → s < 16
@@ -389,17 +389,17 @@ pub room-absent : (past : List Entry) (rows : List Row) (s : ℕ) (range : Range
     → length rows + absent_count rows s range ≤ dirty_total past
 unfolding dirty_total
 room-absent past rows s range sound below within dirty in_range =
-    let all : length rows ≡ sum_by (λ t. count_by (is_of t) rows) (range_with_len 0 16) = length-streams 16 rows below in
+    let all : length rows ≡ sum_by (λ t. count_by (is_row_of_stream t) rows) (range_with_len 0 16) = length-streams 16 rows below in
     let one : sum_by (λ t. cond (s == t) (absent_count rows s range) 0) (range_with_len 0 16) ≡ absent_count rows s range = sum_by-one s 0 16 (absent_count rows s range) (omega arith) (omega arith) in
-    let both : sum_by (λ t. count_by (is_of t) rows + cond (s == t) (absent_count rows s range) 0) (range_with_len 0 16) ≡ sum_by (λ t. count_by (is_of t) rows) (range_with_len 0 16) + sum_by (λ t. cond (s == t) (absent_count rows s range) 0) (range_with_len 0 16) =
-    sum_by-plus (λ t. count_by (is_of t) rows) (λ t. cond (s == t) (absent_count rows s range) 0) (range_with_len 0 16) in
-    let few : sum_by (λ t. count_by (is_of t) rows + cond (s == t) (absent_count rows s range) 0) (range_with_len 0 16) ≤ sum_by (λ t. dirty_count (history past t)) (range_with_len 0 16) =
-    sum_by-le-sum_by (λ t. count_by (is_of t) rows + cond (s == t) (absent_count rows s range) 0) (λ t. dirty_count (history past t)) (range_with_len 0 16) (each-within past rows sound dirty s range in_range) in
+    let both : sum_by (λ t. count_by (is_row_of_stream t) rows + cond (s == t) (absent_count rows s range) 0) (range_with_len 0 16) ≡ sum_by (λ t. count_by (is_row_of_stream t) rows) (range_with_len 0 16) + sum_by (λ t. cond (s == t) (absent_count rows s range) 0) (range_with_len 0 16) =
+    sum_by-plus (λ t. count_by (is_row_of_stream t) rows) (λ t. cond (s == t) (absent_count rows s range) 0) (range_with_len 0 16) in
+    let few : sum_by (λ t. count_by (is_row_of_stream t) rows + cond (s == t) (absent_count rows s range) 0) (range_with_len 0 16) ≤ sum_by (λ t. dirty_count (history past t)) (range_with_len 0 16) =
+    sum_by-le-sum_by (λ t. count_by (is_row_of_stream t) rows + cond (s == t) (absent_count rows s range) 0) (λ t. dirty_count (history past t)) (range_with_len 0 16) (each-within past rows sound dirty s range in_range) in
     omega arith
 
 -- the pages of a stream that have rows, where the stream is picked
 abbrev picked : (ℕ → Bool) → List Row → ℕ → List Page
-picked picks rows s = cond (picks s) (map (λ r. r.page) (filter (is_of s) rows)) []
+picked picks rows s = cond (picks s) (map (λ r. r.page) (filter (is_row_of_stream s) rows)) []
 
 flat_map-same : {X : Type 0} (f g : ℕ → List X) (ns : List ℕ) → ((n : ℕ) → f n ≡ g n) → flat_map f ns ≡ flat_map g ns
 flat_map-same f g [] same = refl
@@ -409,7 +409,7 @@ from_stream : (a b : Page) → precedes a b ≡ true → a.stream ≤ b.stream
 from_stream a b before = grind (arith, nat_tests)
 
 -- no row is of a stream below those of all rows
-none-below : (s : ℕ) (r : Row) (rows : List Row) → s < r.page.stream → AllByRecursion (λ b. precedes r.page b.page ≡ true) rows → filter (is_of s) rows ≡ []
+none-below : (s : ℕ) (r : Row) (rows : List Row) → s < r.page.stream → AllByRecursion (λ b. precedes r.page b.page ≡ true) rows → filter (is_row_of_stream s) rows ≡ []
 none-below s r [] less before = refl
 none-below s r (b ∷ rows) less before =
     let from : r.page.stream ≤ b.page.stream = from_stream r.page b.page before.0 in
@@ -431,7 +431,7 @@ module _ (picks : ℕ → Bool) (r : Row) (rows : List Row) where
   picked-more a (suc n) before low high = go (r.page.stream == a) refl (picked-more (a + 1) n before)
     where
       here : (t u : Bool) (tail : List Page) → t ≡ u
-          → cond u (r.page ∷ map (λ r. r.page) (filter (is_of a) rows)) [] ++ tail ≡ cond t (r.page ∷ (cond u (map (λ r. r.page) (filter (is_of a) rows)) [] ++ tail)) (cond u (map (λ r. r.page) (filter (is_of a) rows)) [] ++ tail)
+          → cond u (r.page ∷ map (λ r. r.page) (filter (is_row_of_stream a) rows)) [] ++ tail ≡ cond t (r.page ∷ (cond u (map (λ r. r.page) (filter (is_row_of_stream a) rows)) [] ++ tail)) (cond u (map (λ r. r.page) (filter (is_row_of_stream a) rows)) [] ++ tail)
       here true true tail alike = refl
       here true false tail alike = absurd (cc)
       here false true tail alike = absurd (cc)
@@ -463,7 +463,7 @@ picked-streams picks n (r ∷ rows) up below =
     kept false rest = refl
 
 -- the pages of the rows of a stream, by their numbers
-pages-stream : (s : ℕ) (rows : List Row) → map (λ p. record { stream = s; page = p }) (pages_in s rows) ≡ map (λ r. r.page) (filter (is_of s) rows)
+pages-stream : (s : ℕ) (rows : List Row) → map (λ p. record { stream = s; page = p }) (pages_in s rows) ≡ map (λ r. r.page) (filter (is_row_of_stream s) rows)
 unfolding pages_in
 pages-stream s [] = refl
 pages-stream s (r ∷ rows) = go (r.page.stream == s) refl (pages-stream s rows)
@@ -471,8 +471,8 @@ pages-stream s (r ∷ rows) = go (r.page.stream == s) refl (pages-stream s rows)
     page : s ≡ r.page.stream → ◌≡◌ {A = Page} (record { stream = s; page = r.page.page }) r.page
     page e = let k : ◌≡◌ {A = Page} (record { stream = s; page = r.page.page }) (record { stream = r.page.stream; page = r.page.page }) = cc in k
 
-    go : (t : Bool) → (r.page.stream == s) ≡ t → map (λ p. record { stream = s; page = p }) (map (λ r. r.page.page) (filter (is_of s) rows)) ≡ map (λ r. r.page) (filter (is_of s) rows)
-        → map (λ p. record { stream = s; page = p }) (map (λ r. r.page.page) (cond t (r ∷ filter (is_of s) rows) (filter (is_of s) rows))) ≡ map (λ r. r.page) (cond t (r ∷ filter (is_of s) rows) (filter (is_of s) rows))
+    go : (t : Bool) → (r.page.stream == s) ≡ t → map (λ p. record { stream = s; page = p }) (map (λ r. r.page.page) (filter (is_row_of_stream s) rows)) ≡ map (λ r. r.page) (filter (is_row_of_stream s) rows)
+        → map (λ p. record { stream = s; page = p }) (map (λ r. r.page.page) (cond t (r ∷ filter (is_row_of_stream s) rows) (filter (is_row_of_stream s) rows))) ≡ map (λ r. r.page) (cond t (r ∷ filter (is_row_of_stream s) rows) (filter (is_row_of_stream s) rows))
     go true same rest = rw (page (sym (eqb-true r.page.stream s same)), rest) refl
     go false other rest = rest
 

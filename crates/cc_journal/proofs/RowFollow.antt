@@ -15,10 +15,10 @@ use Rattle.cc_entry.specs.declared.reply.Reply.{Reply}
 use Rattle.cc_dirty.specs.declared.row.Row.{Row}
 use Rattle.cc_dirty.specs.Order.{same_page}
 use Rattle.cc_dirty.specs.Unwritten.{begun_row, ended_row, kept_row}
-use Rattle.cc_dirty.specs.Table.{row_of, KeepsOthers}
-use Rattle.cc_events.specs.declared.event.Event.{Event}
-use Rattle.cc_events.specs.declared.event.Event.TheVariants as event
-use Rattle.cc_events.specs.Events.{event_of, event_of_act, event_in}
+use Rattle.cc_dirty.specs.Table.{row_of, KeepsOtherRows}
+use Rattle.cc_events.specs.declared.event.StreamEvent.{StreamEvent}
+use Rattle.cc_events.specs.declared.event.StreamEvent.TheVariants as event
+use Rattle.cc_events.specs.Events.{event_of, event_of_act, event_on}
 use Rattle.cc_events.specs.Touchings.{touching_of}
 use Rattle.cc_model.specs.Acts.{Act, act_of, Opens, Closes, Resizes, Writes, Zeroes, Stores, Stamps, Discards, Looks}
 use Rattle.cc_model.specs.History.{Effect, Did, Began, Ended, effect_of, history}
@@ -104,7 +104,7 @@ follows_call pass nth stream call reply past old new changes follows q = go (q.s
         follows
 
 -- the begin of a page's transfer
-pub follows_began : (pass : ℕ) (page : Page) (past : List Entry) (old new : List Row) → open_of (history past page.stream) ≡ None → row_of new page ≡ option_map begun_row (row_of old page) → KeepsOthers old new page → Follows past old → Follows (entry.WriteBegin pass page ∷ past) new
+pub follows_began : (pass : ℕ) (page : Page) (past : List Entry) (old new : List Row) → open_of (history past page.stream) ≡ None → row_of new page ≡ option_map begun_row (row_of old page) → KeepsOtherRows old new page → Follows past old → Follows (entry.WriteBegin pass page ∷ past) new
 follows_began pass page past old new free begun others follows q = go (page.stream == q.stream) (page.page == q.page) refl refl
   where
     other_page : (b : Bool) → (page.page == q.page) ≡ b → b ≡ false → row_of old q ≡ row_by (suc (length past)) (event.Began page.page) (history past q.stream) q (row_of old q)
@@ -127,7 +127,7 @@ follows_began pass page past old new free begun others follows q = go (page.stre
         at_none _ past q old new (rw away refl) (others q other) follows
 
 -- the end of a page's transfer
-pub follows_ended : (pass : ℕ) (page : Page) (how : End) (past : List Entry) (old new : List Row) → is_under_way (open_of (history past page.stream)) page.page ≡ true → row_of new page ≡ option_and_then (λ r. kept_row (ended_row (ended_ok how) r)) (row_of old page) → KeepsOthers old new page → Follows past old → Follows (entry.WriteEnd pass page how ∷ past) new
+pub follows_ended : (pass : ℕ) (page : Page) (how : End) (past : List Entry) (old new : List Row) → is_under_way (open_of (history past page.stream)) page.page ≡ true → row_of new page ≡ option_and_then (λ r. kept_row (ended_row (ended_ok how) r)) (row_of old page) → KeepsOtherRows old new page → Follows past old → Follows (entry.WriteEnd pass page how ∷ past) new
 follows_ended pass page how past old new under_way ended others follows q = go (page.stream == q.stream) (page.page == q.page) refl refl
   where
     go : (a b : Bool) → (page.stream == q.stream) ≡ a → (page.page == q.page) ≡ b → StandsFor (entry.WriteEnd pass page how ∷ past) q new
@@ -147,25 +147,25 @@ follows_ended pass page how past old new under_way ended others follows q = go (
         at_none _ past q old new (rw away refl) (others q other) follows
 
 -- the events that leave every row
-abbrev pub keeps_rows : Event → Bool
+abbrev pub keeps_rows : StreamEvent → Bool
 keeps_rows event.Rests = true
 keeps_rows (event.CameIn page) = true
 keeps_rows (event.WentOut page) = true
 keeps_rows other = false
 
-row_kept : (place : ℕ) (what : Event) (h : List Effect) (q : Page) (row : Option Row) → keeps_rows what ≡ true → row ≡ row_by place what h q row
+row_kept : (place : ℕ) (what : StreamEvent) (h : List Effect) (q : Page) (row : Option Row) → keeps_rows what ≡ true → row ≡ row_by place what h q row
 row_kept place event.Rests h q row kept = refl
 row_kept place (event.CameIn page) h q row kept = refl
 row_kept place (event.WentOut page) h q row kept = refl
 row_kept place other h q row kept = absurd (cc)
 
-transfers_kept : (what : Event) (h : List Effect) → keeps_rows what ≡ true → KeepsTransfers what h
+transfers_kept : (what : StreamEvent) (h : List Effect) → keeps_rows what ≡ true → KeepsTransfers what h
 transfers_kept event.Rests h kept = tt
 transfers_kept (event.CameIn page) h kept = tt
 transfers_kept (event.WentOut page) h kept = tt
 transfers_kept other h kept = absurd (cc)
 
 -- any other entry
-pub follows_other : (e : Entry) (past : List Entry) (rows : List Row) → ((s : ℕ) → keeps_rows (event_in e s) ≡ true) → Follows past rows → Follows (e ∷ past) rows
+pub follows_other : (e : Entry) (past : List Entry) (rows : List Row) → ((s : ℕ) → keeps_rows (event_on e s) ≡ true) → Follows past rows → Follows (e ∷ past) rows
 follows_other e past rows kept follows q =
     at_effect (effect_of e q.stream) e past q rows rows refl (transfers_kept _ (history past q.stream) (kept q.stream)) (row_kept (suc (length past)) _ (history past q.stream) q (row_of rows q) (kept q.stream)) follows

@@ -9,8 +9,8 @@ use Rattle.cc_entry.specs.Place.{Page}
 use Rattle.cc_entry.specs.declared.entry.Entry.{Entry}
 use Rattle.cc_dirty.specs.declared.row.Unwritten.{Unwritten}
 use Rattle.cc_dirty.specs.declared.row.Row.{Row}
-use Rattle.cc_dirty.specs.Order.{same_page, precedes, IsAscending}
-use Rattle.cc_dirty.specs.Table.{row_of, is_of, Sound}
+use Rattle.cc_dirty.specs.Order.{same_page, precedes, RowsAscend}
+use Rattle.cc_dirty.specs.Table.{row_of, is_row_of_stream, Sound}
 use Rattle.cc_journal.specs.Rows.{journal_place, IsRowOf, Follows}
 use Rattle.cc_journal.proofs.RowCounts.{dirty_pages-rows}
 use Rattle.cc_model.specs.History.{Effect, history}
@@ -30,7 +30,7 @@ abbrev pub Ordered : List Row → Type 0
 Ordered [] = Unit {0}
 Ordered (r ∷ rows) = AllByRecursion (λ b. precedes r.page b.page ≡ true) rows × Ordered rows
 
-pub ordered : (rows : List Row) → IsAscending rows → Ordered rows
+pub ordered : (rows : List Row) → RowsAscend rows → Ordered rows
 ordered [] up = tt
 ordered (r ∷ rows) up = (
   recursion_from_All (λ b. precedes r.page b.page ≡ true) rows (λ k d lt. up 0 (suc k) d (omega arith) (omega arith)),
@@ -65,20 +65,20 @@ module _ (past : List Entry) where
   all-lsns rows (r ∷ others) follows own = (own-lsns rows r follows own.0, all-lsns rows others follows own.1)
 
   module _ (s : ℕ) where
-    pages-lsns : (rows : List Row) → AllByRecursion HasLsns rows → map (of_page (history past s)) (map (λ r. r.page.page) (filter (is_of s) rows)) ≡ map of_row (filter (is_of s) rows)
+    pages-lsns : (rows : List Row) → AllByRecursion HasLsns rows → map (of_page (history past s)) (map (λ r. r.page.page) (filter (is_row_of_stream s) rows)) ≡ map of_row (filter (is_row_of_stream s) rows)
     pages-lsns [] has = refl
     pages-lsns (r ∷ rows) has = go (r.page.stream == s) refl (pages-lsns rows has.1)
       where
         here : r.page.stream ≡ s → lsns_of (history past s) r.page.page ≡ lsns_in r
         here same = sym (has.0 ∙ ap (λ t. lsns_of (history past t) r.page.page) same)
 
-        go : (t : Bool) → (r.page.stream == s) ≡ t → map (of_page (history past s)) (map (λ r. r.page.page) (filter (is_of s) rows)) ≡ map of_row (filter (is_of s) rows)
-            → map (of_page (history past s)) (map (λ r. r.page.page) (cond t (r ∷ filter (is_of s) rows) (filter (is_of s) rows))) ≡ map of_row (cond t (r ∷ filter (is_of s) rows) (filter (is_of s) rows))
+        go : (t : Bool) → (r.page.stream == s) ≡ t → map (of_page (history past s)) (map (λ r. r.page.page) (filter (is_row_of_stream s) rows)) ≡ map of_row (filter (is_row_of_stream s) rows)
+            → map (of_page (history past s)) (map (λ r. r.page.page) (cond t (r ∷ filter (is_row_of_stream s) rows) (filter (is_row_of_stream s) rows))) ≡ map of_row (cond t (r ∷ filter (is_row_of_stream s) rows) (filter (is_row_of_stream s) rows))
         go true same rest = rw (here (eqb-true r.page.stream s same), rest) refl
         go false other rest = rest
 
 -- the dirty pages of a stream with their LSNs are its rows, in order
-pub rows-are : (past : List Entry) (s : ℕ) (rows : List Row) → Sound rows → Follows past rows → map (of_page (history past s)) (dirty_pages (history past s)) ≡ map of_row (filter (is_of s) rows)
+pub rows-are : (past : List Entry) (s : ℕ) (rows : List Row) → Sound rows → Follows past rows → map (of_page (history past s)) (dirty_pages (history past s)) ≡ map of_row (filter (is_row_of_stream s) rows)
 rows-are past s rows sound follows =
     ap (map (of_page (history past s))) (sym (dirty_pages-rows past rows s follows sound))
     ∙ pages-lsns past s rows (all-lsns past rows rows follows (own-rows rows (ordered rows sound.ascending)))

@@ -6,12 +6,12 @@ use Rattle.std.proofs.Common.{ap, sym, subst, ◌∙◌, arith}
 use Rattle.std.proofs.lemmas.Bool.{and_parts, and_from, ltb-true, lt-ltb}
 use Rattle.std.proofs.lemmas.Bool.Decides.{nat_tests}
 use Rattle.cc_entry.specs.Place.{Page}
-use Rattle.cc_entry.specs.Lsns.{joined as joined_lsns, alone}
+use Rattle.cc_entry.specs.Lsns.{joined as joined_lsns, lsn_alone}
 use Rattle.cc_entry.specs.Pages.{has_page}
 use Rattle.cc_entry.specs.declared.entry.End.{End}
 use Rattle.cc_dirty.specs.declared.row.Unwritten.{Unwritten}
 use Rattle.cc_dirty.specs.declared.row.Row.{Row}
-use Rattle.cc_dirty.specs.Unwritten.{nothing, lower, joined, with_touch, is_touched, touched_row, begun_row, ended_row, kept_row}
+use Rattle.cc_dirty.specs.Unwritten.{nothing_unwritten, lower, joined_unwritten, with_touch, is_touched, touched_row, begun_row, ended_row, kept_row}
 use Rattle.cc_events.specs.declared.touching.Touching.{Touching}
 use Rattle.cc_events.specs.declared.touching.Touching.TheVariants as touching
 use Rattle.cc_events.specs.Events.{event_of, event_of_act, truncation_by}
@@ -89,13 +89,13 @@ lower-assoc (Some a) (Some b) (Some c) = same_place _ _ (least a b c)
 same_unwritten : (a b : Unwritten) → a.oldest ≡ b.oldest → a.lsns ≡ b.lsns → a ≡ b
 same_unwritten a b e f = let k : ◌≡◌ {A = Unwritten} (record { oldest = a.oldest; lsns = a.lsns }) (record { oldest = b.oldest; lsns = b.lsns }) = cc in k
 
-joined-nothing : (a : Unwritten) → joined a nothing ≡ a
-joined-nothing a = same_unwritten (joined a nothing) a (lower-none a.oldest) (lsns-none a.lsns)
+joined-nothing : (a : Unwritten) → joined_unwritten a nothing_unwritten ≡ a
+joined-nothing a = same_unwritten (joined_unwritten a nothing_unwritten) a (lower-none a.oldest) (lsns-none a.lsns)
 
 -- a touch may come into the second part or into both together
-joined-touch : (a b : Unwritten) (place : ℕ) (lsn : Option ℕ) → joined a (with_touch b place lsn) ≡ with_touch (joined a b) place lsn
+joined-touch : (a b : Unwritten) (place : ℕ) (lsn : Option ℕ) → joined_unwritten a (with_touch b place lsn) ≡ with_touch (joined_unwritten a b) place lsn
 joined-touch a b place lsn =
-    same_unwritten (joined a (with_touch b place lsn)) (with_touch (joined a b) place lsn) (sym (lower-assoc a.oldest b.oldest (Some place))) (sym (lsns-assoc a.lsns b.lsns (alone lsn)))
+    same_unwritten (joined_unwritten a (with_touch b place lsn)) (with_touch (joined_unwritten a b) place lsn) (sym (lower-assoc a.oldest b.oldest (Some place))) (sym (lsns-assoc a.lsns b.lsns (lsn_alone lsn)))
 
 -- touches whose effects have the same places sum up alike
 summary-alike : (place other : ℕ → ℕ) (n : ℕ) → ((k : ℕ) → k < n → other k ≡ place k) → (ts : List Touch) → list_all (λ (t : Touch). nat_lt t.place n) ts ≡ true → summary other ts ≡ summary place ts
@@ -110,7 +110,7 @@ summary-alike place other n same ts all = same_unwritten (summary other ts) (sum
 summary-touch : (place : ℕ → ℕ) (touch : Touch) (rest : List Touch) → with_touch (summary place rest) (place touch.place) touch.lsn ≡ summary place (touch ∷ rest)
 summary-touch place touch rest =
     same_unwritten (with_touch (summary place rest) (place touch.place) touch.lsn) (summary place (touch ∷ rest))
-    (lower-comm (oldest_among place rest) (Some (place touch.place))) (lsns-comm (lsns_among rest) (alone touch.lsn))
+    (lower-comm (oldest_among place rest) (Some (place touch.place))) (lsns-comm (lsns_among rest) (lsn_alone touch.lsn))
 
 -- there is an oldest touch where there is a touch
 pub some-oldest : (place : ℕ → ℕ) (ts : List Touch) → is_some (oldest_among place ts) ≡ not (is_empty ts)
@@ -121,7 +121,7 @@ some-oldest place (t ∷ ts) = some (oldest_among place ts)
     some None = refl
     some (Some x) = refl
 
-untouched : (place : ℕ → ℕ) (ts : List Touch) → is_some (oldest_among place ts) ≡ false → summary place ts ≡ nothing
+untouched : (place : ℕ → ℕ) (ts : List Touch) → is_some (oldest_among place ts) ≡ false → summary place ts ≡ nothing_unwritten
 untouched place [] none = refl
 untouched place (t ∷ ts) none = absurd (clash (some-oldest place (t ∷ ts)) none)
   where
@@ -130,9 +130,9 @@ untouched place (t ∷ ts) none = absurd (clash (some-oldest place (t ∷ ts)) n
 
 -- what a row says of the touches of its page: of all, and of those since its open transfer began
 record Stands (place : ℕ → ℕ) (under : Bool) (begun later : Unwritten) (all since : List Touch) : Type 0 where
-  unwritten : joined begun later ≡ summary place all
+  unwritten : joined_unwritten begun later ≡ summary place all
   under_way : under ≡ true → later ≡ summary place since
-  at_rest : under ≡ false → begun ≡ nothing
+  at_rest : under ≡ false → begun ≡ nothing_unwritten
 
 Stands-row : (place : ℕ → ℕ) (h : List Effect) (p : ℕ) (row : Option Row) → IsRowOf place h p row → Stands place (is_under_way (open_of h) p) (begun_in row) (later_in row) (touches false h p) (touches true h p)
 Stands-row place h p row is = record { unwritten = is.unwritten; under_way = is.under_way; at_rest = is.at_rest }
@@ -162,33 +162,33 @@ Stands-touch place under q touch row all since is = record {
   at_rest = λ no. begun_touched q (place touch.place) touch.lsn row ∙ is.at_rest no;
 }
 
-Stands-cut : (place : ℕ → ℕ) (under : Bool) → Stands place under nothing nothing [] []
+Stands-cut : (place : ℕ → ℕ) (under : Bool) → Stands place under nothing_unwritten nothing_unwritten [] []
 Stands-cut place under = record { unwritten = refl; under_way = λ yes. refl; at_rest = λ no. refl }
 
-begun_begun : (row : Option Row) → begun_in (option_map begun_row row) ≡ joined (begun_in row) (later_in row)
+begun_begun : (row : Option Row) → begun_in (option_map begun_row row) ≡ joined_unwritten (begun_in row) (later_in row)
 begun_begun None = refl
 begun_begun (Some r) = refl
 
-later_begun : (row : Option Row) → later_in (option_map begun_row row) ≡ nothing
+later_begun : (row : Option Row) → later_in (option_map begun_row row) ≡ nothing_unwritten
 later_begun None = refl
 later_begun (Some r) = refl
 
 Stands-begun : (place : ℕ → ℕ) (under : Bool) (row : Option Row) (all since : List Touch) → Stands place under (begun_in row) (later_in row) all since
     → Stands place true (begun_in (option_map begun_row row)) (later_in (option_map begun_row row)) all []
 Stands-begun place under row all since is = record {
-  unwritten = rw (begun_begun row, later_begun row) (joined-nothing (joined (begun_in row) (later_in row)) ∙ is.unwritten);
+  unwritten = rw (begun_begun row, later_begun row) (joined-nothing (joined_unwritten (begun_in row) (later_in row)) ∙ is.unwritten);
   under_way = λ yes. later_begun row;
   at_rest = λ no. absurd (cc);
 }
 
 -- a row of which nothing is begun, kept while something of it is touched
-Stands-kept : (place : ℕ → ℕ) (r : Row) (all since : List Touch) → r.begun ≡ nothing → r.later ≡ summary place all → Stands place false (begun_in (kept_row r)) (later_in (kept_row r)) all since
+Stands-kept : (place : ℕ → ℕ) (r : Row) (all since : List Touch) → r.begun ≡ nothing_unwritten → r.later ≡ summary place all → Stands place false (begun_in (kept_row r)) (later_in (kept_row r)) all since
 Stands-kept place r all since begun later = go (is_touched r) refl
   where
     go : (t : Bool) → is_touched r ≡ t → Stands place false (begun_in (if t then Some r else None)) (later_in (if t then Some r else None)) all since
     go true is = record { unwritten = rw (begun, later) refl; under_way = λ yes. absurd (cc); at_rest = λ no. begun }
     go false is =
-        let both : is_some (lower nothing.oldest (summary place all).oldest) ≡ is_touched r =
+        let both : is_some (lower nothing_unwritten.oldest (summary place all).oldest) ≡ is_touched r =
         ap (λ (u : Unwritten). is_some (lower u.oldest (summary place all).oldest)) (sym begun) ∙ ap (λ (u : Unwritten). is_some (lower r.begun.oldest u.oldest)) (sym later) in
         record { unwritten = sym (untouched place all (both ∙ is)); under_way = λ yes. absurd (cc); at_rest = λ no. refl }
 

@@ -4,7 +4,7 @@ use Rattle.std.proofs.Common.{ap, sym, ◌∙◌, arith}
 use Rattle.cc_entry.specs.Lsns.{joined}
 use Rattle.cc_entry.specs.declared.entry.Entry.{Entry}
 use Rattle.cc_dirty.specs.declared.row.Row.{Row}
-use Rattle.cc_dirty.specs.Table.{is_of, Sound}
+use Rattle.cc_dirty.specs.Table.{is_row_of_stream, Sound}
 use Rattle.cc_journal.specs.Rows.{Follows}
 use Rattle.cc_model.specs.History.{Effect, history}
 use Rattle.cc_model.specs.Touches.{dirty_pages}
@@ -46,7 +46,7 @@ over-rows (r ∷ rows) lsns = over-rows rows (with_row lsns r) ∙ joined-joined
 
 -- what is found over the rows of a stream is what stands over its dirty pages
 pub lsns-rows : (past : List Entry) (s : ℕ) (rows : List Row) → Sound rows → Follows past rows
-    → fold with_row None (filter (is_of s) rows) ≡ lsns_over (history past s) (dirty_pages (history past s))
+    → fold with_row None (filter (is_row_of_stream s) rows) ≡ lsns_over (history past s) (dirty_pages (history past s))
 lsns-rows past s rows sound follows =
-    over-rows (filter (is_of s) rows) None
+    over-rows (filter (is_row_of_stream s) rows) None
     ∙ (ap over (sym (rows-are past s rows sound follows)) ∙ sym (over-pages (history past s) (dirty_pages (history past s))))

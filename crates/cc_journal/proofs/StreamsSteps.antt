@@ -19,11 +19,11 @@ use Rattle.cc_entry.specs.declared.reply.Outcome.TheVariants as outcome
 use Rattle.cc_entry.specs.declared.reply.Reply.{Reply}
 use Rattle.cc_dirty.specs.declared.row.Row.{Row}
 use Rattle.cc_dirty.specs.Unwritten.{begun_row, ended_row, kept_row}
-use Rattle.cc_dirty.specs.Table.{row_of, KeepsOthers, Sound, is_of}
+use Rattle.cc_dirty.specs.Table.{row_of, KeepsOtherRows, Sound, is_row_of_stream}
 use Rattle.cc_events.specs.declared.holding.Holding.TheVariants as holding
 use Rattle.cc_events.specs.declared.touching.Touching.{Touching}
 use Rattle.cc_events.specs.declared.touching.Touching.TheVariants as touching
-use Rattle.cc_events.specs.Events.{event_of, event_of_act, event_in}
+use Rattle.cc_events.specs.Events.{event_of, event_of_act, event_on}
 use Rattle.cc_events.specs.Holdings.{holding_of, holding_of_call}
 use Rattle.cc_events.specs.Touchings.{touching_of}
 use Rattle.cc_model.specs.Acts.{Act, act_of, Opens, Closes, Resizes, Writes, Zeroes, Stores, Stamps, Discards, Looks}
@@ -37,7 +37,7 @@ use Rattle.cc_model.specs.Touches.{touches, is_mapped}
 use Rattle.cc_stream.specs.Stream.{Stream, StreamStands, is_done}
 use Rattle.cc_stream.proofs.StreamSteps.{stands-other}
 use Rattle.cc_journal.specs.Alone.{IsOfStream}
-use Rattle.cc_journal.specs.Places.{Places, Holds, PlacesHolds}
+use Rattle.cc_journal.specs.Places.{HeldPlaces, ChangesHoldPlaces, PlacesHolds}
 use Rattle.cc_journal.specs.Rows.{Follows, ChangesRows, row_after}
 use Rattle.cc_journal.specs.Streams.{StreamsStand, no_state, KeepsTransfersIn, leaves_streams, is_of_call, is_written_behind, MarksWritten}
 use Rattle.cc_journal.specs.Scans.{is_marked}
@@ -70,7 +70,7 @@ holding_kept (Some (Ended pass page how)) other = refl
 holding_kept (Some (Synced pass how)) other = refl
 
 -- an entry that is no done call, with the rows that follow it
-by_rows : (e : Entry) (past : List Entry) (states : List Stream) (places : Places) (old new : List Row) → ((s : ℕ) → is_no_call (effect_of e s) ≡ true) → Follows (e ∷ past) new → StreamsStand past states places old → StreamsStand (e ∷ past) states places new
+by_rows : (e : Entry) (past : List Entry) (states : List Stream) (places : HeldPlaces) (old new : List Row) → ((s : ℕ) → is_no_call (effect_of e s) ≡ true) → Follows (e ∷ past) new → StreamsStand past states places old → StreamsStand (e ∷ past) states places new
 unfolding history
 by_rows e past states places old new other follows stands = record {
   each = λ s d within. state_kept (effect_of e s) (history past s) (slice_index_or states s d) (other s) (stands.each s d within);
@@ -82,7 +82,7 @@ choose : (b : Bool) (o : Option Effect) → is_no_call o ≡ true → keeps_rows
 choose true o call rows = (call, rows)
 choose false o call rows = (refl, refl)
 
-left_effect : (e : Entry) (s : ℕ) → leaves_streams e ≡ true → (is_no_call (effect_of e s) ≡ true) × (keeps_rows (event_in e s) ≡ true)
+left_effect : (e : Entry) (s : ℕ) → leaves_streams e ≡ true → (is_no_call (effect_of e s) ≡ true) × (keeps_rows (event_on e s) ≡ true)
 left_effect (entry.Call pass nth (Some stream) call (outcome.Done reply)) s left = absurd (cc)
 left_effect (entry.Call pass nth (Some stream) call (outcome.Failed error)) s left = (refl, refl)
 left_effect (entry.Call pass nth None call ended) s left = (refl, refl)
@@ -104,7 +104,7 @@ left_effect (entry.Locked pass file span exclusive granted id) s left = (refl, r
 left_effect (entry.Unlocked pass file id gone) s left = (refl, refl)
 left_effect (entry.Tested pass file span write conflict) s left = (refl, refl)
 
-pub stands_left : (e : Entry) (past : List Entry) (states : List Stream) (places : Places) (rows : List Row) → leaves_streams e ≡ true → StreamsStand past states places rows → StreamsStand (e ∷ past) states places rows
+pub stands_left : (e : Entry) (past : List Entry) (states : List Stream) (places : HeldPlaces) (rows : List Row) → leaves_streams e ≡ true → StreamsStand past states places rows → StreamsStand (e ∷ past) states places rows
 stands_left e past states places rows left stands =
     by_rows e past states places rows rows (λ s. (left_effect e s left).0) (follows_other e past rows (λ s. (left_effect e s left).1) stands.unwritten) stands
 
@@ -113,7 +113,7 @@ began_no_call : (b : Bool) (pass page : ℕ) → is_no_call (if b then Some (Beg
 began_no_call true pass page = refl
 began_no_call false pass page = refl
 
-pub stands_began : (pass : ℕ) (page : Page) (past : List Entry) (states : List Stream) (places : Places) (old new : List Row) → KeepsTransfersIn past (entry.WriteBegin pass page) → row_of new page ≡ option_map begun_row (row_of old page) → KeepsOthers old new page → StreamsStand past states places old → StreamsStand (entry.WriteBegin pass page ∷ past) states places new
+pub stands_began : (pass : ℕ) (page : Page) (past : List Entry) (states : List Stream) (places : HeldPlaces) (old new : List Row) → KeepsTransfersIn past (entry.WriteBegin pass page) → row_of new page ≡ option_map begun_row (row_of old page) → KeepsOtherRows old new page → StreamsStand past states places old → StreamsStand (entry.WriteBegin pass page ∷ past) states places new
 stands_began pass page past states places old new keeps begun others stands =
     by_rows (entry.WriteBegin pass page) past states places old new (λ s. began_no_call (page.stream == s) pass page.page)
     (follows_began pass page past old new (rw (eq-eqb page.stream page.stream refl) at (keeps page.stream)) begun others stands.unwritten)
@@ -124,7 +124,7 @@ ended_no_call : (b : Bool) (pass page : ℕ) (how : End) → is_no_call (if b th
 ended_no_call true pass page how = refl
 ended_no_call false pass page how = refl
 
-pub stands_ended : (pass : ℕ) (page : Page) (how : End) (past : List Entry) (states : List Stream) (places : Places) (old new : List Row) → KeepsTransfersIn past (entry.WriteEnd pass page how) → row_of new page ≡ option_and_then (λ r. kept_row (ended_row (ended_ok how) r)) (row_of old page) → KeepsOthers old new page → StreamsStand past states places old → StreamsStand (entry.WriteEnd pass page how ∷ past) states places new
+pub stands_ended : (pass : ℕ) (page : Page) (how : End) (past : List Entry) (states : List Stream) (places : HeldPlaces) (old new : List Row) → KeepsTransfersIn past (entry.WriteEnd pass page how) → row_of new page ≡ option_and_then (λ r. kept_row (ended_row (ended_ok how) r)) (row_of old page) → KeepsOtherRows old new page → StreamsStand past states places old → StreamsStand (entry.WriteEnd pass page how ∷ past) states places new
 stands_ended pass page how past states places old new keeps ended others stands =
     by_rows (entry.WriteEnd pass page how) past states places old new (λ s. ended_no_call (page.stream == s) pass page.page how)
     (follows_ended pass page how past old new (rw (eq-eqb page.stream page.stream refl) at (keeps page.stream)) ended others stands.unwritten)
@@ -134,7 +134,7 @@ apart : (b : Bool) → b ≡ true → b ≡ false → ⊥
 apart b yes_it no_it = absurd (cc)
 
 -- each of the 16 streams has its state among those that stand
-pub within_states : (past : List Entry) (states : List Stream) (places : Places) (rows : List Row) (s : ℕ) → s < 16 → StreamsStand past states places rows → s < length states
+pub within_states : (past : List Entry) (states : List Stream) (places : HeldPlaces) (rows : List Row) (s : ℕ) → s < 16 → StreamsStand past states places rows → s < length states
 within_states past states places rows s below stands = go (cases_lt s (length states))
   where
     -- past the last one, whatever stands for one past the last would have to stand for its history
@@ -148,7 +148,7 @@ within_states past states places rows s below stands = go (cases_lt s (length st
     go (inr beyond) = absurd (apart (had_map (history past s)) (sym (has true beyond)) (sym (has false beyond)))
 
 -- a done call
-pub stands_call : (pass nth stream : ℕ) (call : Call) (reply : Reply) (past : List Entry) (states : List Stream) (state : Stream) (places held : Places) (old new : List Row) → stream < length states → StreamStands (Did pass call reply ∷ history past stream) state → Holds places held stream (holding_of_call call (id_of reply)) → ChangesRows (suc (length past)) stream (λ p. touching_of (event_of_act (act_of call)) (history past stream) p) old new → StreamsStand past states places old → StreamsStand (entry.Call pass nth (Some stream) call (outcome.Done reply) ∷ past) (slice_set states stream state) held new
+pub stands_call : (pass nth stream : ℕ) (call : Call) (reply : Reply) (past : List Entry) (states : List Stream) (state : Stream) (places held : HeldPlaces) (old new : List Row) → stream < length states → StreamStands (Did pass call reply ∷ history past stream) state → ChangesHoldPlaces places held stream (holding_of_call call (id_of reply)) → ChangesRows (suc (length past)) stream (λ p. touching_of (event_of_act (act_of call)) (history past stream) p) old new → StreamsStand past states places old → StreamsStand (entry.Call pass nth (Some stream) call (outcome.Done reply) ∷ past) (slice_set states stream state) held new
 unfolding history
 stands_call pass nth stream call reply past states state places held old new within now holds changes stands = record {
   each = λ s d below. each s d below (stream == s) refl;
@@ -166,7 +166,7 @@ stands_call pass nth stream call reply past states state places held old new wit
     each s d below false away = rw (away, get_or-set_other states stream s state d (λ e. apart (stream == s) (eq-eqb stream s (sym e)) away)) (stands.each s d below)
 
 -- nothing happened yet
-pub stands_none : (states : List Stream) (places : Places) (rows : List Row) → ((s : ℕ) (d : Stream) → s < 16 → StreamStands [] (slice_index_or states s d)) → PlacesHolds [] places → rows ≡ [] → StreamsStand [] states places rows
+pub stands_none : (states : List Stream) (places : HeldPlaces) (rows : List Row) → ((s : ℕ) (d : Stream) → s < 16 → StreamStands [] (slice_index_or states s d)) → PlacesHolds [] places → rows ≡ [] → StreamsStand [] states places rows
 unfolding history touches open_of
 stands_none states places rows none held empty = record {
   each = none;
@@ -175,8 +175,8 @@ stands_none states places rows none held empty = record {
 }
 
 -- whether a stream has a map, by its objects and its rows
-pub mapped_by : (past : List Entry) (states : List Stream) (places : Places) (rows : List Row) (s : ℕ) (objects_open : Bool) → Sound rows → StreamsStand past states places rows → objects_open ≡ not (is_empty (objects (history past s))) → is_mapped (history past s) ≡ (objects_open || nat_lt 0 (count_by (is_of s) rows))
-mapped_by past states places rows s objects_open sound stands is = is_mapped-rows past rows stands.unwritten sound s ∙ ap (λ b. b || nat_lt 0 (count_by (is_of s) rows)) (sym is)
+pub mapped_by : (past : List Entry) (states : List Stream) (places : HeldPlaces) (rows : List Row) (s : ℕ) (objects_open : Bool) → Sound rows → StreamsStand past states places rows → objects_open ≡ not (is_empty (objects (history past s))) → is_mapped (history past s) ≡ (objects_open || nat_lt 0 (count_by (is_row_of_stream s) rows))
+mapped_by past states places rows s objects_open sound stands is = is_mapped-rows past rows stands.unwritten sound s ∙ ap (λ b. b || nat_lt 0 (count_by (is_row_of_stream s) rows)) (sym is)
 
 -- a stream with an open object has a map
 pub opened_by : (h : List Effect) → not (is_empty (objects h)) ≡ true → is_mapped h ≡ true
@@ -219,17 +219,17 @@ marked_rows past marks (r ∷ rows) marked below = go (is_marked marks r) (marke
     go true rest is same = rw (is, sym same ∙ is, rest) refl
     go false rest is same = rw (is, sym same ∙ is, rest) refl
 
-pub lazy_by : (past : List Entry) (states : List Stream) (places : Places) (rows : List Row) (marks : List Bool) → MarksWritten past marks → Sound rows → StreamsStand past states places rows → map (λ r. r.page) (filter (is_marked marks) rows) ≡ lazy_pages past
+pub lazy_by : (past : List Entry) (states : List Stream) (places : HeldPlaces) (rows : List Row) (marks : List Bool) → MarksWritten past marks → Sound rows → StreamsStand past states places rows → map (λ r. r.page) (filter (is_marked marks) rows) ≡ lazy_pages past
 lazy_by past states places rows marks marked sound stands =
     ap (map (λ (r : Row). r.page)) (marked_rows past marks rows marked sound.numbered) ∙ sym (lazy_pages-rows past rows stands.unwritten sound sound.numbered)
 
-pub total_by : (past : List Entry) (states : List Stream) (places : Places) (rows : List Row) → Sound rows → StreamsStand past states places rows → length rows ≡ dirty_total past
+pub total_by : (past : List Entry) (states : List Stream) (places : HeldPlaces) (rows : List Row) → Sound rows → StreamsStand past states places rows → length rows ≡ dirty_total past
 total_by past states places rows sound stands = dirty_total-rows past rows stands.unwritten sound sound.numbered
 
-pub count_of : (past : List Entry) (states : List Stream) (places : Places) (rows : List Row) (s : ℕ) → Sound rows → StreamsStand past states places rows → count_by (is_of s) rows ≡ dirty_count (history past s)
+pub count_of : (past : List Entry) (states : List Stream) (places : HeldPlaces) (rows : List Row) (s : ℕ) → Sound rows → StreamsStand past states places rows → count_by (is_row_of_stream s) rows ≡ dirty_count (history past s)
 count_of past states places rows s sound stands = dirty_count-rows past rows s stands.unwritten sound
 
-pub lazy_count_by : (past : List Entry) (states : List Stream) (places : Places) (rows : List Row) (marks : List Bool) → MarksWritten past marks → Sound rows → StreamsStand past states places rows → count_by (is_marked marks) rows ≡ length (lazy_pages past)
+pub lazy_count_by : (past : List Entry) (states : List Stream) (places : HeldPlaces) (rows : List Row) (marks : List Bool) → MarksWritten past marks → Sound rows → StreamsStand past states places rows → count_by (is_marked marks) rows ≡ length (lazy_pages past)
 lazy_count_by past states places rows marks marked sound stands =
     sym (length-filter (is_marked marks) rows)
     ∙ (sym (length-map (filter (is_marked marks) rows) (λ r. r.page)) ∙ ap length (lazy_by past states places rows marks marked sound stands))

@@ -10,9 +10,9 @@ use Rattle.cc_entry.specs.Pages.{has_page}
 use Rattle.cc_dirty.specs.declared.row.Row.{Row}
 use Rattle.cc_dirty.specs.Order.{same_page}
 use Rattle.cc_dirty.specs.Unwritten.{touched_row}
-use Rattle.cc_dirty.specs.Table.{Table, row_of, new_rows, KeepsOthers}
+use Rattle.cc_dirty.specs.Table.{Table, row_of, new_rows, KeepsOtherRows}
 use Rattle.cc_events.specs.Touchings.{touch_if}
-use Rattle.cc_journal.specs.Rows.{row_after, is_absent, absent_count, absent_in, ChangesRows}
+use Rattle.cc_journal.specs.Rows.{row_after, is_absent, absent_count, absent_count_from, ChangesRows}
 
 -- whether a page number is from `from` up to, and without, `to`
 abbrev pub is_in : ℕ → ℕ → ℕ → Bool
@@ -38,7 +38,7 @@ touches_none s from place lsn rows q = go (q.stream == s) out
     go false is = refl
 
 -- one page more
-pub touches_more : (s from i : ℕ) (place : ℕ) (lsn : Option ℕ) (page : Page) (old now new : List Row) → from ≤ i → page.stream ≡ s → page.page ≡ i → row_of new page ≡ Some (touched_row page place lsn (row_of now page)) → KeepsOthers now new page → TouchesTo s from i place lsn old now → TouchesTo s from (i + 1) place lsn old new
+pub touches_more : (s from i : ℕ) (place : ℕ) (lsn : Option ℕ) (page : Page) (old now new : List Row) → from ≤ i → page.stream ≡ s → page.page ≡ i → row_of new page ≡ Some (touched_row page place lsn (row_of now page)) → KeepsOtherRows now new page → TouchesTo s from i place lsn old now → TouchesTo s from (i + 1) place lsn old new
 touches_more s from i place lsn page old now new above of_stream at touched others before q = go (same_page q page) refl
   where
     other_place : (b : Bool) → (q.stream == s) ≡ b → same_page q page ≡ false → row_if (q.stream == s) (is_in from i q.page) place lsn q (row_of old q) ≡ row_if (q.stream == s) (is_in from (i + 1) q.page) place lsn q (row_of old q)
@@ -70,33 +70,33 @@ added None = refl
 added (Some row) = refl
 
 -- the first of some pages is counted where it is absent
-absent_first : (rows : List Row) (s from n : ℕ) → absent_in rows s from (suc n) ≡ (if is_absent rows (record { stream = s; page = from }) then 1 else 0) + absent_in rows s (from + 1) n
+absent_first : (rows : List Row) (s from n : ℕ) → absent_count_from rows s from (suc n) ≡ (if is_absent rows (record { stream = s; page = from }) then 1 else 0) + absent_count_from rows s (from + 1) n
 absent_first rows s from n = sum_by-cons (λ p. if is_absent rows (record { stream = s; page = p }) then 1 else 0) from (range_with_len (from + 1) n)
 
 -- a touch of one page leaves absent what was absent from a later number on
-absent_later : (s from n i : ℕ) (page : Page) (now new : List Row) → i < from → page.stream ≡ s → page.page ≡ i → KeepsOthers now new page → absent_in new s from n ≡ absent_in now s from n
+absent_later : (s from n i : ℕ) (page : Page) (now new : List Row) → i < from → page.stream ≡ s → page.page ≡ i → KeepsOtherRows now new page → absent_count_from new s from n ≡ absent_count_from now s from n
 absent_later s from zero i page now new below of_stream at others = refl
 absent_later s from (suc n) i page now new below of_stream at others =
     let other : same_page (record { stream = s; page = from }) page ≡ false = grind (arith, nat_tests) in
     let same : is_absent new (record { stream = s; page = from }) ≡ is_absent now (record { stream = s; page = from }) = ap (λ (o : Option Row). elim o [ None ↦ true | Some row ↦ false ]) (others (record { stream = s; page = from }) other) in
     absent_first new s from n
-    ∙ (ap (λ b. (if b then 1 else 0) + absent_in new s (from + 1) n) same
+    ∙ (ap (λ b. (if b then 1 else 0) + absent_count_from new s (from + 1) n) same
     ∙ (ap (λ k. (if is_absent now (record { stream = s; page = from }) then 1 else 0) + k) (absent_later s (from + 1) n i page now new (omega (arith, below)) of_stream at others)
     ∙ sym (absent_first now s from n)))
 
 -- the rows while the pages are touched: those before a number are, and there is room for the rest
 pub record TouchedSoFar (s from to i : ℕ) (place : ℕ) (lsn : Option ℕ) (old now : Table) : Type 0 where
   pub rows : TouchesTo s from i place lsn old.rows now.rows
-  pub room : length now.rows + absent_in now.rows s i (to - i) ≤ now.capacity
+  pub room : length now.rows + absent_count_from now.rows s i (to - i) ≤ now.capacity
   pub capacity : now.capacity ≡ old.capacity
 
 -- the next page is counted where it is absent
-next_count : (s i to : ℕ) (rows : List Row) → i < to → absent_in rows s i (to - i) ≡ new_rows (row_of rows (record { stream = s; page = i })) + absent_in rows s (i + 1) (to - (i + 1))
+next_count : (s i to : ℕ) (rows : List Row) → i < to → absent_count_from rows s i (to - i) ≡ new_rows (row_of rows (record { stream = s; page = i })) + absent_count_from rows s (i + 1) (to - (i + 1))
 next_count s i to rows more =
     let one : to - i ≡ suc (to - (i + 1)) = omega (arith, more) in
-    ap (absent_in rows s i) one
+    ap (absent_count_from rows s i) one
     ∙ (absent_first rows s i (to - (i + 1))
-    ∙ ap (λ k. k + absent_in rows s (i + 1) (to - (i + 1))) (sym (added (row_of rows (record { stream = s; page = i })))))
+    ∙ ap (λ k. k + absent_count_from rows s (i + 1) (to - (i + 1))) (sym (added (row_of rows (record { stream = s; page = i })))))
 
 -- there is room for the next page
 pub touch_fits : (s from to i : ℕ) (place : ℕ) (lsn : Option ℕ) (old now : Table) (page : Page) → i < to → page.stream ≡ s → page.page ≡ i → TouchedSoFar s from to i place lsn old now → IsSome (row_of now.rows page) ⊎ (length now.rows < now.capacity)
@@ -112,7 +112,7 @@ touch_fits s from to i place lsn old now page more of_stream at so_far = go (row
     go (Some row) found = inl refl
 
 -- one page more is touched
-pub touch_step : (s from to i : ℕ) (place : ℕ) (lsn : Option ℕ) (old now new : Table) (page : Page) → from ≤ i → i < to → page.stream ≡ s → page.page ≡ i → row_of new.rows page ≡ Some (touched_row page place lsn (row_of now.rows page)) → KeepsOthers now.rows new.rows page → length new.rows ≡ length now.rows + new_rows (row_of now.rows page) → new.capacity ≡ now.capacity → TouchedSoFar s from to i place lsn old now → TouchedSoFar s from to (i + 1) place lsn old new
+pub touch_step : (s from to i : ℕ) (place : ℕ) (lsn : Option ℕ) (old now new : Table) (page : Page) → from ≤ i → i < to → page.stream ≡ s → page.page ≡ i → row_of new.rows page ≡ Some (touched_row page place lsn (row_of now.rows page)) → KeepsOtherRows now.rows new.rows page → length new.rows ≡ length now.rows + new_rows (row_of now.rows page) → new.capacity ≡ now.capacity → TouchedSoFar s from to i place lsn old now → TouchedSoFar s from to (i + 1) place lsn old new
 touch_step s from to i place lsn old now new page above more of_stream at touched others count capacity so_far = record {
   rows = touches_more s from i place lsn page old.rows now.rows new.rows above of_stream at touched others so_far.rows;
   room = omega (arith, so_far.room, next_count s i to now.rows more, count, ap (λ p. new_rows (row_of now.rows p)) is, absent_later s (i + 1) (to - (i + 1)) i page now.rows new.rows (omega arith) of_stream at others, capacity);
@@ -140,7 +140,7 @@ touches_nothing s from to place lsn rows empty q = go (q.stream == s) out
     go false is = refl
 
 -- the room of a range is that of its pages' numbers
-pub range_absent : (s from to : ℕ) (rows : List Row) → from < to → absent_count rows s (record { from = from; to = to }) ≡ absent_in rows s (from / 4096) (((to - 1) / 4096 + 1) - from / 4096)
+pub range_absent : (s from to : ℕ) (rows : List Row) → from < to → absent_count rows s (record { from = from; to = to }) ≡ absent_count_from rows s (from / 4096) (((to - 1) / 4096 + 1) - from / 4096)
 range_absent s from to rows some = rw (lt-ltb from to some) refl
 
 -- a range has its last page, so that lies where all of them do

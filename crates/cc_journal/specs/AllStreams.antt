@@ -5,9 +5,9 @@ use Rattle.cc_journal.specs.declared.streams.Streams.{Streams}
 use Rattle.cc_journal.specs.Streams.{StreamsStand, HasRoomForEntry}
 
 -- it stands for a past
-abbrev pub StandFor : List Entry → Streams → Type 0
-StandFor past s = StreamsStand past s.states.value s.places.places.entries s.dirty.rows
+abbrev pub StreamsStandFor : List Entry → Streams → Type 0
+StreamsStandFor past s = StreamsStand past s.states.value s.places.places.entries s.dirty.rows
 
 -- there is room in it for what an entry touches
-abbrev pub HasRoomIn : Streams → Entry → Type 0
-HasRoomIn s e = HasRoomForEntry s.states.value s.places.places.entries s.dirty e
+abbrev pub HasRoomInStreams : Streams → Entry → Type 0
+HasRoomInStreams s e = HasRoomForEntry s.states.value s.places.places.entries s.dirty e

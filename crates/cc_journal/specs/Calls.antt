@@ -20,22 +20,22 @@ abbrev pub owed_end : List Entry → ℕ → ℕ
 owed_end past me = if owes_store past me then 1 else 0
 
 -- a count, 0 where there is none, and whether an end is owed, which is not so where there is none
-abbrev pub counted : Option PassCalls → ℕ
-counted None = 0
-counted (Some calls) = calls.count
+abbrev pub call_count : Option PassCalls → ℕ
+call_count None = 0
+call_count (Some calls) = calls.count
 
 abbrev pub owing : Option PassCalls → Bool
 owing None = false
 owing (Some calls) = calls.owes
 
 -- the count of a pass, and whether it owes an end
-abbrev pub count_in : List (ℕ × PassCalls) → ℕ → ℕ
-count_in counts pass = counted (lookup (nat_eq pass) counts)
+abbrev pub call_count_in : List (ℕ × PassCalls) → ℕ → ℕ
+call_count_in counts pass = call_count (lookup (nat_eq pass) counts)
 
 abbrev pub owes_in : List (ℕ × PassCalls) → ℕ → Bool
 owes_in counts pass = owing (lookup (nat_eq pass) counts)
 
 -- they are those of a past
 pub record CountsCalls (past : List Entry) (counts : List (ℕ × PassCalls)) : Type 0 where
-  pub count : (pass : ℕ) → count_in counts pass ≡ calls_of past pass
+  pub count : (pass : ℕ) → call_count_in counts pass ≡ calls_of past pass
   pub owes : (pass : ℕ) → owes_in counts pass ≡ owes_store past pass

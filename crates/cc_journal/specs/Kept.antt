@@ -7,13 +7,13 @@ use Rattle.cc_model.specs.Cache.{holds_made}
 use Rattle.cc_stream.specs.Stream.{Stream}
 use Rattle.cc_journal.specs.Calls.{CountsCalls}
 use Rattle.cc_journal.specs.declared.calls.PassCalls.{PassCalls}
-use Rattle.cc_journal.specs.Places.{Places}
+use Rattle.cc_journal.specs.Places.{HeldPlaces}
 use Rattle.cc_journal.specs.Queue.{Waiting, QueueStands}
 use Rattle.cc_journal.specs.Scans.{ScansStand}
 use Rattle.cc_journal.specs.Streams.{StreamsStand}
 
 -- all of it
-pub record Kept {Q : Type 0} (past : List Entry) (states : List Stream) (places : Places) (table : Table)
+pub record KeptStands {Q : Type 0} (past : List Entry) (states : List Stream) (places : HeldPlaces) (table : Table)
     (counts : List (ℕ × PassCalls)) (holds : ℕ) (waiting : Waiting Q) (total : ℕ) (last : Option Page) : Type 0 where
   pub streams : StreamsStand past states places table.rows
   pub calls : CountsCalls past counts

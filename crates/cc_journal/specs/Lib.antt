@@ -1,4 +1,5 @@
 -- What the contracts of the journal cite.
+pub mod Entries
 pub mod Alone
 pub mod Calls
 pub mod Places

@@ -6,18 +6,18 @@ use Rattle.cc_entry.specs.declared.entry.Entry.{Entry}
 use Rattle.cc_entry.specs.declared.entry.Entry.TheVariants as entry
 use Rattle.cc_entry.specs.declared.error.CcError.{CcError}
 use Rattle.cc_entry.specs.declared.error.CcError.TheVariants as error
-use Rattle.cc_locks.specs.Locks.{Held}
+use Rattle.cc_locks.specs.Locks.{HeldLocks}
 use Rattle.cc_model.specs.Locks.{locks_of}
 use Rattle.cc_journal.specs.Journal.{JournalState}
 
 -- there are those of 16 streams, each at its number
-pub record AreNumbered (locks : List Held) : Type 0 where
+pub record LocksAreNumbered (locks : List HeldLocks) : Type 0 where
   pub count : length locks ≡ 16
-  pub each : (s : ℕ) (d : Held) → s < 16 → (slice_index_or locks s d).stream ≡ s
+  pub each : (s : ℕ) (d : HeldLocks) → s < 16 → (slice_index_or locks s d).stream ≡ s
 
 -- they are the locks of each stream after a past
-abbrev pub LocksStand : List Entry → List Held → Type 0
-LocksStand past locks = (s : ℕ) (d : Held) → s < 16 → (slice_index_or locks s d).table ≡ locks_of past s
+abbrev pub LocksStand : List Entry → List HeldLocks → Type 0
+LocksStand past locks = (s : ℕ) (d : HeldLocks) → s < 16 → (slice_index_or locks s d).table ≡ locks_of past s
 
 -- whether an entry tells of a call that made or ended a lock
 abbrev pub is_lock_call : Entry → Bool
@@ -58,18 +58,18 @@ pub record EndsLock {Q : Type 0} (old new : JournalState Q) (pass : ℕ) (file :
   }
 
 -- the same of what is kept of the streams' locks, whichever pass calls
-pub record Granted (past : List Entry) (new : List Held) (file : File) (range : Range) (exclusive : Bool) (id : ℕ) : Type 0 where
+pub record Granted (past : List Entry) (new : List HeldLocks) (file : File) (range : Range) (exclusive : Bool) (id : ℕ) : Type 0 where
   pub free : lock_in_way past file range exclusive ≡ None
   pub next : id ≡ suc (locks_of past file.stream).granted
   pub stands : (pass : ℕ) → LocksStand (entry.Locked pass file range exclusive true id ∷ past) new
 
-abbrev pub Refused : List Entry → List Held → List Held → File → Range → Bool → CcError → Type 0
+abbrev pub Refused : List Entry → List HeldLocks → List HeldLocks → File → Range → Bool → CcError → Type 0
 Refused past old new file range exclusive (error.LockConflict id) =
     (lock_in_way past file range exclusive ≡ Some id)
     × ((pass : ℕ) → LocksStand (entry.Locked pass file range exclusive false id ∷ past) new)
 Refused past old new file range exclusive error.NoMemory = (lock_in_way past file range exclusive ≡ None) × (new ≡ old)
 Refused past old new file range exclusive _ = ⊥
 
-pub record Ended (past : List Entry) (new : List Held) (file : File) (id : ℕ) (gone : Bool) : Type 0 where
+pub record LockEnded (past : List Entry) (new : List HeldLocks) (file : File) (id : ℕ) (gone : Bool) : Type 0 where
   pub owned : gone ≡ unlock_answer (locks_of past file.stream) file id
   pub stands : (pass : ℕ) → LocksStand (entry.Unlocked pass file id gone ∷ past) new

@@ -21,8 +21,8 @@ abbrev pub SameIds : {Q : Type 0} → List Deferral → List (ℕ × Q) → Type
 SameIds deferrals routines = map (λ w. w.0) routines ≡ map (λ d. d.id) deferrals
 
 -- the writes without their routines
-abbrev pub deferrals_of : {Q : Type 0} → List (Deferral × Q) → List Deferral
-deferrals_of writes = map (λ w. w.0) writes
+abbrev pub deferrals_of_writes : {Q : Type 0} → List (Deferral × Q) → List Deferral
+deferrals_of_writes writes = map (λ w. w.0) writes
 
 -- the ids of the writes with their routines
 abbrev pub routines_of : {Q : Type 0} → List (Deferral × Q) → List (ℕ × Q)
@@ -30,7 +30,7 @@ routines_of writes = map (λ w. (w.0.id, w.1)) writes
 
 -- the writes that wait are those of a past's queue
 abbrev pub QueueStands : {Q : Type 0} → List Entry → List (Deferral × Q) → ℕ → Type 0
-QueueStands past writes count = (deferrals_of writes ≡ queue past) × (count ≡ deferred past)
+QueueStands past writes count = (deferrals_of_writes writes ≡ queue past) × (count ≡ deferred past)
 
 -- no routine that waits was posted
 abbrev pub AllUnposted : {Q : Type 0} → (Q → Bool) → List (Deferral × Q) → Type 0

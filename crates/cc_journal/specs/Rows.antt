@@ -8,10 +8,10 @@ use Rattle.cc_entry.specs.Pages.{pages_of}
 use Rattle.cc_entry.specs.declared.entry.Entry.{Entry}
 use Rattle.cc_dirty.specs.declared.row.Unwritten.{Unwritten}
 use Rattle.cc_dirty.specs.declared.row.Row.{Row}
-use Rattle.cc_dirty.specs.Unwritten.{nothing, lower, joined, touched_row, begun_row, ended_row, kept_row}
+use Rattle.cc_dirty.specs.Unwritten.{nothing_unwritten, lower, joined_unwritten, touched_row, begun_row, ended_row, kept_row}
 use Rattle.cc_dirty.specs.Table.{row_of}
-use Rattle.cc_events.specs.declared.event.Event.{Event}
-use Rattle.cc_events.specs.declared.event.Event.TheVariants as event
+use Rattle.cc_events.specs.declared.event.StreamEvent.{StreamEvent}
+use Rattle.cc_events.specs.declared.event.StreamEvent.TheVariants as event
 use Rattle.cc_events.specs.declared.touching.Touching.{Touching}
 use Rattle.cc_events.specs.declared.touching.Touching.TheVariants as touching
 use Rattle.cc_events.specs.Touchings.{touching_of}
@@ -47,19 +47,19 @@ is_under_way (Some transfer) p = transfer.page == p
 
 -- what an open transfer took of a page, and what was touched since; nothing where the page has no row
 abbrev pub begun_in : Option Row → Unwritten
-begun_in None = nothing
+begun_in None = nothing_unwritten
 begun_in (Some row) = row.begun
 
 abbrev pub later_in : Option Row → Unwritten
-later_in None = nothing
+later_in None = nothing_unwritten
 later_in (Some row) = row.later
 
 -- A row stands for a page, given the place of each effect: both parts together are what is unwritten. While the page's
 -- transfer is open, the later part is what a good end would leave; else nothing is begun.
 pub record IsRowOf (place : ℕ → ℕ) (h : List Effect) (p : ℕ) (row : Option Row) : Type 0 where
-  pub unwritten : joined (begun_in row) (later_in row) ≡ summary place (touches false h p)
+  pub unwritten : joined_unwritten (begun_in row) (later_in row) ≡ summary place (touches false h p)
   pub under_way : is_under_way (open_of h) p ≡ true → later_in row ≡ summary place (touches true h p)
-  pub at_rest : is_under_way (open_of h) p ≡ false → begun_in row ≡ nothing
+  pub at_rest : is_under_way (open_of h) p ≡ false → begun_in row ≡ nothing_unwritten
 
 -- the rows stand for a past: each page has its row
 abbrev pub Follows : List Entry → List Row → Type 0
@@ -74,12 +74,12 @@ row_after place touching.Begins q row = option_map begun_row row
 row_after place touching.Ends q row = row
 
 -- the row of a page of the stream after an event at a place, given the stream before it
-abbrev pub row_by : ℕ → Event → List Effect → Page → Option Row → Option Row
+abbrev pub row_by : ℕ → StreamEvent → List Effect → Page → Option Row → Option Row
 row_by place (event.Ended page ok) h q row = if page == q.page then option_and_then (λ r. kept_row (ended_row ok r)) row else row
 row_by place other h q row = row_after place (touching_of other h q.page) q row
 
 -- an event keeps one transfer at a time: one begins where none is open, and the open one ends
-abbrev pub KeepsTransfers : Event → List Effect → Type 0
+abbrev pub KeepsTransfers : StreamEvent → List Effect → Type 0
 KeepsTransfers (event.Began page) h = open_of h ≡ None
 KeepsTransfers (event.Ended page ok) h = is_under_way (open_of h) page ≡ true
 KeepsTransfers other h = Unit {0}
@@ -93,8 +93,8 @@ abbrev pub absent_count : List Row → ℕ → Range → ℕ
 absent_count rows stream range = count_by (λ p. is_absent rows (record { stream = stream; page = p })) (pages_of range)
 
 -- how many of n pages from a number on have no row yet
-abbrev pub absent_in : List Row → ℕ → ℕ → ℕ → ℕ
-absent_in rows stream from n = count_by (λ p. is_absent rows (record { stream = stream; page = p })) (range_with_len from n)
+abbrev pub absent_count_from : List Row → ℕ → ℕ → ℕ → ℕ
+absent_count_from rows stream from n = count_by (λ p. is_absent rows (record { stream = stream; page = p })) (range_with_len from n)
 
 -- something befell the touches of each page of one stream at a place, and nothing those of others
 abbrev pub ChangesRows : ℕ → ℕ → (ℕ → Touching) → List Row → List Row → Type 0

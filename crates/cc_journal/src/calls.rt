@@ -7,7 +7,7 @@ ghost use Rattle.cc_entry.specs.declared.entry.Entry.TheVariants as entry;
 ghost use Rattle.cc_entry.specs.declared.call.Call.{Call};
 ghost use Rattle.cc_entry.specs.declared.reply.Outcome.{Outcome};
 ghost use Rattle.cc_model.specs.Passes.{is_store};
-ghost use Rattle.cc_journal.specs.Calls.{count_in, owes_in, CountsCalls};
+ghost use Rattle.cc_journal.specs.Calls.{call_count_in, owes_in, CountsCalls};
 
 use cc_entry::{Call, Entry, NoMemory, Outcome};
 use indexmap::IndexMap;
@@ -40,7 +40,7 @@ impl CallCounts {
 
     /// How many calls of the pass have ended.
     pub(crate) fn of(&self, pass: u32) -> u64
-        ensures { result ≡ count_in self.now.counts.entries pass }
+        ensures { result ≡ call_count_in self.now.counts.entries pass }
     {
         match self.counts.get(&pass) {
             Some(calls) => calls.count,
@@ -70,7 +70,7 @@ impl CallCounts {
     /// Counts one more ended call of the pass, which is a done noncached store or is none.
     pub(crate) fn count(&mut self, pass: u32, owes: bool)
         requires room { 0 < spare self.old.counts }
-        requires few { count_in self.old.counts.entries pass < 2 ^ 64 - 1 }
+        requires few { call_count_in self.old.counts.entries pass < 2 ^ 64 - 1 }
         ensures counted { (past : List Entry) (nth : ℕ) (stream : Option ℕ) (call : Call) (ended : Outcome) →
             owes ≡ is_store call ended → CountsCalls past self.old.counts.entries →
             CountsCalls (entry.Call pass nth stream call ended ∷ past) self.new.counts.entries }
@@ -83,7 +83,7 @@ impl CallCounts {
     /// Follows an entry.
     pub(crate) fn follow(&mut self, entry: &Entry)
         requires room { 0 < spare self.old.counts }
-        requires few { (pass : ℕ) → count_in self.old.counts.entries pass < 2 ^ 64 - 1 }
+        requires few { (pass : ℕ) → call_count_in self.old.counts.entries pass < 2 ^ 64 - 1 }
         ensures counted { (past : List Entry) → CountsCalls past self.old.counts.entries →
             CountsCalls (entry.now ∷ past) self.new.counts.entries }
         ensures room { spare self.old.counts ≤ spare self.new.counts + 1 }

@@ -1,7 +1,7 @@
 //! The journal: entries, and what is kept of them.
 
 ghost use Rattle.std.specs.Prelude.{◌≡◌, ◌↔◌, ℕ, suc, ◌+◌, ◌-◌, ◌^◌, ◌<◌, ◌≤◌, true, false, if◌then◌else◌, [], ◌∷◌, ◌++◌, List, Option, Some, slice_get, length, reverse, map, IsOk, OnOk, OnErr, IfOk, IsErrOf, IfErr, All, drop, ◌⊎◌, ◌==◌, ◌&&◌, ◌||◌, nat_lt};
-ghost use Rattle.std.specs.Option.{option_map};
+ghost use Rattle.std.specs.Option.{option_copied, option_map};
 ghost use Rattle.cc_entry.specs.declared.call.Call.TheVariants as call;
 ghost use Rattle.cc_entry.specs.declared.entry.Entry.{Entry};
 ghost use Rattle.cc_entry.specs.declared.entry.Entry.TheVariants as entry;
@@ -21,10 +21,11 @@ ghost use Rattle.cc_model.specs.Throttle.{may_go, queue, deferred};
 ghost use Rattle.cc_model.specs.Pick.{pick};
 ghost use Rattle.cc_journal.specs.Journal.{JournalState, room_of, MayBePushed, limited, head_may_go};
 ghost use Rattle.cc_journal.specs.Locks.{is_lock_call, GrantsLock, RefusesLock, EndsLock};
-ghost use Rattle.cc_journal.specs.Queue.{AllUnposted, deferrals_of, routines_of};
+ghost use Rattle.cc_journal.specs.Queue.{AllUnposted, deferrals_of_writes, routines_of};
 ghost use Rattle.cc_journal.specs.Rows.{Follows};
 
 use crate::calls::CallCounts;
+use crate::entries::KeptEntries;
 use crate::locks::StreamLocks;
 use crate::queue::Deferred;
 use crate::scans::Scans;
@@ -36,15 +37,15 @@ use cc_traits::{PostRoutine, PostedRoutine};
 use std::alloc::Global;
 use std::marker::Model;
 
-/// The entries of a run, and beside them what others ask of them, so that no call of a run searches them.
+/// The entries of a run, and beside them what others ask of them, so that no call of a run searches them. With a capacity below
+/// 2 ^ 32 the journal is recorded: it keeps all of them. Else it keeps the last alone, and all else is the same.
 #[derive(Drop)]
 pub struct Journal<Q = Box<dyn PostRoutine + Send>> {
     alloc: Global,
     capacity: u64,
     threshold: u32,
     logs: u8,
-    /// The oldest first.
-    entries: Vec<Entry>,
+    entries: KeptEntries,
     /// How many entries more are promised a place; there is memory for them.
     reserved: u64,
     streams: Streams,
@@ -57,10 +58,10 @@ pub struct Journal<Q = Box<dyn PostRoutine + Send>> {
 }
 
 impl<Q> Model for Journal<Q> {
-    ghost use Rattle.std.specs.Prelude.{reverse, length, ◌-◌, vec_len, vec_capacity};
+    ghost use Rattle.std.specs.Prelude.{◌≡◌, ◌^◌, ◌<◌, true, length};
     ghost use Rattle.indexmap.specs.IndexMap.{spare};
     ghost use Rattle.cc_journal.specs.Journal.{JournalState};
-    ghost use Rattle.cc_journal.specs.Kept.{Kept, HasMemory};
+    ghost use Rattle.cc_journal.specs.Kept.{KeptStands, HasMemory};
     ghost use Rattle.cc_journal.specs.Locks.{LocksStand};
 
     ghost Value = { JournalState Q };
@@ -69,22 +70,23 @@ impl<Q> Model for Journal<Q> {
       capacity = j.capacity;
       threshold = j.threshold;
       logs = j.logs;
-      entries = reverse j.entries.items;
+      entries = j.entries.past;
       reserved = j.reserved;
       rows = j.streams.dirty.rows;
       queue = j.waiting.writes;
     } };
 
     ghost invariant = { λ j.
-        Kept (reverse j.entries.items) j.streams.states.value j.streams.places.places.entries j.streams.dirty
+        KeptStands j.entries.past j.streams.states.value j.streams.places.places.entries j.streams.dirty
         j.calls.counts.entries j.holds j.waiting j.scans.total j.scans.cursor
-        × HasMemory j.capacity (vec_len j.entries) j.reserved (vec_capacity j.entries - vec_len j.entries)
+        × HasMemory j.capacity (length j.entries.past) j.reserved j.entries.room
         (spare j.streams.places.places) (spare j.calls.counts)
-        × LocksStand (reverse j.entries.items) j.locks };
+        × LocksStand j.entries.past j.locks
+        × (j.capacity < 2 ^ 32 → j.entries.is_recorded ≡ true) };
 }
 
 impl<Q: PostRoutine> Journal<Q> {
-    /// An empty journal, with room for all rows of the dirty page table and for 64 deferred writes. Answers `NoMemory`
+    /// An empty journal, recorded where its capacity is below 2 ^ 32, with room for all rows of the dirty page table and for 64 deferred writes. Answers `NoMemory`
     /// where memory is wanting.
     pub fn new(
         alloc: Global,
@@ -101,7 +103,7 @@ impl<Q: PostRoutine> Journal<Q> {
             capacity,
             threshold,
             logs,
-            entries: Vec::new(alloc),
+            entries: KeptEntries::new(alloc, is_recorded(capacity)),
             reserved: 0,
             streams: Streams::new(alloc)?,
             calls: CallCounts::new(alloc),
@@ -179,11 +181,26 @@ impl<Q> Journal<Q> {
         self.logs
     }
 
-    /// The entries, the oldest first.
+    /// The entries of a recorded journal, the oldest first.
     pub fn entries(&self) -> &[Entry]
+        requires { self.now.capacity < 2 ^ 32 }
         ensures { reverse result.now ≡ self.now.entries }
     {
-        &self.entries
+        self.entries.all()
+    }
+
+    /// How many entries there are.
+    pub fn len(&self) -> u64
+        ensures { result ≡ length self.now.entries }
+    {
+        self.entries.len()
+    }
+
+    /// The last entry.
+    pub fn last(&self) -> Option<&Entry>
+        ensures { option_copied result ≡ slice_get self.now.entries 0 }
+    {
+        self.entries.last()
     }
 
     /// Notes that the entries and the reserved places are within the capacity.
@@ -198,7 +215,7 @@ impl<Q> Journal<Q> {
     pub fn room(&self) -> u64
         ensures { result ≡ room_of self.now }
     {
-        self.capacity - self.entries.len() as u64 - self.reserved
+        self.capacity - self.entries.len() - self.reserved
     }
 
     /// Promises a place to so many entries, and takes the memory for them.
@@ -212,7 +229,7 @@ impl<Q> Journal<Q> {
     {
         if self.room() < n {
             return Err(CcError::JournalFull {
-                entries: self.entries.len() as u64,
+                entries: self.entries.len(),
             });
         }
         let all = (self.reserved + n) as usize;
@@ -304,7 +321,7 @@ impl<Q> Journal<Q> {
         // The rows' order is what says that there is room for those of the entry.
         let _rows = self.streams.dirty().rows();
         let looked_at = self.looked_at(&entry);
-        let place = self.entries.len() as u64 + 1;
+        let place = self.entries.len() + 1;
         self.streams.follow(&entry, place);
         self.calls.follow(&entry);
         self.scans.follow(&entry, looked_at);
@@ -431,9 +448,10 @@ impl<Q> Journal<Q> {
         self.scans.pick(self.alloc, &pages, self.threshold)
     }
 
-    /// All that was kept: the entries, the oldest first, and the routines that wait with the ids of their
+    /// All that a recorded journal kept: the entries, the oldest first, and the routines that wait with the ids of their
     /// writes, the head first. It takes no memory.
     pub fn end(self) -> (Vec<Entry>, Vec<(u64, Q)>)
+        requires { self.capacity < 2 ^ 32 }
         ensures entries { reverse result.0.items ≡ self.entries }
         ensures routines { result.1.items ≡ routines_of self.queue }
         ensures ids { map (λ w. w.0) result.1.items ≡ map (λ d. d.id) (queue self.entries) }
@@ -443,8 +461,24 @@ impl<Q> Journal<Q> {
             waiting,
             ..
         } = self;
-        (entries, waiting.into_writes())
+        (entries.into_all(), waiting.into_writes())
     }
+
+    /// The routines that wait with the ids of their writes, the head first. It takes no memory.
+    pub fn leave(self) -> Vec<(u64, Q)>
+        ensures routines { result.items ≡ routines_of self.queue }
+        ensures ids { map (λ w. w.0) result.items ≡ map (λ d. d.id) (queue self.entries) }
+    {
+        let Journal { waiting, .. } = self;
+        waiting.into_writes()
+    }
+}
+
+// Whether a journal of a capacity is recorded.
+fn is_recorded(capacity: u64) -> bool
+    ensures { capacity < 2 ^ 32 → result ≡ true }
+{
+    capacity < 1 << 32
 }
 
 // Whether so many pages beside the dirty ones of all streams stay below the cache's threshold, and beside those

@@ -20,6 +20,7 @@
 
 mod any;
 mod calls;
+mod entries;
 mod journal;
 pub mod laws;
 mod locks;
@@ -35,5 +36,5 @@ mod table;
 pub use any::is_any_dirty;
 pub use journal::Journal;
 pub use oldest::{is_settled_since, oldest_unwritten};
-pub use parts::Parts;
+pub use parts::{Left, Parts};
 pub use stamped::{dirty_table, lsns};

@@ -3,7 +3,7 @@
 ghost use Rattle.std.specs.Prelude.{◌≡◌, [], List, IfOk, IfErr};
 ghost use Rattle.cc_entry.specs.declared.entry.Entry.{Entry};
 ghost use Rattle.cc_model.specs.Locks.{locks_of};
-ghost use Rattle.cc_journal.specs.Locks.{LocksStand, Granted, Refused, Ended};
+ghost use Rattle.cc_journal.specs.Locks.{LocksStand, Granted, Refused, LockEnded};
 
 use cc_entry::{CcError, FileId, NoMemory, Span, StreamId};
 use cc_locks::Locks;
@@ -18,14 +18,14 @@ pub(crate) struct StreamLocks {
 
 impl Model for StreamLocks {
     ghost use Rattle.std.specs.Prelude.{List};
-    ghost use Rattle.cc_locks.specs.Locks.{Held};
-    ghost use Rattle.cc_journal.specs.Locks.{AreNumbered};
+    ghost use Rattle.cc_locks.specs.Locks.{HeldLocks};
+    ghost use Rattle.cc_journal.specs.Locks.{LocksAreNumbered};
 
-    ghost Value = { List Held };
+    ghost Value = { List HeldLocks };
 
     ghost view = { λ locks. locks.each.items };
 
-    ghost invariant = { λ locks. AreNumbered locks.each.items };
+    ghost invariant = { λ locks. LocksAreNumbered locks.each.items };
 }
 
 impl StreamLocks {
@@ -62,7 +62,7 @@ impl StreamLocks {
 
     /// Ends the lock of this id where the file object owns it, and answers whether it does. Takes no memory.
     pub(crate) fn unlock(&mut self, file: FileId, id: u64) -> bool
-        ensures ended { (past : List Entry) → LocksStand past self.old → Ended past self.new file id result }
+        ensures ended { (past : List Entry) → LocksStand past self.old → LockEnded past self.new file id result }
     {
         self.each[usize::from(file.stream().number())]
             .unlock(file, id)

@@ -2,7 +2,7 @@
 
 ghost use Rattle.std.specs.Prelude.{◌≡◌, ◌+◌, ◌<◌, ◌≤◌, [], ◌∷◌, List, Option, None, Some, OnOk};
 ghost use Rattle.indexmap.specs.IndexMap.{spare};
-ghost use Rattle.cc_journal.specs.Places.{held_at, Sets, Holds, PlacesHolds};
+ghost use Rattle.cc_journal.specs.Places.{held_at, Sets, ChangesHoldPlaces, PlacesHolds};
 
 use cc_entry::{NoMemory, StreamId};
 use cc_events::Holding;
@@ -44,7 +44,7 @@ impl HoldPlaces {
     /// Follows what happened to the holds of a stream.
     pub(crate) fn follow(&mut self, stream: StreamId, what: Holding)
         requires room { 0 < spare self.old.places }
-        ensures holds { Holds self.old.places.entries self.new.places.entries stream what }
+        ensures holds { ChangesHoldPlaces self.old.places.entries self.new.places.entries stream what }
         ensures room { spare self.old.places ≤ spare self.new.places + 1 }
     {
         match what {

@@ -6,7 +6,7 @@ ghost use Rattle.cc_entry.specs.declared.entry.Entry.{Entry};
 ghost use Rattle.cc_entry.specs.declared.entry.Entry.TheVariants as entry;
 ghost use Rattle.cc_entry.specs.declared.hold.Deferral.{Deferral};
 ghost use Rattle.cc_model.specs.Throttle.{queue, deferred};
-ghost use Rattle.cc_journal.specs.Queue.{QueueStands, AllUnposted, deferrals_of, routines_of};
+ghost use Rattle.cc_journal.specs.Queue.{QueueStands, AllUnposted, deferrals_of_writes, routines_of};
 
 use cc_entry::{Deferral, FileId, NoMemory};
 use cc_traits::{PostRoutine, PostedRoutine};
@@ -57,7 +57,7 @@ impl<Q> Deferred<Q> {
 
     /// The head of the queue.
     pub(crate) fn head(&self) -> Option<Deferral>
-        ensures head { result ≡ slice_get (deferrals_of self.now.writes) 0 }
+        ensures head { result ≡ slice_get (deferrals_of_writes self.now.writes) 0 }
         ensures of_queue { (past : List Entry) →
             QueueStands past self.now.writes self.now.count → result ≡ slice_get (queue past) 0 }
     {

@@ -2,7 +2,7 @@
 
 ghost use Rattle.std.specs.Prelude.{◌≡◌, None, IfOk, filter, filter_map, fold, min, max};
 ghost use Rattle.cc_entry.specs.Lsns.{joined};
-ghost use Rattle.cc_dirty.specs.Table.{is_of};
+ghost use Rattle.cc_dirty.specs.Table.{is_row_of_stream};
 ghost use Rattle.cc_model.specs.History.{history};
 ghost use Rattle.cc_model.specs.Touches.{dirty_pages};
 ghost use Rattle.cc_model.specs.Stamps.{lsns_over, dirty_table, is_log};
@@ -32,7 +32,7 @@ pub fn dirty_table<Q>(alloc: Global, journal: &Journal<Q>, handle: u8) -> Result
 
 // The least and the greatest LSN of the rows of a stream.
 fn lsns_of_rows(rows: &[Row], stream: StreamId) -> Option<(Lsn, Lsn)>
-    ensures { result ≡ fold with_row None (filter (is_of stream) rows.now) }
+    ensures { result ≡ fold with_row None (filter (is_row_of_stream stream) rows.now) }
 {
     rows.iter()
         .filter(|row| is_of(row, stream))
@@ -90,7 +90,7 @@ fn is_log(handle: u8, of_stream: Option<u8>) -> bool
 
 // Whether a row is of a stream.
 fn is_of(row: &Row, stream: StreamId) -> bool
-    ensures { result ≡ is_of stream row.now }
+    ensures { result ≡ is_row_of_stream stream row.now }
 {
     row.page.stream().number() == stream.number()
 }

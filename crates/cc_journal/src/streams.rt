@@ -19,8 +19,8 @@ ghost use Rattle.cc_model.specs.History.{Did, history};
 ghost use Rattle.cc_model.specs.Cache.{views_of, views_taken, dirty_count, dirty_total, lazy_pages};
 ghost use Rattle.cc_model.specs.Touches.{is_mapped};
 ghost use Rattle.cc_stream.specs.Stream.{Stream, StreamStands};
-ghost use Rattle.cc_journal.specs.AllStreams.{StandFor, HasRoomIn};
-ghost use Rattle.cc_journal.specs.Streams.{HasRoomFor, begins_below, is_left, state_in, KeepsTransfersIn, reach, hold_named, is_of_call, leaves_streams, is_written_behind, MarksWritten};
+ghost use Rattle.cc_journal.specs.AllStreams.{StreamsStandFor, HasRoomInStreams};
+ghost use Rattle.cc_journal.specs.Streams.{HasRoomForRows, begins_below, is_left, state_in, KeepsTransfersIn, touched_range, hold_in_event, is_of_call, leaves_streams, is_written_behind, MarksWritten};
 ghost use Rattle.cc_journal.specs.Places.{held_at};
 
 use crate::places::HoldPlaces;
@@ -28,7 +28,7 @@ use crate::scans::{lazy_count, lazy_pages};
 use crate::table::{cut, discard, touch_range};
 use cc_dirty::DirtyTable;
 use cc_entry::{Call, End, Entry, FileId, NoMemory, Outcome, PageId, Reply, StreamId};
-use cc_events::{Event, act, holding_by, id_in, stored_end};
+use cc_events::{StreamEvent, act, holding_by, id_in, stored_end};
 use cc_stream::StreamState;
 use std::alloc::Global;
 
@@ -46,7 +46,7 @@ pub(crate) struct Streams {
 impl Streams {
     /// Streams of which nothing happened yet, with room for the rows of all dirty pages.
     pub(crate) fn new(alloc: Global) -> Result<Streams, NoMemory>
-        ensures stands { IfOk result (λ s. StandFor [] s) }
+        ensures stands { IfOk result (λ s. StreamsStandFor [] s) }
         ensures capacity { IfOk result (λ s. 16384 ≤ s.dirty.capacity) }
         ensures empty { IfOk result (λ s. s.dirty.rows ≡ []) }
     {
@@ -66,7 +66,7 @@ impl Streams {
     pub(crate) fn state(&self, stream: StreamId) -> &StreamState
         ensures is { (d : Stream) → result.now ≡ slice_index_or self.now.states.value stream d }
         ensures numbered { stream < 16 }
-        ensures stands { (past : List Entry) → StandFor past self.now →
+        ensures stands { (past : List Entry) → StreamsStandFor past self.now →
             StreamStands (history past stream) result.now }
     {
         &(*self.states)[usize::from(stream.number())]
@@ -81,7 +81,7 @@ impl Streams {
 
     /// Whether the stream has a shared map.
     pub(crate) fn is_mapped(&self, stream: StreamId) -> bool
-        ensures { (past : List Entry) → StandFor past self.now → result ≡ is_mapped (history past stream) }
+        ensures { (past : List Entry) → StreamsStandFor past self.now → result ≡ is_mapped (history past stream) }
     {
         self.state(stream).has_objects() || self.dirty.total(stream) > 0
     }
@@ -89,7 +89,7 @@ impl Streams {
     /// Whether the stream of a file object has a shared map after an uninitialise of the object: another one is
     /// open, or a page is dirty that the uninitialise does not cut.
     pub(crate) fn stays_mapped(&self, file: FileId, truncate: Option<u64>) -> bool
-        ensures { (past : List Entry) (pass : ℕ) (reply : Reply) → StandFor past self.now →
+        ensures { (past : List Entry) (pass : ℕ) (reply : Reply) → StreamsStandFor past self.now →
             result ≡ is_mapped (Did pass (call.Uninitialise file truncate) reply ∷ history past file.stream) }
     {
         let stream = file.stream();
@@ -114,21 +114,21 @@ impl Streams {
 
     /// How many pages are dirty.
     pub(crate) fn dirty_total(&self) -> usize
-        ensures { (past : List Entry) → StandFor past self.now → result ≡ dirty_total past }
+        ensures { (past : List Entry) → StreamsStandFor past self.now → result ≡ dirty_total past }
     {
         self.dirty.rows().len()
     }
 
     /// How many pages of a stream are dirty.
     pub(crate) fn dirty_count(&self, stream: StreamId) -> u32
-        ensures { (past : List Entry) → StandFor past self.now → result ≡ dirty_count (history past stream) }
+        ensures { (past : List Entry) → StreamsStandFor past self.now → result ≡ dirty_count (history past stream) }
     {
         self.dirty.total(stream)
     }
 
     /// The dirty pages that the lazy writer looks at, by stream and page.
     pub(crate) fn lazy_pages(&self, alloc: Global) -> Result<Vec<PageId>, NoMemory>
-        ensures { (past : List Entry) → StandFor past self.now →
+        ensures { (past : List Entry) → StreamsStandFor past self.now →
             IfOk result (λ pages. pages.items ≡ lazy_pages past) }
     {
         lazy_pages(alloc, self.dirty.rows(), &self.marks())
@@ -136,14 +136,14 @@ impl Streams {
 
     /// How many of them there are.
     pub(crate) fn lazy_total(&self) -> usize
-        ensures { (past : List Entry) → StandFor past self.now → result ≡ length (lazy_pages past) }
+        ensures { (past : List Entry) → StreamsStandFor past self.now → result ≡ length (lazy_pages past) }
     {
         lazy_count(self.dirty.rows(), &self.marks())
     }
 
     /// The views that all mapped streams take, which the pool of 256 has.
     pub(crate) fn views_taken(&self) -> u16
-        ensures { (past : List Entry) → StandFor past self.now → result ≡ views_taken past }
+        ensures { (past : List Entry) → StreamsStandFor past self.now → result ≡ views_taken past }
     {
         let mut taken = 0;
         for n in 0..16 {
@@ -155,7 +155,7 @@ impl Streams {
 
     // The views that a stream takes: its quota, while it is mapped.
     fn views_of(&self, stream: StreamId) -> u16
-        ensures views { (past : List Entry) → StandFor past self.now → result ≡ views_of (history past stream) }
+        ensures views { (past : List Entry) → StreamsStandFor past self.now → result ≡ views_of (history past stream) }
         ensures most { result ≤ 255 }
     {
         // A stream never initialised has no quota, and its dirty pages need no count.
@@ -168,7 +168,7 @@ impl Streams {
 
     /// Whether the lazy writer looks at the pages of each stream.
     pub(crate) fn marks(&self) -> [bool; 16]
-        ensures { (past : List Entry) → StandFor past self.now →
+        ensures { (past : List Entry) → StreamsStandFor past self.now →
             MarksWritten past result }
     {
         let mut marks = [false; 16];
@@ -181,7 +181,7 @@ impl Streams {
 
     // Whether the lazy writer looks at the pages of a stream.
     fn is_written_behind(&self, stream: StreamId) -> bool
-        ensures { (past : List Entry) → StandFor past self.now → result ≡ is_written_behind (history past stream) }
+        ensures { (past : List Entry) → StreamsStandFor past self.now → result ≡ is_written_behind (history past stream) }
     {
         let state = self.state(stream);
         !state.is_temporary() && !state.has_no_write_behind()
@@ -201,9 +201,9 @@ impl Streams {
     /// Follows an entry, given its place in the journal.
     pub(crate) fn follow(&mut self, entry: &Entry, place: u64)
         requires places { 0 < spare self.old.places.places }
-        requires rows { HasRoomIn self.old entry.now }
+        requires rows { HasRoomInStreams self.old entry.now }
         ensures stands { (past : List Entry) → place ≡ suc (length past) → KeepsTransfersIn past entry.now →
-            StandFor past self.old → StandFor (entry.now ∷ past) self.new }
+            StreamsStandFor past self.old → StreamsStandFor (entry.now ∷ past) self.new }
         ensures capacity { self.new.dirty.capacity ≡ self.old.dirty.capacity }
         ensures room { spare self.old.places.places ≤ spare self.new.places.places + 1 }
         ensures sound { Sound self.new.dirty.rows }
@@ -215,9 +215,9 @@ impl Streams {
 
     fn step(&mut self, entry: &Entry, place: u64)
         requires places { 0 < spare self.old.places.places }
-        requires rows { HasRoomIn self.old entry.now }
+        requires rows { HasRoomInStreams self.old entry.now }
         ensures stands { (past : List Entry) → place ≡ suc (length past) → KeepsTransfersIn past entry.now →
-            StandFor past self.old → StandFor (entry.now ∷ past) self.new }
+            StreamsStandFor past self.old → StreamsStandFor (entry.now ∷ past) self.new }
         ensures capacity { self.new.dirty.capacity ≡ self.old.dirty.capacity }
         ensures room { spare self.old.places.places ≤ spare self.new.places.places + 1 }
     {
@@ -230,9 +230,9 @@ impl Streams {
     fn change(&mut self, entry: &Entry, place: u64)
         requires changes { leaves_streams entry.now ≡ false }
         requires places { 0 < spare self.old.places.places }
-        requires rows { HasRoomIn self.old entry.now }
+        requires rows { HasRoomInStreams self.old entry.now }
         ensures stands { (past : List Entry) → place ≡ suc (length past) → KeepsTransfersIn past entry.now →
-            StandFor past self.old → StandFor (entry.now ∷ past) self.new }
+            StreamsStandFor past self.old → StreamsStandFor (entry.now ∷ past) self.new }
         ensures capacity { self.new.dirty.capacity ≡ self.old.dirty.capacity }
         ensures room { spare self.old.places.places ≤ spare self.new.places.places + 1 }
     {
@@ -266,11 +266,11 @@ impl Streams {
     // A call ended; one that was done on a stream changes what is kept of it.
     fn call_ended(&mut self, stream: &Option<StreamId>, call: &Call, outcome: &Outcome, place: u64)
         requires places { 0 < spare self.old.places.places }
-        requires rows { HasRoomIn self.old (entry.Call 0 0 stream.now call.now outcome.now) }
+        requires rows { HasRoomInStreams self.old (entry.Call 0 0 stream.now call.now outcome.now) }
         ensures stands { (past : List Entry) (pass nth : ℕ) →
             place ≡ suc (length past) →
-            StandFor past self.old →
-            StandFor (entry.Call pass nth stream.now call.now outcome.now ∷ past) self.new }
+            StreamsStandFor past self.old →
+            StreamsStandFor (entry.Call pass nth stream.now call.now outcome.now ∷ past) self.new }
         ensures capacity { self.new.dirty.capacity ≡ self.old.dirty.capacity }
         ensures room { spare self.old.places.places ≤ spare self.new.places.places + 1 }
     {
@@ -285,12 +285,12 @@ impl Streams {
     fn call_done(&mut self, stream: StreamId, call: &Call, reply: &Reply, place: u64)
         requires places { 0 < spare self.old.places.places }
         requires rows { let what = event_of_act (act_of call.now) in
-            stream < 16 → HasRoomFor self.old.dirty stream (reach what (state_in self.old.states.value stream).size
-            (held_at self.old.places.places.entries stream (hold_named what))) }
+            stream < 16 → HasRoomForRows self.old.dirty stream (touched_range what (state_in self.old.states.value stream).size
+            (held_at self.old.places.places.entries stream (hold_in_event what))) }
         ensures stands { (past : List Entry) (pass nth : ℕ) →
             place ≡ suc (length past) →
-            StandFor past self.old →
-            StandFor (entry.Call pass nth (Some stream) call.now (outcome.Done reply.now) ∷ past) self.new }
+            StreamsStandFor past self.old →
+            StreamsStandFor (entry.Call pass nth (Some stream) call.now (outcome.Done reply.now) ∷ past) self.new }
         ensures capacity { self.new.dirty.capacity ≡ self.old.dirty.capacity }
         ensures room { spare self.old.places.places ≤ spare self.new.places.places + 1 }
     {
@@ -304,11 +304,11 @@ impl Streams {
     }
 
     // What a done call does to the rows of its stream's pages.
-    fn change_rows(&mut self, stream: StreamId, what: Event, place: u64)
-        requires rows { HasRoomFor self.old.dirty stream (reach what (state_in self.old.states.value stream).size
-            (held_at self.old.places.places.entries stream (hold_named what))) }
+    fn change_rows(&mut self, stream: StreamId, what: StreamEvent, place: u64)
+        requires rows { HasRoomForRows self.old.dirty stream (touched_range what (state_in self.old.states.value stream).size
+            (held_at self.old.places.places.entries stream (hold_in_event what))) }
         ensures rows { (past : List Entry) →
-            StandFor past self.old →
+            StreamsStandFor past self.old →
             is_of_call what ≡ true →
             ChangesRows place stream (λ p. touching_of what (history past stream) p) self.old.dirty.rows self.new.dirty.rows }
         ensures capacity { self.new.dirty.capacity ≡ self.old.dirty.capacity }
@@ -316,7 +316,7 @@ impl Streams {
         ensures places { self.new.places ≡ self.old.places }
     {
         match what {
-            Event::Changes { from, to } => touch_range(
+            StreamEvent::Changes { from, to } => touch_range(
                 &mut self.dirty,
                 stream,
                 from,
@@ -324,12 +324,12 @@ impl Streams {
                 place,
                 None,
             ),
-            Event::Stores { page } => {
+            StreamEvent::Stores { page } => {
                 let from = 4096 * u128::from(page);
                 let to = stored_end(page, self.state(stream).size());
                 touch_range(&mut self.dirty, stream, from, to, place, None)
             }
-            Event::Stamps { hold, lsn } => {
+            StreamEvent::Stamps { hold, lsn } => {
                 if let Some((at, len)) = self.places.of(stream, hold) {
                     let from = u128::from(at);
                     touch_range(
@@ -342,19 +342,19 @@ impl Streams {
                     )
                 }
             }
-            Event::Closes { object, truncate } => {
+            StreamEvent::Closes { object, truncate } => {
                 if let Some(to) = self.state(stream).truncation(object, truncate) {
                     cut(&mut self.dirty, stream, to)
                 }
             }
-            Event::Resizes { size } => cut(&mut self.dirty, stream, size),
-            Event::Discards { span } => discard(&mut self.dirty, stream, span),
-            Event::Opens { .. }
-            | Event::CameIn { .. }
-            | Event::WentOut { .. }
-            | Event::Began { .. }
-            | Event::Ended { .. }
-            | Event::Rests => (),
+            StreamEvent::Resizes { size } => cut(&mut self.dirty, stream, size),
+            StreamEvent::Discards { span } => discard(&mut self.dirty, stream, span),
+            StreamEvent::Opens { .. }
+            | StreamEvent::CameIn { .. }
+            | StreamEvent::WentOut { .. }
+            | StreamEvent::Began { .. }
+            | StreamEvent::Ended { .. }
+            | StreamEvent::Rests => (),
         }
     }
 }

@@ -7,7 +7,7 @@ ghost use Rattle.cc_dirty.specs.Table.{Table};
 ghost use Rattle.cc_events.specs.declared.touching.Touching.TheVariants as touching;
 ghost use Rattle.cc_events.specs.Touchings.{cut_by, touch_if};
 ghost use Rattle.cc_model.specs.Ranges.{span_has};
-ghost use Rattle.cc_journal.specs.Rows.{absent_count, absent_in, ChangesRows};
+ghost use Rattle.cc_journal.specs.Rows.{absent_count, absent_count_from, ChangesRows};
 
 use cc_dirty::DirtyTable;
 use cc_entry::{Lsn, PageId, Span, StreamId};
@@ -48,7 +48,7 @@ fn touch_pages(
 )
     requires in_order { from ≤ to }
     requires within { to ≤ 2 ^ 51 }
-    requires room { length table.old.rows + absent_in table.old.rows stream from (to - from) ≤ table.old.capacity }
+    requires room { length table.old.rows + absent_count_from table.old.rows stream from (to - from) ≤ table.old.capacity }
     ensures rows { ChangesRows place stream (λ p. touch_if (nat_le from p && nat_lt p to) lsn.now) table.old.rows table.new.rows }
     ensures capacity { table.new.capacity ≡ table.old.capacity }
 {

@@ -12,7 +12,7 @@ use Rattle.cc_laws.proofs.QuietSteps.{is_quiet-first, is_quiet-rest}
 use Rattle.cc_model.specs.Passes.{is_mine}
 use Rattle.cc_model.specs.Turns.{Device, needs, is_quiet}
 use Rattle.cc_turns.specs.Standing.{Standing, is_the}
-use Rattle.cc_turns.specs.Takes.{Takes, Adds, may_be_of, without_journal}
+use Rattle.cc_turns.specs.Takes.{Takes, AddsEvent, may_be_of, without_journal}
 use Rattle.cc_keep.specs.Keeps.{KeepsDisk, keeping_standing, leaves_disk, newer}
 
 -- what came since goes on
@@ -79,7 +79,7 @@ keeps-taken turns s begun old new now took same_turns same_device same_number ke
 )
 
 -- it gives the journal, with what it placed
-pub keeps-given : {Q : Type 0} (turns s name : ℕ) (begun first old new : Standing) (j : JournalState Q) → new ≡ without_journal j old → Adds (keeping_standing old name s first turns) j.entries → KeepsDisk turns s begun old → KeepsDisk turns s begun new
+pub keeps-given : {Q : Type 0} (turns s name : ℕ) (begun first old new : Standing) (j : JournalState Q) → new ≡ without_journal j old → AddsEvent (keeping_standing old name s first turns) j.entries → KeepsDisk turns s begun old → KeepsDisk turns s begun new
 keeps-given turns s name begun first old new j given adds keeps =
     subst (λ (w : Standing). KeepsDisk turns s begun w) (sym given) (
       subst (λ (past : List Entry). length begun.seen ≤ length past) (sym adds.grew) (longer (length begun.seen) adds.added old.seen keeps.0),

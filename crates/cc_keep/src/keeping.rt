@@ -10,7 +10,7 @@ ghost use Rattle.cc_turns.specs.Disk.{DiskStands, opening_of};
 ghost use Rattle.cc_turns.specs.Log.{LogStands};
 ghost use Rattle.cc_turns.specs.Held.{DiskFaultsAreTold};
 ghost use Rattle.cc_turns.specs.Journal.{JournalStands};
-ghost use Rattle.cc_turns.specs.Takes.{Takes, Adds, with_device, with_book, with_log, with_journal, without_device, without_book, without_log, without_journal};
+ghost use Rattle.cc_turns.specs.Takes.{Takes, AddsEvent, with_device, with_book, with_log, with_journal, without_device, without_book, without_log, without_journal};
 
 use cc_book::Book;
 use cc_entry::StreamId;
@@ -127,7 +127,7 @@ impl<'a, T: Turns> Turns for Keeping<'a, T> {
 
     fn give_journal(&mut self, journal: Journal<T::Post>)
         requires held { (T.standing self.old.turns.now).held.journal ≡ true }
-        requires adds { Adds (keeping_standing (T.standing self.old.turns.now) self.old.turns.ghost_name self.old.stream
+        requires adds { AddsEvent (keeping_standing (T.standing self.old.turns.now) self.old.turns.ghost_name self.old.stream
             (T.standing self.old.begun.value) self.old.device_turns) journal.entries }
         requires stands { JournalStands T.Post.posted (without_journal journal
             (keeping_standing (T.standing self.old.turns.now) self.old.turns.ghost_name self.old.stream

@@ -8,14 +8,14 @@ use Rattle.cc_model.specs.Numbers.{is_empty}
 use Rattle.cc_model.specs.History.{Effect}
 use Rattle.cc_model.specs.Sizes.{Touch, touched_if}
 use Rattle.cc_model.specs.Touches.{touches, unwritten, is_dirty}
-use Rattle.cc_laws.specs.ByPlaces.{some_effect, touches_page, lsn_of_touch, cuts_page, begins, ends_well}
-use Rattle.cc_laws.specs.ByPlacesDirty.{IsWritten, IsTouch, Has, here, there, is_newest_first}
+use Rattle.cc_laws.specs.ByPlaces.{some_effect, touches_page, lsn_of_touch, cuts_page, begins_page_transfer, ends_well}
+use Rattle.cc_laws.specs.ByPlacesDirty.{IsTransferredSince, IsTouch, Has, here, there, is_newest_first}
 use Rattle.cc_laws.proofs.PlacesSteps.{touches_after, touches-effect}
 
 -- whether what stands before these effects is written, where `ended` says whether a good end follows them
 abbrev pub writes_it : Bool → List Effect → ℕ → Bool
 writes_it ended [] p = false
-writes_it ended (e ∷ later) p = (ended && begins p e) || writes_it (ended || ends_well p e) later p
+writes_it ended (e ∷ later) p = (ended && begins_page_transfer p e) || writes_it (ended || ends_well p e) later p
 
 -- a place whose touch is left
 record IsLeft (ended : Bool) (h : List Effect) (p : ℕ) (t : Touch) : Type 0 where
@@ -28,7 +28,7 @@ record IsLeft (ended : Bool) (h : List Effect) (p : ℕ) (t : Touch) : Type 0 wh
   unwritten : writes_it ended later p ≡ false
   uncut : some_effect (cuts_page p) later (effect ∷ before) ≡ false
 
-IsLeft-later : (ended : Bool) (e : Effect) (h : List Effect) (p : ℕ) (t : Touch) → cuts_page p e h ≡ false → (ended && begins p e) ≡ false → IsLeft (ended || ends_well p e) h p t → IsLeft ended (e ∷ h) p t
+IsLeft-later : (ended : Bool) (e : Effect) (h : List Effect) (p : ℕ) (t : Touch) → cuts_page p e h ≡ false → (ended && begins_page_transfer p e) ≡ false → IsLeft (ended || ends_well p e) h p t → IsLeft ended (e ∷ h) p t
 IsLeft-later ended e h p t uncut unwritten k =
     record {
       later = e ∷ k.later;
@@ -61,7 +61,7 @@ unfolding touches
 IsLeft-has ended [] p t has = Has-none has
 IsLeft-has ended (e ∷ h) p t has =
     let k : Has (touches_after ended e h p) t = subst (λ (ts : List Touch). Has ts t) (touches-effect ended e h p) has in
-    Has-after (touches_page p e h) (cuts_page p e h) (ended && begins p e) (suc (length h)) (lsn_of_touch e) (touches (ended || ends_well p e) h p) t k
+    Has-after (touches_page p e h) (cuts_page p e h) (ended && begins_page_transfer p e) (suc (length h)) (lsn_of_touch e) (touches (ended || ends_well p e) h p) t k
     (λ own is. record { later = []; effect = e; before = h; places = refl; touches_it = own; is = is; unwritten = refl; uncut = refl })
     (λ uncut unwritten rest. IsLeft-later ended e h p t uncut unwritten (IsLeft-has (ended || ends_well p e) h p t rest))
 
@@ -79,7 +79,7 @@ has-place : (ended : Bool) (later : List Effect) (e : Effect) (before : List Eff
 has-place ended [] e before p own unwritten uncut =
     subst (λ (ts : List Touch). Has ts (record { place = suc (length before); lsn = lsn_of_touch e })) (sym (touches-effect ended e before p)) (Has-own (touches_page p e before) _ _ _ own)
 has-place ended (x ∷ later) e before p own unwritten uncut =
-    let w = or_parts (ended && begins p x) _ unwritten in
+    let w = or_parts (ended && begins_page_transfer p x) _ unwritten in
     let c = or_parts (cuts_page p x (later ++ e ∷ before)) _ uncut in
     subst (λ (ts : List Touch). Has ts (record { place = suc (length before); lsn = lsn_of_touch e })) (sym (touches-effect ended x (later ++ e ∷ before) p))
     (Has-rest (touches_page p x (later ++ e ∷ before)) _ _ _ _ _ _ c.0 w.0 (has-place (ended || ends_well p x) later e before p own w.1 c.1))
@@ -90,24 +90,24 @@ record IsBegun (later : List Effect) (p : ℕ) : Type 0 where
   begin : Effect
   front : List Effect
   places : later ≡ between ++ begin ∷ front
-  begins_it : begins p begin ≡ true
-  first : some_effect (λ e front. begins p e) between (begin ∷ front) ≡ false
+  begins_it : begins_page_transfer p begin ≡ true
+  first : some_effect (λ e front. begins_page_transfer p e) between (begin ∷ front) ≡ false
 
 IsBegun-writes : (later : List Effect) (p : ℕ) → writes_it true later p ≡ true → IsBegun later p
 IsBegun-writes [] p is = absurd (cc)
-IsBegun-writes (e ∷ later) p is = go (begins p e) refl is (IsBegun-writes later p)
+IsBegun-writes (e ∷ later) p is = go (begins_page_transfer p e) refl is (IsBegun-writes later p)
   where
-    go : (b : Bool) → begins p e ≡ b → (b || writes_it true later p) ≡ true → (writes_it true later p ≡ true → IsBegun later p) → IsBegun (e ∷ later) p
+    go : (b : Bool) → begins_page_transfer p e ≡ b → (b || writes_it true later p) ≡ true → (writes_it true later p ≡ true → IsBegun later p) → IsBegun (e ∷ later) p
     go true begins_it it rest = record { between = []; begin = e; front = later; places = refl; begins_it = begins_it; first = refl }
     go false other it rest =
         let k = rest it in
         record { between = e ∷ k.between; begin = k.begin; front = k.front; places = ap (λ (l : List Effect). e ∷ l) k.places; begins_it = k.begins_it; first = or_from _ _ other k.first }
 
-IsWritten-writes : (later : List Effect) (p : ℕ) → writes_it false later p ≡ true → IsWritten later p
+IsWritten-writes : (later : List Effect) (p : ℕ) → writes_it false later p ≡ true → IsTransferredSince later p
 IsWritten-writes [] p is = absurd (cc)
 IsWritten-writes (e ∷ later) p is = go (ends_well p e) refl is (IsWritten-writes later p)
   where
-    go : (b : Bool) → ends_well p e ≡ b → writes_it b later p ≡ true → (writes_it false later p ≡ true → IsWritten later p) → IsWritten (e ∷ later) p
+    go : (b : Bool) → ends_well p e ≡ b → writes_it b later p ≡ true → (writes_it false later p ≡ true → IsTransferredSince later p) → IsTransferredSince (e ∷ later) p
     go true ends_it it rest =
         let k = IsBegun-writes later p it in
         record { after = []; ok_end = e; between = k.between; begin = k.begin; front = k.front; places = ap (λ (l : List Effect). e ∷ l) k.places; begins_it = k.begins_it; ends_it = ends_it; same_transfer = k.first }
@@ -115,21 +115,21 @@ IsWritten-writes (e ∷ later) p is = go (ends_well p e) refl is (IsWritten-writ
         let k = rest it in
         record { after = e ∷ k.after; ok_end = k.ok_end; between = k.between; begin = k.begin; front = k.front; places = ap (λ (l : List Effect). e ∷ l) k.places; begins_it = k.begins_it; ends_it = k.ends_it; same_transfer = k.same_transfer }
 
-begin-writes : (between : List Effect) (e : Effect) (front : List Effect) (p : ℕ) → begins p e ≡ true → writes_it true (between ++ e ∷ front) p ≡ true
-begin-writes [] e front p is = or_left (begins p e) _ is
-begin-writes (x ∷ between) e front p is = or_right (begins p x) _ (begin-writes between e front p is)
+begin-writes : (between : List Effect) (e : Effect) (front : List Effect) (p : ℕ) → begins_page_transfer p e ≡ true → writes_it true (between ++ e ∷ front) p ≡ true
+begin-writes [] e front p is = or_left (begins_page_transfer p e) _ is
+begin-writes (x ∷ between) e front p is = or_right (begins_page_transfer p x) _ (begin-writes between e front p is)
 
 end-writes : (ended : Bool) (after : List Effect) (e : Effect) (rest : List Effect) (p : ℕ) → ends_well p e ≡ true → writes_it true rest p ≡ true → writes_it ended (after ++ e ∷ rest) p ≡ true
 end-writes ended [] e rest p is writes =
-    or_right (ended && begins p e) _ (subst (λ (b : Bool). writes_it b rest p ≡ true) (sym (or_right ended (ends_well p e) is)) writes)
-end-writes ended (x ∷ after) e rest p is writes = or_right (ended && begins p x) _ (end-writes (ended || ends_well p x) after e rest p is writes)
+    or_right (ended && begins_page_transfer p e) _ (subst (λ (b : Bool). writes_it b rest p ≡ true) (sym (or_right ended (ends_well p e) is)) writes)
+end-writes ended (x ∷ after) e rest p is writes = or_right (ended && begins_page_transfer p x) _ (end-writes (ended || ends_well p x) after e rest p is writes)
 
-pub writes-IsWritten : (later : List Effect) (p : ℕ) → IsWritten later p → writes_it false later p ≡ true
+pub writes-IsWritten : (later : List Effect) (p : ℕ) → IsTransferredSince later p → writes_it false later p ≡ true
 writes-IsWritten later p k =
     ap (λ (l : List Effect). writes_it false l p) k.places
     ∙ end-writes false k.after k.ok_end (k.between ++ k.begin ∷ k.front) p k.ends_it (begin-writes k.between k.begin k.front p k.begins_it)
 
-pub unwritten-writes : (later : List Effect) (p : ℕ) → (IsWritten later p → ⊥) → writes_it false later p ≡ false
+pub unwritten-writes : (later : List Effect) (p : ℕ) → (IsTransferredSince later p → ⊥) → writes_it false later p ≡ false
 unwritten-writes later p never = go (writes_it false later p) refl
   where
     go : (b : Bool) → writes_it false later p ≡ b → b ≡ false
@@ -203,7 +203,7 @@ unfolding touches IsInOrder
 touches-order ended [] p = (refl, refl)
 touches-order ended (e ∷ h) p =
     subst (IsInOrder (suc (suc (length h)))) (sym (touches-effect ended e h p))
-    (order-after (touches_page p e h) (cuts_page p e h) (ended && begins p e) (suc (length h)) (lsn_of_touch e) _ (touches-order (ended || ends_well p e) h p))
+    (order-after (touches_page p e h) (cuts_page p e h) (ended && begins_page_transfer p e) (suc (length h)) (lsn_of_touch e) _ (touches-order (ended || ends_well p e) h p))
 
 pub unwritten-order : (h : List Effect) (p : ℕ) → is_newest_first (unwritten h p) ≡ true
 unfolding IsInOrder

@@ -8,7 +8,7 @@ use Rattle.cc_model.specs.Acts.{Act, act_of, Opens, Closes, Resizes, Writes, Zer
 use Rattle.cc_model.specs.Objects.{had_map}
 use Rattle.cc_model.specs.Touches.{sizes, valid_of}
 use Rattle.cc_model.specs.Discards.{least_valid, low_since, low_of, has_grown}
-use Rattle.cc_laws.specs.ByPlaces.{begins, ends_well}
+use Rattle.cc_laws.specs.ByPlaces.{begins_page_transfer, ends_well}
 use Rattle.cc_laws.specs.ByPlacesGrown.{WasPast, GrownByte}
 use Rattle.cc_laws.proofs.ObjectSteps.{had_map-opens, had_map-closes, had_map-resizes, had_map-writes, had_map-zeroes, had_map-stores, had_map-stamps, had_map-discards, had_map-looks}
 use Rattle.cc_laws.proofs.PlacesDirty.{writes_it, writes-IsWritten, unwritten-writes}
@@ -16,7 +16,7 @@ use Rattle.cc_laws.proofs.PlacesDirty.{writes_it, writes-IsWritten, unwritten-wr
 -- what a begin that ends the walk, or what stood before, makes of the least valid data length
 abbrev low_after : Bool → Effect → List Effect → ℕ → ℕ
 low_after ended e h p =
-    cond (ended && begins p e) (valid_of (e ∷ h)) (least_valid (had_map h) (valid_of (e ∷ h)) (low_since (ended || ends_well p e) h p))
+    cond (ended && begins_page_transfer p e) (valid_of (e ∷ h)) (least_valid (had_map h) (valid_of (e ∷ h)) (low_since (ended || ends_well p e) h p))
 
 same_flag : (ended had : Bool) (now : ℕ) (h : List Effect) (p : ℕ) → least_valid had now (low_since ended h p) ≡ cond (ended && false) now (least_valid had now (low_since (ended || false) h p))
 same_flag true had now h p = refl
@@ -45,7 +45,7 @@ least-now false now before = omega arith
 low-now : (ended : Bool) (h : List Effect) (p : ℕ) → low_since ended h p ≤ valid_of h
 unfolding low_since sizes
 low-now ended [] p = omega arith
-low-now ended (e ∷ h) p = subst (λ n. n ≤ valid_of (e ∷ h)) (sym (low-effect ended e h p)) (go (ended && begins p e))
+low-now ended (e ∷ h) p = subst (λ n. n ≤ valid_of (e ∷ h)) (sym (low-effect ended e h p)) (go (ended && begins_page_transfer p e))
   where
     go : (b : Bool) → cond b (valid_of (e ∷ h)) (least_valid (had_map h) (valid_of (e ∷ h)) (low_since (ended || ends_well p e) h p)) ≤ valid_of (e ∷ h)
     go true = omega arith
@@ -63,7 +63,7 @@ record WasLow (ended : Bool) (h : List Effect) (p i : ℕ) : Type 0 where
 WasLow-now : (ended : Bool) (h : List Effect) (p i : ℕ) → valid_of h ≤ i → WasLow ended h p i
 WasLow-now ended h p i past = record { later = []; before = h; places = refl; past = past; initialised = inl refl; unwritten = refl }
 
-WasLow-later : (ended : Bool) (e : Effect) (h : List Effect) (p i : ℕ) → (ended && begins p e) ≡ false → had_map h ≡ true → WasLow (ended || ends_well p e) h p i → WasLow ended (e ∷ h) p i
+WasLow-later : (ended : Bool) (e : Effect) (h : List Effect) (p i : ℕ) → (ended && begins_page_transfer p e) ≡ false → had_map h ≡ true → WasLow (ended || ends_well p e) h p i → WasLow ended (e ∷ h) p i
 WasLow-later ended e h p i apart had k = record {
   later = e ∷ k.later;
   before = k.before;
@@ -81,7 +81,7 @@ WasLow-low : (ended : Bool) (h : List Effect) (p i : ℕ) → low_since ended h 
 unfolding low_since sizes
 WasLow-low ended [] p i low = WasLow-now ended [] p i low
 WasLow-low ended (e ∷ h) p i low =
-    go (ended && begins p e) refl (had_map h) refl (subst (λ n. n ≤ i) (low-effect ended e h p) low) (WasLow-low (ended || ends_well p e) h p i)
+    go (ended && begins_page_transfer p e) refl (had_map h) refl (subst (λ n. n ≤ i) (low-effect ended e h p) low) (WasLow-low (ended || ends_well p e) h p i)
   where
     lesser : (a b : ℕ) → min a b ≤ i → (a ≤ i) ⊎ (b ≤ i)
     lesser a b le = at (nat_lt a b) refl
@@ -90,7 +90,7 @@ WasLow-low ended (e ∷ h) p i low =
         at true is = let less : a < b = ltb-true a b is in inl (omega arith)
         at false is = let less : b ≤ a = ltb-false a b is in inr (omega arith)
 
-    go : (b : Bool) → (ended && begins p e) ≡ b → (had : Bool) → had_map h ≡ had → cond b (valid_of (e ∷ h)) (least_valid had (valid_of (e ∷ h)) (low_since (ended || ends_well p e) h p)) ≤ i → (low_since (ended || ends_well p e) h p ≤ i → WasLow (ended || ends_well p e) h p i) → WasLow ended (e ∷ h) p i
+    go : (b : Bool) → (ended && begins_page_transfer p e) ≡ b → (had : Bool) → had_map h ≡ had → cond b (valid_of (e ∷ h)) (least_valid had (valid_of (e ∷ h)) (low_since (ended || ends_well p e) h p)) ≤ i → (low_since (ended || ends_well p e) h p ≤ i → WasLow (ended || ends_well p e) h p i) → WasLow ended (e ∷ h) p i
     go true begun had was le rest = WasLow-now ended (e ∷ h) p i le
     go false apart false was le rest = WasLow-now ended (e ∷ h) p i le
     go false apart true was le rest = either (lesser (valid_of (e ∷ h)) (low_since (ended || ends_well p e) h p) le)
@@ -127,9 +127,9 @@ had_map-later (e ∷ later) before had = had_map-effect e (later ++ before) (had
 low-place : (ended : Bool) (later before : List Effect) (p : ℕ) → had_map before ≡ true → writes_it ended later p ≡ false → low_since ended (later ++ before) p ≤ valid_of before
 low-place ended [] before p had unwritten = low-now ended before p
 low-place ended (e ∷ later) before p had unwritten =
-    let w = or_parts (ended && begins p e) _ unwritten in
+    let w = or_parts (ended && begins_page_transfer p e) _ unwritten in
     subst (λ n. n ≤ valid_of before) (sym (low-effect ended e (later ++ before) p))
-    (go (ended && begins p e) w.0 (had_map (later ++ before)) (had_map-later later before had) (low-place (ended || ends_well p e) later before p had w.1))
+    (go (ended && begins_page_transfer p e) w.0 (had_map (later ++ before)) (had_map-later later before had) (low-place (ended || ends_well p e) later before p had w.1))
   where
     lower : (a b v : ℕ) → b ≤ v → min a b ≤ v
     lower a b v le = omega arith
@@ -195,7 +195,7 @@ grown-places h p = (there_is, grows)
 low-uninitialised : (ended : Bool) (h : List Effect) (p : ℕ) → had_map h ≡ false → low_since ended h p ≡ valid_of h
 unfolding low_since sizes
 low-uninitialised ended [] p never = refl
-low-uninitialised ended (e ∷ h) p never = low-effect ended e h p ∙ go (ended && begins p e) (had_map h) refl
+low-uninitialised ended (e ∷ h) p never = low-effect ended e h p ∙ go (ended && begins_page_transfer p e) (had_map h) refl
   where
     go : (b had : Bool) → had_map h ≡ had → cond b (valid_of (e ∷ h)) (least_valid had (valid_of (e ∷ h)) (low_since (ended || ends_well p e) h p)) ≡ valid_of (e ∷ h)
     go true had was = refl

@@ -7,12 +7,12 @@ use Rattle.std.proofs.lemmas.Bool.{or_parts, or_from, or_left, or_right, cond-tr
 use Rattle.cc_model.specs.History.{Effect, Did, CameIn, WentOut, Began, Ended, Synced}
 use Rattle.cc_model.specs.Sizes.{ended_ok}
 use Rattle.cc_model.specs.Images.{begun, image_after, image}
-use Rattle.cc_laws.specs.ByPlaces.{some_effect, begins, ends, ends_well, LastPlace}
-use Rattle.cc_laws.specs.ByPlacesImage.{LastTransfer, ends_begun, left_by}
+use Rattle.cc_laws.specs.ByPlaces.{some_effect, begins_page_transfer, ends_page_transfer, ends_well, LastPlace}
+use Rattle.cc_laws.specs.ByPlacesImage.{LastTransfer, ends_begun, image_left_by}
 use Rattle.cc_laws.proofs.ImageSteps.{image-ended_page, image-ended_other, begun-began_page, begun-began_other}
 use Rattle.cc_laws.proofs.PlacesLast.{some-first, last-place}
 
-begun-effect : (e : Effect) (h : List Effect) (p : ℕ) → begun (e ∷ h) p ≡ cond (begins p e) (Some h) (begun h p)
+begun-effect : (e : Effect) (h : List Effect) (p : ℕ) → begun (e ∷ h) p ≡ cond (begins_page_transfer p e) (Some h) (begun h p)
 unfolding begun
 begun-effect (Did pass call reply) h p = refl
 begun-effect (CameIn pass page from_disk) h p = refl
@@ -25,7 +25,7 @@ begun-effect (Began pass page) h p = go (page == p) refl
 begun-effect (Ended pass page how) h p = refl
 begun-effect (Synced pass how) h p = refl
 
-image-effect : (pages : ℕ → List ℕ) (e : Effect) (h : List Effect) (p : ℕ) → image pages (e ∷ h) p ≡ cond (ends p e) (image_after pages p (begun h p) (ends_well p e) (image pages h p)) (image pages h p)
+image-effect : (pages : ℕ → List ℕ) (e : Effect) (h : List Effect) (p : ℕ) → image pages (e ∷ h) p ≡ cond (ends_page_transfer p e) (image_after pages p (begun h p) (ends_well p e) (image pages h p)) (image pages h p)
 unfolding image
 image-effect pages (Did pass call reply) h p = refl
 image-effect pages (CameIn pass page from_disk) h p = refl
@@ -38,32 +38,32 @@ image-effect pages (Ended pass page how) h p = go (page == p) refl
     go false is = image-ended_other pages pass page how h p is
 image-effect pages (Synced pass how) h p = refl
 
-begun-last : (between : List Effect) (e : Effect) (front : List Effect) (p : ℕ) → begins p e ≡ true → some_effect (λ b before. begins p b) between (e ∷ front) ≡ false → begun (between ++ e ∷ front) p ≡ Some front
-begun-last [] e front p is first = begun-effect e front p ∙ cond-true (begins p e) _ _ is
+begun-last : (between : List Effect) (e : Effect) (front : List Effect) (p : ℕ) → begins_page_transfer p e ≡ true → some_effect (λ b before. begins_page_transfer p b) between (e ∷ front) ≡ false → begun (between ++ e ∷ front) p ≡ Some front
+begun-last [] e front p is first = begun-effect e front p ∙ cond-true (begins_page_transfer p e) _ _ is
 begun-last (x ∷ between) e front p is first =
-    let k = or_parts (begins p x) _ first in
-    begun-effect x (between ++ e ∷ front) p ∙ cond-false (begins p x) _ _ k.0 ∙ begun-last between e front p is k.1
+    let k = or_parts (begins_page_transfer p x) _ first in
+    begun-effect x (between ++ e ∷ front) p ∙ cond-false (begins_page_transfer p x) _ _ k.0 ∙ begun-last between e front p is k.1
 
-begun-none : (h : List Effect) (p : ℕ) → some_effect (λ b before. begins p b) h [] ≡ false → begun h p ≡ None
+begun-none : (h : List Effect) (p : ℕ) → some_effect (λ b before. begins_page_transfer p b) h [] ≡ false → begun h p ≡ None
 unfolding begun
 begun-none [] p none = refl
 begun-none (e ∷ h) p none =
-    let k = or_parts (begins p e) _ none in
-    begun-effect e h p ∙ cond-false (begins p e) _ _ k.0 ∙ begun-none h p k.1
+    let k = or_parts (begins_page_transfer p e) _ none in
+    begun-effect e h p ∙ cond-false (begins_page_transfer p e) _ _ k.0 ∙ begun-none h p k.1
 
-after-begun : (pages : ℕ → List ℕ) (p : ℕ) (front : List Effect) (good : Bool) (old : Option (List ℕ)) → image_after pages p (Some front) good old ≡ left_by pages p front good
+after-begun : (pages : ℕ → List ℕ) (p : ℕ) (front : List Effect) (good : Bool) (old : Option (List ℕ)) → image_after pages p (Some front) good old ≡ image_left_by pages p front good
 after-begun pages p front true old = refl
 after-begun pages p front false old = refl
 
-image-at : (pages : ℕ → List ℕ) (after : List Effect) (e : Effect) (h front : List Effect) (p : ℕ) → ends p e ≡ true → some_effect (λ x before. ends p x) after (e ∷ h) ≡ false → begun h p ≡ Some front → image pages (after ++ e ∷ h) p ≡ left_by pages p front (ends_well p e)
+image-at : (pages : ℕ → List ℕ) (after : List Effect) (e : Effect) (h front : List Effect) (p : ℕ) → ends_page_transfer p e ≡ true → some_effect (λ x before. ends_page_transfer p x) after (e ∷ h) ≡ false → begun h p ≡ Some front → image pages (after ++ e ∷ h) p ≡ image_left_by pages p front (ends_well p e)
 image-at pages [] e h front p is last began =
-    image-effect pages e h p ∙ cond-true (ends p e) _ _ is ∙ ap (λ o. image_after pages p o (ends_well p e) (image pages h p)) began ∙ after-begun pages p front (ends_well p e) (image pages h p)
+    image-effect pages e h p ∙ cond-true (ends_page_transfer p e) _ _ is ∙ ap (λ o. image_after pages p o (ends_well p e) (image pages h p)) began ∙ after-begun pages p front (ends_well p e) (image pages h p)
 image-at pages (x ∷ after) e h front p is last began =
-    let k = or_parts (ends p x) _ last in
-    image-effect pages x (after ++ e ∷ h) p ∙ cond-false (ends p x) _ _ k.0 ∙ image-at pages after e h front p is k.1 began
+    let k = or_parts (ends_page_transfer p x) _ last in
+    image-effect pages x (after ++ e ∷ h) p ∙ cond-false (ends_page_transfer p x) _ _ k.0 ∙ image-at pages after e h front p is k.1 began
 
 -- the image is what the last transfer left
-pub image-places : (pages : ℕ → List ℕ) (h : List Effect) (p : ℕ) (k : LastTransfer h p) → image pages h p ≡ left_by pages p k.front (ends_well p k.its_end)
+pub image-places : (pages : ℕ → List ℕ) (h : List Effect) (p : ℕ) (k : LastTransfer h p) → image pages h p ≡ image_left_by pages p k.front (ends_well p k.its_end)
 image-places pages h p k =
     ap (λ (g : List Effect). image pages g p) k.places
     ∙ image-at pages k.after k.its_end (k.between ++ k.begin ∷ k.front) k.front p k.ends_it k.last (begun-last k.between k.begin k.front p k.begins_it k.same_transfer)
@@ -74,32 +74,32 @@ unfolding image
 image-opening pages [] p none = refl
 image-opening pages (e ∷ h) p none =
     let k = or_parts (ends_begun p e h) _ (sym (some-first (ends_begun p) e h) ∙ none) in
-    image-effect pages e h p ∙ go (ends p e) (some_effect (λ b before. begins p b) h []) refl k.0 ∙ image-opening pages h p k.1
+    image-effect pages e h p ∙ go (ends_page_transfer p e) (some_effect (λ b before. begins_page_transfer p b) h []) refl k.0 ∙ image-opening pages h p k.1
   where
-    go : (b began : Bool) → some_effect (λ b before. begins p b) h [] ≡ began → (b && began) ≡ false → cond b (image_after pages p (begun h p) (ends_well p e) (image pages h p)) (image pages h p) ≡ image pages h p
+    go : (b began : Bool) → some_effect (λ b before. begins_page_transfer p b) h [] ≡ began → (b && began) ≡ false → cond b (image_after pages p (begun h p) (ends_well p e) (image pages h p)) (image pages h p) ≡ image pages h p
     go true true is never = absurd (cc)
     go true false is never = ap (λ o. image_after pages p o (ends_well p e) (image pages h p)) (begun-none h p is)
     go false began is never = refl
 
 -- one of the two is there
-has-begin : (xs : List Effect) (b : Effect) (ys : List Effect) (p : ℕ) → begins p b ≡ true → some_effect (λ x before. begins p x) (xs ++ b ∷ ys) [] ≡ true
-has-begin [] b ys p is = or_left (begins p b) _ is
-has-begin (x ∷ xs) b ys p is = or_right (begins p x) _ (has-begin xs b ys p is)
+has-begin : (xs : List Effect) (b : Effect) (ys : List Effect) (p : ℕ) → begins_page_transfer p b ≡ true → some_effect (λ x before. begins_page_transfer p x) (xs ++ b ∷ ys) [] ≡ true
+has-begin [] b ys p is = or_left (begins_page_transfer p b) _ is
+has-begin (x ∷ xs) b ys p is = or_right (begins_page_transfer p x) _ (has-begin xs b ys p is)
 
-has-begin_after : (xs : List Effect) (e : Effect) (rest : List Effect) (p : ℕ) → some_effect (λ x before. begins p x) rest [] ≡ true → some_effect (λ x before. begins p x) (xs ++ e ∷ rest) [] ≡ true
-has-begin_after [] e rest p is = or_right (begins p e) _ is
-has-begin_after (x ∷ xs) e rest p is = or_right (begins p x) _ (has-begin_after xs e rest p is)
+has-begin_after : (xs : List Effect) (e : Effect) (rest : List Effect) (p : ℕ) → some_effect (λ x before. begins_page_transfer p x) rest [] ≡ true → some_effect (λ x before. begins_page_transfer p x) (xs ++ e ∷ rest) [] ≡ true
+has-begin_after [] e rest p is = or_right (begins_page_transfer p e) _ is
+has-begin_after (x ∷ xs) e rest p is = or_right (begins_page_transfer p x) _ (has-begin_after xs e rest p is)
 
-has-begun : (h : List Effect) (p : ℕ) → LastTransfer h p → some_effect (λ x before. begins p x) h [] ≡ true
+has-begun : (h : List Effect) (p : ℕ) → LastTransfer h p → some_effect (λ x before. begins_page_transfer p x) h [] ≡ true
 has-begun h p k =
-    ap (λ (g : List Effect). some_effect (λ x before. begins p x) g []) k.places
+    ap (λ (g : List Effect). some_effect (λ x before. begins_page_transfer p x) g []) k.places
     ∙ has-begin_after k.after k.its_end (k.between ++ k.begin ∷ k.front) p (has-begin k.between k.begin k.front p k.begins_it)
 
 LastTransfer-has : (h : List Effect) (p : ℕ) → some_effect (ends_begun p) h [] ≡ true → LastTransfer h p
 LastTransfer-has [] p is = absurd (cc)
-LastTransfer-has (e ∷ h) p is = go (ends p e) (some_effect (λ b before. begins p b) h []) refl refl (sym (some-first (ends_begun p) e h) ∙ is) (LastTransfer-has h p)
+LastTransfer-has (e ∷ h) p is = go (ends_page_transfer p e) (some_effect (λ b before. begins_page_transfer p b) h []) refl refl (sym (some-first (ends_begun p) e h) ∙ is) (LastTransfer-has h p)
   where
-    later : ends p e ≡ false → LastTransfer h p → LastTransfer (e ∷ h) p
+    later : ends_page_transfer p e ≡ false → LastTransfer h p → LastTransfer (e ∷ h) p
     later other k =
         record {
           after = e ∷ k.after;
@@ -114,7 +114,7 @@ LastTransfer-has (e ∷ h) p is = go (ends p e) (some_effect (λ b before. begin
           same_transfer = k.same_transfer;
         }
 
-    here : ends p e ≡ true → LastPlace (λ b before. begins p b) h → LastTransfer (e ∷ h) p
+    here : ends_page_transfer p e ≡ true → LastPlace (λ b before. begins_page_transfer p b) h → LastTransfer (e ∷ h) p
     here ends_it k =
         record {
           after = [];
@@ -129,9 +129,9 @@ LastTransfer-has (e ∷ h) p is = go (ends p e) (some_effect (λ b before. begin
           same_transfer = k.last;
         }
 
-    go : (a b : Bool) → ends p e ≡ a → some_effect (λ x before. begins p x) h [] ≡ b → (ends_begun p e h || some_effect (ends_begun p) h []) ≡ true → (some_effect (ends_begun p) h [] ≡ true → LastTransfer h p) → LastTransfer (e ∷ h) p
-    go true true ends_it began it rest = here ends_it (last-place (λ b before. begins p b) h began)
-    go true false ends_it never it rest = absurd (both_ways (rest (tail (ends p e) _ _ never it)))
+    go : (a b : Bool) → ends_page_transfer p e ≡ a → some_effect (λ x before. begins_page_transfer p x) h [] ≡ b → (ends_begun p e h || some_effect (ends_begun p) h []) ≡ true → (some_effect (ends_begun p) h [] ≡ true → LastTransfer h p) → LastTransfer (e ∷ h) p
+    go true true ends_it began it rest = here ends_it (last-place (λ b before. begins_page_transfer p b) h began)
+    go true false ends_it never it rest = absurd (both_ways (rest (tail (ends_page_transfer p e) _ _ never it)))
       where
         tail : (a b c : Bool) → b ≡ false → ((a && b) || c) ≡ true → c ≡ true
         tail true true c x y = absurd (cc)
@@ -140,7 +140,7 @@ LastTransfer-has (e ∷ h) p is = go (ends p e) (some_effect (λ b before. begin
 
         both_ways : LastTransfer h p → ⊥
         both_ways k = absurd (cc (never, has-begun h p k))
-    go false b other began it rest = later other (rest (tail (ends p e) _ _ other it))
+    go false b other began it rest = later other (rest (tail (ends_page_transfer p e) _ _ other it))
       where
         tail : (a b c : Bool) → a ≡ false → ((a && b) || c) ≡ true → c ≡ true
         tail true b c x y = absurd (cc)

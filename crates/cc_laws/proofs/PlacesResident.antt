@@ -13,8 +13,8 @@ use Rattle.cc_model.specs.Objects.{objects, truncation}
 use Rattle.cc_model.specs.Ranges.{span_has}
 use Rattle.cc_model.specs.Touches.{size_of, is_mapped}
 use Rattle.cc_model.specs.Residency.{below, moved_by, residents, is_resident}
-use Rattle.cc_laws.specs.ByPlaces.{act_size, act_discards, is_past, cuts_page, SincePlace}
-use Rattle.cc_laws.specs.ByPlacesResident.{act_stores, brings_in, takes_out, comes_in, goes_away}
+use Rattle.cc_laws.specs.ByPlaces.{act_size, act_discards, is_past_size, cuts_page, SincePlace}
+use Rattle.cc_laws.specs.ByPlacesResident.{act_stores, brings_page_in, takes_out, comes_in, goes_away}
 use Rattle.cc_laws.proofs.BlockLists.{is_among-filter, same-flip}
 use Rattle.cc_laws.proofs.ResidencySteps.{residents-mapped, residents-unmapped}
 use Rattle.cc_laws.proofs.PlacesLast.{since-place}
@@ -29,7 +29,7 @@ not-past to i = go (nat_lt i to) refl
     go true is = is ∙ ap not (sym (lt-leb to i (ltb-true i to is)))
     go false is = is ∙ ap not (sym (le-leb to i (ltb-false i to is)))
 
-among-below : (o : Option ℕ) (p : ℕ) (pages : List ℕ) → is_among p (below o pages) ≡ (not (is_past o p || false) && is_among p pages)
+among-below : (o : Option ℕ) (p : ℕ) (pages : List ℕ) → is_among p (below o pages) ≡ (not (is_past_size o p || false) && is_among p pages)
 among-below None p pages = refl
 among-below (Some to) p pages = among-filtered (λ q. nat_lt (4096 * q) to) p pages ∙ ap (λ b. b && is_among p pages) (not-past to (4096 * p) ∙ same (nat_le to (4096 * p)))
   where
@@ -48,10 +48,10 @@ among-in page p pages = ap (λ b. (page == p) || b) (among-without page p pages)
     go false b = refl
 
 -- what an effect leaves of the resident pages has the page where it brings it in, or leaves it
-moved-among : (e : Effect) (h : List Effect) (p : ℕ) (pages : List ℕ) → is_among p (moved_by e h pages) ≡ (brings_in p e || (not (takes_out p e || cuts_page p e h) && is_among p pages))
+moved-among : (e : Effect) (h : List Effect) (p : ℕ) (pages : List ℕ) → is_among p (moved_by e h pages) ≡ (brings_page_in p e || (not (takes_out p e || cuts_page p e h) && is_among p pages))
 moved-among (Did pass call reply) h p pages = go (act_of call) refl
   where
-    go : (a : Act) → act_of call ≡ a → is_among p (moved_by (Did pass call reply) h pages) ≡ (act_stores p (act_of call) || (not (is_past (act_size (act_of call) h) p || act_discards (act_of call) p) && is_among p pages))
+    go : (a : Act) → act_of call ≡ a → is_among p (moved_by (Did pass call reply) h pages) ≡ (act_stores p (act_of call) || (not (is_past_size (act_size (act_of call) h) p || act_discards (act_of call) p) && is_among p pages))
     go (Opens file given quota temporary) is = rw (is, moved_by) refl
     go (Closes file truncate) is = rw (is, moved_by) (among-below (truncation (objects h) (size_of h) file truncate) p pages)
     go (Resizes allocation size) is = rw (is, moved_by) (among-below (Some size) p pages)
@@ -86,9 +86,9 @@ resident-effect p e h = go (is_mapped (e ∷ h)) refl
     gone false b false true r is = refl
     gone false b false false r is = refl
 
-    go : (m : Bool) → is_mapped (e ∷ h) ≡ m → is_resident (e ∷ h) p ≡ ((is_mapped (e ∷ h) && brings_in p e) || (not (takes_out p e || (cuts_page p e h || not (is_mapped (e ∷ h)))) && is_resident h p))
-    go true is = ap (is_among p) (residents-mapped e h is) ∙ moved-among e h p (residents h) ∙ kept (is_mapped (e ∷ h)) (brings_in p e) (takes_out p e) (cuts_page p e h) (is_resident h p) is
-    go false is = ap (is_among p) (residents-unmapped (e ∷ h) is) ∙ gone (is_mapped (e ∷ h)) (brings_in p e) (takes_out p e) (cuts_page p e h) (is_resident h p) is
+    go : (m : Bool) → is_mapped (e ∷ h) ≡ m → is_resident (e ∷ h) p ≡ ((is_mapped (e ∷ h) && brings_page_in p e) || (not (takes_out p e || (cuts_page p e h || not (is_mapped (e ∷ h)))) && is_resident h p))
+    go true is = ap (is_among p) (residents-mapped e h is) ∙ moved-among e h p (residents h) ∙ kept (is_mapped (e ∷ h)) (brings_page_in p e) (takes_out p e) (cuts_page p e h) (is_resident h p) is
+    go false is = ap (is_among p) (residents-unmapped (e ∷ h) is) ∙ gone (is_mapped (e ∷ h)) (brings_page_in p e) (takes_out p e) (cuts_page p e h) (is_resident h p) is
 
 -- a page is resident since it came in
 pub resident-places : (h : List Effect) (p : ℕ) → (is_resident h p ≡ true) ↔ SincePlace (comes_in p) (goes_away p) h

@@ -11,10 +11,10 @@ use Rattle.cc_model.specs.Sizes.{Touch, touched_if, cut_if, dropped_if, stored_r
 use Rattle.cc_model.specs.Ranges.{span_has}
 use Rattle.cc_model.specs.Touches.{touches, size_of, is_dirty}
 use Rattle.cc_model.specs.Bytes.{content, on_disk}
-use Rattle.cc_laws.specs.ByPlaces.{act_touches, act_lsn, act_size, act_changes, act_gives, touches_page, lsn_of_touch, changes_byte, byte_given, act_discards, decides_byte, is_past, cuts_page, begins, ends_well}
+use Rattle.cc_laws.specs.ByPlaces.{act_touches, act_lsn, act_size, act_changes, act_gives, touches_page, lsn_of_touch, changes_byte, byte_given, act_discards, decides_byte, is_past_size, cuts_page, begins_page_transfer, ends_well}
 use Rattle.cc_laws.proofs.ActSteps.{touches_by, touches-done, content_by, content-done}
 
-cut-past : (o : Option ℕ) (p : ℕ) (ts : List Touch) → cut_if o p ts ≡ cond (is_past o p || false) [] ts
+cut-past : (o : Option ℕ) (p : ℕ) (ts : List Touch) → cut_if o p ts ≡ cond (is_past_size o p || false) [] ts
 cut-past None p ts = refl
 cut-past (Some to) p ts = go (nat_le to (4096 * p))
   where
@@ -26,7 +26,7 @@ dropped-cond : (b : Bool) (ts : List Touch) → dropped_if b ts ≡ cond b [] ts
 dropped-cond true ts = refl
 dropped-cond false ts = refl
 
-act-step : (ended : Bool) (a : Act) (h : List Effect) (p : ℕ) → touches_by ended a h p ≡ touched_if (act_touches a h p) (suc (length h)) (act_lsn a) (cond (is_past (act_size a h) p || act_discards a p) [] (touches ended h p))
+act-step : (ended : Bool) (a : Act) (h : List Effect) (p : ℕ) → touches_by ended a h p ≡ touched_if (act_touches a h p) (suc (length h)) (act_lsn a) (cond (is_past_size (act_size a h) p || act_discards a p) [] (touches ended h p))
 act-step ended (Opens file given quota temporary) h p = refl
 act-step ended (Closes file truncate) h p = cut-past (truncation (objects h) (size_of h) file truncate) p (touches ended h p)
 act-step ended (Resizes allocation size) h p = cut-past (Some size) p (touches ended h p)
@@ -41,7 +41,7 @@ act-step ended Looks h p = refl
 abbrev pub touches_after : Bool → Effect → List Effect → ℕ → List Touch
 touches_after ended e h p =
     touched_if (touches_page p e h) (suc (length h)) (lsn_of_touch e)
-    (cond (cuts_page p e h) [] (cond (ended && begins p e) [] (touches (ended || ends_well p e) h p)))
+    (cond (cuts_page p e h) [] (cond (ended && begins_page_transfer p e) [] (touches (ended || ends_well p e) h p)))
 
 -- an `elim` of a test, as `cond` has it
 abbrev chosen : {A : Type 0} → Bool → A → A → A
@@ -59,7 +59,7 @@ pub touches-effect : (ended : Bool) (e : Effect) (h : List Effect) (p : ℕ) →
 unfolding touches
 touches-effect ended (Did pass call reply) h p =
     touches-done ended pass call reply h p ∙ act-step ended (act_of call) h p
-    ∙ ap (λ ts. touched_if (act_touches (act_of call) h p) (suc (length h)) (act_lsn (act_of call)) (cond (is_past (act_size (act_of call) h) p || act_discards (act_of call) p) [] ts)) (neither ended h p)
+    ∙ ap (λ ts. touched_if (act_touches (act_of call) h p) (suc (length h)) (act_lsn (act_of call)) (cond (is_past_size (act_size (act_of call) h) p || act_discards (act_of call) p) [] ts)) (neither ended h p)
 touches-effect ended (CameIn pass page from_disk) h p = neither ended h p
 touches-effect ended (WentOut pass page) h p = neither ended h p
 touches-effect true (Began pass page) h p = chosen-cond (page == p) [] (touches true h p)

@@ -8,7 +8,7 @@ use Rattle.cc_model.specs.History.{history}
 use Rattle.cc_model.specs.Holds.{Hold, holds_of, is_held}
 use Rattle.cc_model.specs.Touches.{size_of, valid_of, is_dirty}
 use Rattle.cc_model.specs.Settings.{quota_of}
-use Rattle.cc_model.specs.Residency.{is_resident, mapped_blocks}
+use Rattle.cc_model.specs.Residency.{is_resident, mapped_block_count}
 use Rattle.cc_model.specs.Good.{IsGoodSoFar}
 use Rattle.cc_laws.proofs.SafeJournals.{good-safe}
 use Rattle.cc_laws.proofs.SizeFacts.{ends_past, sized}
@@ -37,5 +37,5 @@ held_resident-good u past s good p held = held-resident (history past s) p (good
 pub dirty_resident-good : (u : Setup) (past : List Entry) (s : ℕ) → IsGoodSoFar u past → (p : ℕ) → is_dirty (history past s) p ≡ true → is_resident (history past s) p ≡ true
 dirty_resident-good u past s good p dirty = dirty-resident (history past s) p (good-safe u past s good) dirty
 
-pub within_quota-good : (u : Setup) (past : List Entry) (s : ℕ) → IsGoodSoFar u past → mapped_blocks (history past s) ≤ quota_of (history past s)
+pub within_quota-good : (u : Setup) (past : List Entry) (s : ℕ) → IsGoodSoFar u past → mapped_block_count (history past s) ≤ quota_of (history past s)
 within_quota-good u past s good = quota-within (history past s) (good-safe u past s good)

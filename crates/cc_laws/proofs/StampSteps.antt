@@ -15,7 +15,7 @@ use Rattle.cc_model.specs.Objects.{objects, truncation}
 use Rattle.cc_model.specs.Sizes.{Touch, touched_if, hold_has, ended_ok}
 use Rattle.cc_model.specs.Ranges.{span_has}
 use Rattle.cc_model.specs.Touches.{touches, size_of}
-use Rattle.cc_entry.specs.Lsns.{joined, alone}
+use Rattle.cc_entry.specs.Lsns.{joined, lsn_alone}
 use Rattle.cc_model.specs.Stamps.{lsns_among, lsns_of, is_unstamped}
 use Rattle.cc_laws.proofs.HoldSteps.{holds_of-came_in, holds_of-went_out, holds_of-began, holds_of-ended, holds_of-synced, changes_holds, holds_of-other}
 use Rattle.cc_laws.proofs.TouchSteps.{touches-opens, touches-closes, touches-resizes, touches-writes, touches-zeroes, touches-stores, touches-stamps, touches-discards, touches-looks, touches-came_in, touches-went_out, touches-began_open, touches-ended_bad, touches-ended_other, touches-synced}
@@ -51,7 +51,7 @@ lsns_of-zeroes pass call reply h p is = rw (touches-zeroes false pass call reply
 pub lsns_of-stores : {page : ℕ} {bytes : List ℕ} (pass : ℕ) (call : Call) (reply : Reply) (h : List Effect) (p : ℕ) → act_of call ≡ Stores page bytes → lsns_of (Did pass call reply ∷ h) p ≡ lsns_of h p
 lsns_of-stores pass call reply h p is = rw (touches-stores false pass call reply h p is, lsns_of) (lsns_among-unstamped _ _ (touches false h p))
 
-pub lsns_of-stamps_on : {hold : ℕ} {lsn : Option ℕ} (pass : ℕ) (call : Call) (reply : Reply) (h : List Effect) (p : ℕ) → act_of call ≡ Stamps hold lsn → hold_has (hold_at (holds_of h) hold) p ≡ true → lsns_of (Did pass call reply ∷ h) p ≡ joined (alone lsn) (lsns_of h p)
+pub lsns_of-stamps_on : {hold : ℕ} {lsn : Option ℕ} (pass : ℕ) (call : Call) (reply : Reply) (h : List Effect) (p : ℕ) → act_of call ≡ Stamps hold lsn → hold_has (hold_at (holds_of h) hold) p ≡ true → lsns_of (Did pass call reply ∷ h) p ≡ joined (lsn_alone lsn) (lsns_of h p)
 lsns_of-stamps_on pass call reply h p is p0 = rw (touches-stamps false pass call reply h p is, p0, lsns_of) refl
 
 pub lsns_of-stamps_off : {hold : ℕ} {lsn : Option ℕ} (pass : ℕ) (call : Call) (reply : Reply) (h : List Effect) (p : ℕ) → act_of call ≡ Stamps hold lsn → hold_has (hold_at (holds_of h) hold) p ≡ false → lsns_of (Did pass call reply ∷ h) p ≡ lsns_of h p

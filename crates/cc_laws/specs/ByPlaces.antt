@@ -89,22 +89,22 @@ abbrev pub decides_byte : ℕ → Effect → List Effect → Bool
 decides_byte i e h = changes_byte i e h || (discards_page (i / 4096) e && is_dirty h (i / 4096))
 
 -- whether a size step takes the page away: the page begins at the size that is set, or past it
-abbrev pub is_past : Option ℕ → ℕ → Bool
-is_past None p = false
-is_past (Some to) p = nat_le to (4096 * p)
+abbrev pub is_past_size : Option ℕ → ℕ → Bool
+is_past_size None p = false
+is_past_size (Some to) p = nat_le to (4096 * p)
 
 -- whether an effect takes the page away with all that was not written of it
 abbrev pub cuts_page : ℕ → Effect → List Effect → Bool
-cuts_page p e h = is_past (size_step e h) p || discards_page p e
+cuts_page p e h = is_past_size (size_step e h) p || discards_page p e
 
 -- whether an effect begins a transfer of the page, ends one, or ends one well
-abbrev pub begins : ℕ → Effect → Bool
-begins p (Began pass page) = page == p
-begins p other = false
+abbrev pub begins_page_transfer : ℕ → Effect → Bool
+begins_page_transfer p (Began pass page) = page == p
+begins_page_transfer p other = false
 
-abbrev pub ends : ℕ → Effect → Bool
-ends p (Ended pass page how) = page == p
-ends p other = false
+abbrev pub ends_page_transfer : ℕ → Effect → Bool
+ends_page_transfer p (Ended pass page how) = page == p
+ends_page_transfer p other = false
 
 abbrev pub ends_well : ℕ → Effect → Bool
 ends_well p (Ended pass page how) = page == p && ended_ok how

@@ -5,7 +5,7 @@ use Rattle.cc_model.specs.History.{Effect, Did}
 use Rattle.cc_model.specs.Acts.{Act, act_of, Stamps}
 use Rattle.cc_model.specs.Holds.{holds_of, hold_at}
 use Rattle.cc_model.specs.Sizes.{Touch, hold_has}
-use Rattle.cc_laws.specs.ByPlaces.{some_effect, touches_page, changes_byte, lsn_of_touch, cuts_page, begins, ends_well}
+use Rattle.cc_laws.specs.ByPlaces.{some_effect, touches_page, changes_byte, lsn_of_touch, cuts_page, begins_page_transfer, ends_well}
 
 -- a byte of the page that an effect changes
 pub record ChangedByte (p : ℕ) (e : Effect) (h : List Effect) : Type 0 where
@@ -25,16 +25,16 @@ stamps_page p other h = false
 
 -- A transfer of the page that began after a place and ended well: its begin, and after it a good end,
 -- with no other begin of the page between.
-pub record IsWritten (later : List Effect) (p : ℕ) : Type 0 where
+pub record IsTransferredSince (later : List Effect) (p : ℕ) : Type 0 where
   pub after : List Effect
   pub ok_end : Effect
   pub between : List Effect
   pub begin : Effect
   pub front : List Effect
   pub places : later ≡ after ++ ok_end ∷ (between ++ begin ∷ front)
-  pub begins_it : begins p begin ≡ true
+  pub begins_it : begins_page_transfer p begin ≡ true
   pub ends_it : ends_well p ok_end ≡ true
-  pub same_transfer : some_effect (λ e front. begins p e) between (begin ∷ front) ≡ false
+  pub same_transfer : some_effect (λ e front. begins_page_transfer p e) between (begin ∷ front) ≡ false
 
 -- A place of the history whose effect touches the page, with no transfer of it that began later and
 -- ended well, and no later size step at or below its first byte.
@@ -45,7 +45,7 @@ pub record IsTouch (h : List Effect) (p : ℕ) (t : Touch) : Type 0 where
   pub places : h ≡ later ++ effect ∷ before
   pub touches_it : touches_page p effect before ≡ true
   pub is : t ≡ record { place = suc (length before); lsn = lsn_of_touch effect }
-  pub unwritten : IsWritten later p → ⊥
+  pub unwritten : IsTransferredSince later p → ⊥
   pub uncut : some_effect (cuts_page p) later (effect ∷ before) ≡ false
 
 -- the touch is in the list

@@ -4,7 +4,7 @@ use Rattle.std.specs.Prelude.{◌≡◌, ℕ, ◌+◌, ◌*◌, ◌<◌, ◌≤�
 use Rattle.cc_model.specs.History.{Effect}
 use Rattle.cc_model.specs.Objects.{had_map}
 use Rattle.cc_model.specs.Touches.{valid_of}
-use Rattle.cc_laws.specs.ByPlacesDirty.{IsWritten}
+use Rattle.cc_laws.specs.ByPlacesDirty.{IsTransferredSince}
 
 -- A place since the stream was initialised at which the byte was not valid, with no transfer of the page
 -- that began later and ended well.
@@ -14,7 +14,7 @@ pub record WasPast (h : List Effect) (p i : ℕ) : Type 0 where
   pub places : h ≡ later ++ before
   pub past : valid_of before ≤ i
   pub initialised : had_map before ≡ true
-  pub unwritten : IsWritten later p → ⊥
+  pub unwritten : IsTransferredSince later p → ⊥
 
 -- a byte of the page that is valid now, and was not at such a place
 pub record GrownByte (h : List Effect) (p : ℕ) : Type 0 where

@@ -10,10 +10,10 @@ abbrev pub act_stores : ℕ → Act → Bool
 act_stores p (Stores page bytes) = page == p
 act_stores p other = false
 
-abbrev pub brings_in : ℕ → Effect → Bool
-brings_in p (Did pass call reply) = act_stores p (act_of call)
-brings_in p (CameIn pass page from_disk) = page == p
-brings_in p other = false
+abbrev pub brings_page_in : ℕ → Effect → Bool
+brings_page_in p (Did pass call reply) = act_stores p (act_of call)
+brings_page_in p (CameIn pass page from_disk) = page == p
+brings_page_in p other = false
 
 -- whether an effect takes the page out
 abbrev pub takes_out : ℕ → Effect → Bool
@@ -22,7 +22,7 @@ takes_out p other = false
 
 -- the page comes in, and the stream has a map then
 abbrev pub comes_in : ℕ → Effect → List Effect → Bool
-comes_in p e h = is_mapped (e ∷ h) && brings_in p e
+comes_in p e h = is_mapped (e ∷ h) && brings_page_in p e
 
 -- the page goes out, or a size step takes it away, or the map goes
 abbrev pub goes_away : ℕ → Effect → List Effect → Bool

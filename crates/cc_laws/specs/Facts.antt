@@ -8,7 +8,7 @@ use Rattle.cc_model.specs.Holds.{holds_of, is_held}
 use Rattle.cc_model.specs.Touches.{size_of, valid_of, is_dirty}
 use Rattle.cc_model.specs.Bytes.{byte_of}
 use Rattle.cc_model.specs.Settings.{quota_of}
-use Rattle.cc_model.specs.Residency.{is_resident, mapped_blocks, block_is_mapped, order_of_use}
+use Rattle.cc_model.specs.Residency.{is_resident, mapped_block_count, block_is_mapped, order_of_use}
 use Rattle.cc_model.specs.Images.{image}
 use Rattle.cc_model.specs.Cache.{views_taken, dirty_total}
 
@@ -19,7 +19,7 @@ pub record IsOnDisk (pages : ℕ → List ℕ) (h : List Effect) (p i : ℕ) : T
   pub same : slice_index bytes (i - 4096 * p) ≡ byte_of pages h i
 
 -- of one stream, at every place of a good journal
-pub record IsSound (h : List Effect) : Type 0 where
+pub record IsSoundHistory (h : List Effect) : Type 0 where
   pub valid_within : valid_of h ≤ size_of h
   pub size_in_range : size_of h < 2 ^ 63
   pub dirty_is_resident : (p : ℕ) → is_dirty h p ≡ true → is_resident h p ≡ true
@@ -29,7 +29,7 @@ pub record IsSound (h : List Effect) : Type 0 where
   -- disk's opening pages
   pub clean_is_on_disk : (pages : ℕ → List ℕ) (p i : ℕ) → is_dirty h p ≡ false →
       4096 * p ≤ i → i < 4096 * p + 4096 → i < valid_of h → IsOnDisk pages h p i
-  pub within_quota : mapped_blocks h ≤ quota_of h
+  pub within_quota : mapped_block_count h ≤ quota_of h
 
 -- of the whole cache
 pub record IsWithinLimits (past : List Entry) : Type 0 where

@@ -14,7 +14,7 @@ ghost use Rattle.cc_laws.specs.ByPlacesDirty.{ChangedByte, stamps_page, IsTouch,
 ghost use Rattle.cc_laws.specs.ByPlacesResident.{comes_in, goes_away};
 ghost use Rattle.cc_laws.specs.ByPlacesSizes.{size_set, sets_size, validates, invalidates};
 ghost use Rattle.cc_laws.specs.ByPlacesGrown.{WasPast, GrownByte};
-ghost use Rattle.cc_laws.specs.ByPlacesImage.{LastTransfer, ends_begun, left_by};
+ghost use Rattle.cc_laws.specs.ByPlacesImage.{LastTransfer, ends_begun, image_left_by};
 
 /// An effect touches a page exactly where it changes a byte of it or is a set-dirty whose hold has it.
 pub fn touches_by_bytes()
@@ -59,7 +59,7 @@ pub fn resident_by_places()
 /// well, and the opening page where no transfer of it ended.
 pub fn images_by_places()
     ensures transferred { (pages : ℕ → List ℕ) (h : List Effect) (p : ℕ) (k : LastTransfer h p) →
-        image pages h p ≡ left_by pages p k.front (ends_well p k.its_end) }
+        image pages h p ≡ image_left_by pages p k.front (ends_well p k.its_end) }
     ensures opening { (pages : ℕ → List ℕ) (h : List Effect) (p : ℕ) →
         some_effect (ends_begun p) h [] ≡ false → image pages h p ≡ Some (pages p) }
     ensures one_of_both { (h : List Effect) (p : ℕ) →

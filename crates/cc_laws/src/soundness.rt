@@ -9,9 +9,9 @@ ghost use Rattle.cc_model.specs.History.{history};
 ghost use Rattle.cc_model.specs.Holds.{holds_of, is_held};
 ghost use Rattle.cc_model.specs.Touches.{size_of, valid_of, is_dirty};
 ghost use Rattle.cc_model.specs.Settings.{quota_of};
-ghost use Rattle.cc_model.specs.Residency.{is_resident, mapped_blocks};
+ghost use Rattle.cc_model.specs.Residency.{is_resident, mapped_block_count};
 ghost use Rattle.cc_model.specs.Good.{IsGoodSoFar};
-ghost use Rattle.cc_laws.specs.Facts.{IsSound};
+ghost use Rattle.cc_laws.specs.Facts.{IsSoundHistory};
 
 /// The valid data length of a stream lies within its size, and the size is below 2^63.
 pub fn sizes_are_in_order()
@@ -42,10 +42,10 @@ pub fn dirty_pages_are_resident()
 /// A stream has no more view blocks mapped than its quota.
 pub fn blocks_are_within_quota()
     ensures { (u : Setup) (past : List Entry) (s : ℕ) → IsGoodSoFar u past →
-        mapped_blocks (history past s) ≤ quota_of (history past s) }
+        mapped_block_count (history past s) ≤ quota_of (history past s) }
 {}
 
 /// All of this holds of each stream, and what is clean is on the disk.
 pub fn streams_are_sound()
-    ensures { (u : Setup) (past : List Entry) (s : ℕ) → IsGoodSoFar u past → IsSound (history past s) }
+    ensures { (u : Setup) (past : List Entry) (s : ℕ) → IsGoodSoFar u past → IsSoundHistory (history past s) }
 {}

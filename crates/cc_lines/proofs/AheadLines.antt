@@ -22,19 +22,19 @@ use Rattle.cc_effects.specs.ReadAhead.{AheadLeft}
 use Rattle.cc_own.specs.Own.{IsUnchanged}
 use Rattle.cc_own.proofs.VerbsKeep.{ahead-unchanged}
 use Rattle.cc_pieces.specs.Answered.{AheadAnswered, CallAnswered}
-use Rattle.cc_pieces.specs.Queue.{AskPlaced, StepPlaced, is_queue_action}
+use Rattle.cc_pieces.specs.Queue.{AskPlaced, AheadStepPlaced, is_queue_action}
 use Rattle.cc_pieces.specs.AsyncQueue.{is_async}
 use Rattle.cc_pieces.proofs.AsyncPlaces.{async-other}
 use Rattle.cc_pieces.proofs.PlaceSteps.{place-asked, place-other, place-stepped}
 use Rattle.cc_async.specs.declared.queue.QueuedRead.{QueuedRead}
 use Rattle.cc_queue.specs.Places.{PlaceState, PopLeft}
-use Rattle.cc_calls.specs.Ahead.{AskedAt, IsFullStep, StepEnds, ahead_outcome}
+use Rattle.cc_calls.specs.Ahead.{AskedAt, IsFullAheadStep, StepEnds, ahead_outcome}
 use Rattle.cc_calls.specs.Pages.{WentOn}
 use Rattle.cc_calls.proofs.Paging.{full-within}
 use Rattle.cc_turns.specs.Standing.{Standing}
 use Rattle.cc_writes.specs.Ways.{IsFull}
 use Rattle.cc_lines.specs.Holds.{NamesState}
-use Rattle.cc_lines.specs.Line.{AnyServed, CanServe, IsFullTold, LineServed, StandFor, StepAt, ask_told, step_told}
+use Rattle.cc_lines.specs.Line.{AnyServed, CanServe, IsFullTold, LineServed, NamesStandFor, StepAt, ask_told, step_told}
 use Rattle.cc_lines.specs.Queues.{CopiesWent, PlaceWent, PlacesWent, copies_of, hand_of}
 use Rattle.cc_lines.specs.declared.queues.Places.{Places}
 use Rattle.cc_lines.proofs.WordLines.{answered-unchanged, full-told, stand-on}
@@ -67,7 +67,7 @@ step-answered : (u : Setup) (me : ℕ) (taken : Option Request) (ended : Result 
 step-answered u me taken (Ok step) old new left = left
 step-answered u me taken (Err e) old new left = left
 
-step-placed : (taken : Option Request) (was now : PlaceState Request) → PopLeft taken was now → StepPlaced taken (hand_of was) (hand_of now) × (now.queue ≡ was.queue)
+step-placed : (taken : Option Request) (was now : PlaceState Request) → PopLeft taken was now → AheadStepPlaced taken (hand_of was) (hand_of now) × (now.queue ≡ was.queue)
 step-placed (Some request) was now popped = (ap hand_of popped, ap (λ p. p.queue) popped)
 step-placed None was now popped = (ap hand_of popped.0, ap (λ p. p.queue) popped.0)
 
@@ -81,7 +81,7 @@ step-at old new ended was now ends =
       queue_is = placed.1;
     }
 
-pub step-full : (old new : Standing) (taken : Option Request) (ended : Result (Option AheadDone) CcError) → AheadLeft old.setup old.number taken ended old.seen new.seen → IsFullStep taken old new ended → IsFullTold new (step_told ended)
+pub step-full : (old new : Standing) (taken : Option Request) (ended : Result (Option AheadDone) CcError) → AheadLeft old.setup old.number taken ended old.seen new.seen → IsFullAheadStep taken old new ended → IsFullTold new (step_told ended)
 step-full old new taken (Ok step) left full = tt
 step-full old new None (Err e) left full = absurd left
 step-full old new (Some request) (Err e) left full = full-told 2 new e (omega arith) (full-within {A = Option AheadDone} (call.AheadStep request) old new (Err e) full)
@@ -106,7 +106,7 @@ module _ (old new : Standing) (told : Answer) (was now : NamesState) (full : IsF
   ask-line file at len left placed queue = record {
     served = λ bounds bindings stand right. (
       left,
-      subst (λ (n : NamesState). StandFor new bounds bindings n) (sym rest)
+      subst (λ (n : NamesState). NamesStandFor new bounds bindings n) (sym rest)
           (stand-on old new went good bounds bindings was
           (λ id. answered-unchanged old.setup old.number id (call.AskAhead file at len) told old.seen new.seen left refl) stand),
     );
@@ -124,7 +124,7 @@ module _ (old new : Standing) (told : Answer) (was now : NamesState) (full : IsF
   step-line at = record {
     served = λ bounds bindings stand right. (
       (at.taken, at.answered),
-      subst (λ (n : NamesState). StandFor new bounds bindings n) (sym rest)
+      subst (λ (n : NamesState). NamesStandFor new bounds bindings n) (sym rest)
           (stand-on old new went good bounds bindings was
           (λ id. stepped-unchanged old.setup old.number id at.taken told old.seen new.seen at.answered) stand),
     );

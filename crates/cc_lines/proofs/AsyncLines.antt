@@ -21,7 +21,7 @@ use Rattle.cc_script.specs.HoldWords.{bound_after}
 use Rattle.cc_script.specs.declared.bound.Bound.{Bound}
 use Rattle.cc_script.specs.declared.script.Action.{Action}
 use Rattle.cc_script.specs.declared.script.Action.TheVariants as action
-use Rattle.cc_async.specs.Reads.{CompletionLeft, ReadLeft, StartLeft, StartedAt, bytes_outcome, taken_of}
+use Rattle.cc_async.specs.Reads.{CompletionLeft, AsyncReadLeft, StartLeft, StartedAt, bytes_outcome, taken_of}
 use Rattle.cc_async.specs.declared.queue.QueuedRead.{QueuedRead}
 use Rattle.cc_model.specs.Good.{IsGood}
 use Rattle.cc_model.specs.Setup.{Setup}
@@ -40,7 +40,7 @@ use Rattle.cc_calls.specs.Pages.{IsFullFor, WentOn}
 use Rattle.cc_calls.proofs.Paging.{full-within}
 use Rattle.cc_turns.specs.Standing.{Standing}
 use Rattle.cc_lines.specs.Holds.{NamesState}
-use Rattle.cc_lines.specs.Line.{AnyServed, IsFullIn, IsFullTold, StandFor, start_told}
+use Rattle.cc_lines.specs.Line.{AnyServed, IsFullIn, IsFullTold, NamesStandFor, start_told}
 use Rattle.cc_lines.specs.Queues.{PlaceWent, copies_of, hand_of, numbered_of}
 use Rattle.cc_lines.proofs.WordLines.{full-told, stand-on}
 
@@ -75,7 +75,7 @@ start-queue me file at len (Err e) was now placed = ap (λ p. p.queue) placed
 
 -- ---- the completion of one
 
-completed-left : (old new : Standing) (done : AsyncDone) (ended : Result (List ℕ) CcError) → ReadLeft old new done.file done.at done.len true ended → done.answer ≡ ended → CompletionAnswered old.setup old.number (answer.Completed (Some done)) old.seen new.seen
+completed-left : (old new : Standing) (done : AsyncDone) (ended : Result (List ℕ) CcError) → AsyncReadLeft old new done.file done.at done.len true ended → done.answer ≡ ended → CompletionAnswered old.setup old.number (answer.Completed (Some done)) old.seen new.seen
 completed-left old new done (Ok bytes) left is = rw is left.pages.left
 completed-left old new done (Err e) left is = rw is left.pages.left
 
@@ -123,7 +123,7 @@ module _ (old new : Standing) (told : Answer) (was now : NamesState) (full : IsF
     served = λ bounds bindings stand right. (
       left bindings,
       rw (bound bounds, binding bindings)
-          (subst (λ (n : NamesState). StandFor new bounds bindings n) (sym rest) (stand-on old new went good bounds bindings was keeps stand)),
+          (subst (λ (n : NamesState). NamesStandFor new bounds bindings n) (sym rest) (stand-on old new went good bounds bindings was keeps stand)),
     );
     full = inl full;
     goes_on = went;

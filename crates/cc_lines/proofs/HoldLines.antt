@@ -32,7 +32,7 @@ use Rattle.cc_writes.specs.Ways.{IsFull}
 use Rattle.cc_calls.specs.Ends.{MakingEnds, hold_outcome}
 use Rattle.cc_calls.proofs.Paging.{full-within}
 use Rattle.cc_lines.specs.Holds.{NamesState, bound_named, kind_of, made_told, test_of}
-use Rattle.cc_lines.specs.Line.{CanServe, IsFullTold, LineServed, StandFor}
+use Rattle.cc_lines.specs.Line.{CanServe, IsFullTold, LineServed, NamesStandFor}
 use Rattle.cc_lines.specs.declared.holds.Named.{Named}
 use Rattle.cc_lines.proofs.WordChanges.{held_answer, stand-made}
 use Rattle.cc_lines.proofs.WordLines.{full-told}
@@ -49,7 +49,7 @@ made-full n w (Err e) less full = full-told n w e less full
 
 module _ (old new : Standing) (names now : NamesState) (file : File) (at len : ℕ) (of_kind : HoldKind → Bool) (it : Call) (made : Result Named CcError) (known : file.stream < old.streams) (good : IsGood old.setup old.seen) (ends : MakingEnds old new of_kind file at len it (held_answer made)) (grew : now ≡ record names { named = names.named ++ bound_named made ∷ [] }) where
   -- the line's part that is the same for each such call
-  making : (asked : Action) (k : HoldKind) → file_of it ≡ Some file → makes_hold it ≡ true → ((id : ℕ) → changes_it id it ≡ false) → max 2 (most_asked it) ≤ 3 → IfOk made (λ one. (kind_of one ≡ k) × (test_of one ≡ of_kind)) → ((bounds : List Bound) (bindings : List Binding) → UsesRight bounds asked → length names.named ≡ length bounds) → ((bounds : List Bound) (bindings : List Binding) → CallAnswered old.setup old.number it (made_told made) old.seen new.seen → StandFor new (bounds ++ fresh k file at len ∷ []) (bound (length names.named) k (made_told made) bindings) now → Served old.setup old.number bindings asked (made_told made) old.seen new.seen × StandFor new (bound_after asked bounds) (bindings_after asked (made_told made) bindings) now) → LineServed old new asked (made_told made) names now
+  making : (asked : Action) (k : HoldKind) → file_of it ≡ Some file → makes_hold it ≡ true → ((id : ℕ) → changes_it id it ≡ false) → max 2 (most_asked it) ≤ 3 → IfOk made (λ one. (kind_of one ≡ k) × (test_of one ≡ of_kind)) → ((bounds : List Bound) (bindings : List Binding) → UsesRight bounds asked → length names.named ≡ length bounds) → ((bounds : List Bound) (bindings : List Binding) → CallAnswered old.setup old.number it (made_told made) old.seen new.seen → NamesStandFor new (bounds ++ fresh k file at len ∷ []) (bound (length names.named) k (made_told made) bindings) now → Served old.setup old.number bindings asked (made_told made) old.seen new.seen × NamesStandFor new (bound_after asked bounds) (bindings_after asked (made_told made) bindings) now) → LineServed old new asked (made_told made) names now
   making asked k is_file makes keeps most kinds right as_line = record {
     served = λ bounds bindings stand used. as_line bounds bindings
         (made-answered old.setup old.number it made old.seen new.seen ends.pages.left)

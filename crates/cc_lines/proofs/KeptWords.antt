@@ -17,7 +17,7 @@ use Rattle.cc_own.proofs.Unchanged.{unchanged-keeps}
 use Rattle.cc_pieces.specs.Bindings.{Binding}
 use Rattle.cc_calls.specs.Held.{HoldsAfter}
 use Rattle.cc_calls.specs.declared.held.Held.{Held}
-use Rattle.cc_lines.specs.Holds.{IsNamed, NamesStand, binding_of, held_of, named_at, or_nothing}
+use Rattle.cc_lines.specs.Holds.{HoldIsNamed, NamesStand, binding_of, named_held, named_at, or_nothing}
 use Rattle.cc_lines.specs.declared.holds.Named.{Named}
 
 -- ---- rows
@@ -87,7 +87,7 @@ module _ (u : Setup) (streams me : ℕ) (old new : List Entry) (good : IsGoodSoF
   }
 
   -- so does what a word names
-  pub named-on : (word : ℕ) (bound : Bound) (before bindings : List Binding) (o : Option Named) → ((it : Named) → o ≡ Some it → IsUnchanged me (held_of it).id old new) → binding_of bindings word ≡ binding_of before word → IsNamed streams me old word bound before o → IsNamed streams me new word bound bindings o
+  pub named-on : (word : ℕ) (bound : Bound) (before bindings : List Binding) (o : Option Named) → ((it : Named) → o ≡ Some it → IsUnchanged me (named_held it).id old new) → binding_of bindings word ≡ binding_of before word → HoldIsNamed streams me old word bound before o → HoldIsNamed streams me new word bound bindings o
   named-on word bound before bindings None keeps same is = same ∙ is
   named-on word bound before bindings (Some it) keeps same is = record {
     binding = is.binding;
@@ -103,7 +103,7 @@ module _ (u : Setup) (streams me : ℕ) (old new : List Entry) (good : IsGoodSoF
 
   module _ (bounds : List Bound) (before : List Binding) (names : List (Option Named)) (stand : NamesStand streams me old bounds before names) where
     -- all that is named stays as it was
-    pub stand-kept : ((word : ℕ) (it : Named) → named_at names word ≡ Some it → IsUnchanged me (held_of it).id old new) → NamesStand streams me new bounds before names
+    pub stand-kept : ((word : ℕ) (it : Named) → named_at names word ≡ Some it → IsUnchanged me (named_held it).id old new) → NamesStand streams me new bounds before names
     stand-kept keeps = record {
       counted = stand.counted;
       unbound = stand.unbound;
@@ -114,7 +114,7 @@ module _ (u : Setup) (streams me : ℕ) (old new : List Entry) (good : IsGoodSoF
 
     module _ (bindings : List Binding) where
       -- A word more is bound to a hold that was made, or to nothing.
-      module _ (one : Bound) (o : Option Named) (keeps : (word : ℕ) (it : Named) → named_at names word ≡ Some it → IsUnchanged me (held_of it).id old new) (same : (word : ℕ) → word ≢ length bounds → binding_of bindings word ≡ binding_of before word) (is : IsNamed streams me new (length bounds) one bindings o) (fresh : (word : ℕ) (it made : Named) → named_at names word ≡ Some it → o ≡ Some made → (held_of made).id ≢ (held_of it).id) where
+      module _ (one : Bound) (o : Option Named) (keeps : (word : ℕ) (it : Named) → named_at names word ≡ Some it → IsUnchanged me (named_held it).id old new) (same : (word : ℕ) → word ≢ length bounds → binding_of bindings word ≡ binding_of before word) (is : HoldIsNamed streams me new (length bounds) one bindings o) (fresh : (word : ℕ) (it made : Named) → named_at names word ≡ Some it → o ≡ Some made → (named_held made).id ≢ (named_held it).id) where
         abbrev names_now : List (Option Named)
         names_now = names ++ o ∷ []
 
@@ -152,17 +152,17 @@ module _ (u : Setup) (streams me : ℕ) (old new : List Entry) (good : IsGoodSoF
                 let end : word ≡ length bounds = omega (arith, more, within, length-append bounds (one ∷ [])) in
                 (end, some-same one bound (sym (get-last bounds one) ∙ (ap (slice_get (bounds ++ one ∷ [])) (sym end) ∙ at)))
 
-        each-now : (word : ℕ) (bound : Bound) → slice_get (bounds ++ one ∷ []) word ≡ Some bound → bound.ended ≡ false → IsNamed streams me new word bound bindings (named_at names_now word)
+        each-now : (word : ℕ) (bound : Bound) → slice_get (bounds ++ one ∷ []) word ≡ Some bound → bound.ended ≡ false → HoldIsNamed streams me new word bound bindings (named_at names_now word)
         each-now word bound at still = by (bound-at word bound at)
           where
-            by : ((word < length bounds) × (slice_get bounds word ≡ Some bound)) ⊎ ((word ≡ length bounds) × (one ≡ bound)) → IsNamed streams me new word bound bindings (named_at names_now word)
+            by : ((word < length bounds) × (slice_get bounds word ≡ Some bound)) ⊎ ((word ≡ length bounds) × (one ≡ bound)) → HoldIsNamed streams me new word bound bindings (named_at names_now word)
             by (inl old_one) =
-                subst (IsNamed streams me new word bound bindings) (sym (front word old_one.0))
+                subst (HoldIsNamed streams me new word bound bindings) (sym (front word old_one.0))
                 (named-on word bound before bindings (named_at names word) (keeps word) (same word (λ e. omega (arith, e, old_one.0))) (stand.each word bound old_one.1 still))
             by (inr end) =
-                subst (λ n. IsNamed streams me new n bound bindings (named_at names_now n)) (sym end.0)
-                (subst (IsNamed streams me new (length bounds) bound bindings) (sym last)
-                (subst (λ b. IsNamed streams me new (length bounds) b bindings o) end.1 is))
+                subst (λ n. HoldIsNamed streams me new n bound bindings (named_at names_now n)) (sym end.0)
+                (subst (HoldIsNamed streams me new (length bounds) bound bindings) (sym last)
+                (subst (λ b. HoldIsNamed streams me new (length bounds) b bindings o) end.1 is))
 
         pub stand-bound : one.ended ≡ false → NamesStand streams me new (bounds ++ one ∷ []) bindings names_now
         stand-bound begun = record {
@@ -176,14 +176,14 @@ module _ (u : Setup) (streams me : ℕ) (old new : List Entry) (good : IsGoodSoF
           apart = λ word other it another differ first second. by word other it another differ (where-is word it first) (where-is other another second);
         }
           where
-            by : (word other : ℕ) (it another : Named) → word ≢ other → ((word < length bounds) × (named_at names word ≡ Some it)) ⊎ ((word ≡ length bounds) × (o ≡ Some it)) → ((other < length bounds) × (named_at names other ≡ Some another)) ⊎ ((other ≡ length bounds) × (o ≡ Some another)) → (held_of it).id ≢ (held_of another).id
+            by : (word other : ℕ) (it another : Named) → word ≢ other → ((word < length bounds) × (named_at names word ≡ Some it)) ⊎ ((word ≡ length bounds) × (o ≡ Some it)) → ((other < length bounds) × (named_at names other ≡ Some another)) ⊎ ((other ≡ length bounds) × (o ≡ Some another)) → (named_held it).id ≢ (named_held another).id
             by word other it another differ (inl a) (inl b) = stand.apart word other it another differ a.1 b.1
             by word other it another differ (inl a) (inr b) = λ e. fresh word it another a.1 b.1 (sym e)
             by word other it another differ (inr a) (inl b) = fresh other another it b.1 a.1
             by word other it another differ (inr a) (inr b) = absurd (differ (a.0 ∙ sym b.0))
 
       -- What one word names changes: to nothing, or to a hold with the id that it named.
-      module _ (word : ℕ) (b c : Bound) (o : Option Named) (now : List (Option Named)) (bounds_now : List Bound) (there : slice_get bounds word ≡ Some b) (now_bound : slice_get bounds_now word ≡ Some c) (other_bounds : (other : ℕ) → other ≢ word → slice_get bounds_now other ≡ slice_get bounds other) (as_many_bounds : length bounds_now ≡ length bounds) (now_named : named_at now word ≡ o) (other_names : (other : ℕ) → other ≢ word → named_at now other ≡ named_at names other) (as_many : length now ≡ length names) (keeps : (other : ℕ) (it : Named) → other ≢ word → named_at names other ≡ Some it → IsUnchanged me (held_of it).id old new) (same : (other : ℕ) → other ≢ word → binding_of bindings other ≡ binding_of before other) (is : c.ended ≡ false → IsNamed streams me new word c bindings o) (gone : c.ended ≡ true → o ≡ None) (was_named : (it : Named) → o ≡ Some it → (was : Named) × (named_at names word ≡ Some was) × ((held_of it).id ≡ (held_of was).id)) where
+      module _ (word : ℕ) (b c : Bound) (o : Option Named) (now : List (Option Named)) (bounds_now : List Bound) (there : slice_get bounds word ≡ Some b) (now_bound : slice_get bounds_now word ≡ Some c) (other_bounds : (other : ℕ) → other ≢ word → slice_get bounds_now other ≡ slice_get bounds other) (as_many_bounds : length bounds_now ≡ length bounds) (now_named : named_at now word ≡ o) (other_names : (other : ℕ) → other ≢ word → named_at now other ≡ named_at names other) (as_many : length now ≡ length names) (keeps : (other : ℕ) (it : Named) → other ≢ word → named_at names other ≡ Some it → IsUnchanged me (named_held it).id old new) (same : (other : ℕ) → other ≢ word → binding_of bindings other ≡ binding_of before other) (is : c.ended ≡ false → HoldIsNamed streams me new word c bindings o) (gone : c.ended ≡ true → o ≡ None) (was_named : (it : Named) → o ≡ Some it → (was : Named) × (named_at names word ≡ Some was) × ((named_held it).id ≡ (named_held was).id)) where
         is-at : (other : ℕ) → (other ≡ word) ⊎ (other ≢ word)
         is-at other = by (other == word) refl
           where
@@ -191,26 +191,26 @@ module _ (u : Setup) (streams me : ℕ) (old new : List Entry) (good : IsGoodSoF
             by true e = inl (eqb-true other word e)
             by false e = inr (λ s. absurd (cc (e, eq-eqb other word s)))
 
-        id-was : (other : ℕ) (it : Named) → named_at now other ≡ Some it → (was : Named) × (named_at names other ≡ Some was) × ((held_of it).id ≡ (held_of was).id)
+        id-was : (other : ℕ) (it : Named) → named_at now other ≡ Some it → (was : Named) × (named_at names other ≡ Some was) × ((named_held it).id ≡ (named_held was).id)
         id-was other it named = by (is-at other)
           where
-            by : (other ≡ word) ⊎ (other ≢ word) → (was : Named) × (named_at names other ≡ Some was) × ((held_of it).id ≡ (held_of was).id)
+            by : (other ≡ word) ⊎ (other ≢ word) → (was : Named) × (named_at names other ≡ Some was) × ((named_held it).id ≡ (named_held was).id)
             by (inl e) =
                 let w = was_named it (sym now_named ∙ (ap (named_at now) (sym e) ∙ named)) in
                 (w.0, ap (named_at names) e ∙ w.1, w.2)
             by (inr differ) = (it, sym (other_names other differ) ∙ named, refl)
 
-        each-then : (other : ℕ) (bound : Bound) → slice_get bounds_now other ≡ Some bound → bound.ended ≡ false → IsNamed streams me new other bound bindings (named_at now other)
+        each-then : (other : ℕ) (bound : Bound) → slice_get bounds_now other ≡ Some bound → bound.ended ≡ false → HoldIsNamed streams me new other bound bindings (named_at now other)
         each-then other bound at still = by (is-at other)
           where
-            by : (other ≡ word) ⊎ (other ≢ word) → IsNamed streams me new other bound bindings (named_at now other)
+            by : (other ≡ word) ⊎ (other ≢ word) → HoldIsNamed streams me new other bound bindings (named_at now other)
             by (inl e) =
                 let one : c ≡ bound = some-same c bound (sym now_bound ∙ (ap (slice_get bounds_now) (sym e) ∙ at)) in
-                subst (λ n. IsNamed streams me new n bound bindings (named_at now n)) (sym e)
-                (subst (IsNamed streams me new word bound bindings) (sym now_named)
-                (subst (λ b. IsNamed streams me new word b bindings o) one (is (ap (λ b. b.ended) one ∙ still))))
+                subst (λ n. HoldIsNamed streams me new n bound bindings (named_at now n)) (sym e)
+                (subst (HoldIsNamed streams me new word bound bindings) (sym now_named)
+                (subst (λ b. HoldIsNamed streams me new word b bindings o) one (is (ap (λ b. b.ended) one ∙ still))))
             by (inr differ) =
-                subst (IsNamed streams me new other bound bindings) (sym (other_names other differ))
+                subst (HoldIsNamed streams me new other bound bindings) (sym (other_names other differ))
                 (named-on other bound before bindings (named_at names other) (λ it named. keeps other it differ named) (same other differ) (stand.each other bound (sym (other_bounds other differ) ∙ at) still))
 
         ended-then : (other : ℕ) (bound : Bound) → slice_get bounds_now other ≡ Some bound → bound.ended ≡ true → named_at now other ≡ None

@@ -8,7 +8,7 @@ use Rattle.cc_model.specs.Setup.{Setup}
 use Rattle.cc_effects.specs.Moments.{IsIdle}
 use Rattle.cc_own.proofs.Unchanged.{unchanged-idle}
 use Rattle.cc_pieces.specs.Bindings.{Binding}
-use Rattle.cc_lines.specs.Holds.{NamesStand, held_of}
+use Rattle.cc_lines.specs.Holds.{NamesStand, named_held}
 use Rattle.cc_lines.specs.declared.holds.Named.{Named}
 use Rattle.cc_lines.proofs.KeptWords.{stand-kept}
 use Rattle.cc_lines.proofs.WordLines.{so_far}
@@ -16,7 +16,7 @@ use Rattle.cc_lines.proofs.WordLines.{so_far}
 pub names-keep : (u : Setup) (streams me : ℕ) (old new : List Entry) (bounds : List Bound) (bindings : List Binding) (names : List (Option Named)) → IsGood u new → IsIdle me old new → NamesStand streams me old bounds bindings names → NamesStand streams me new bounds bindings names
 names-keep u streams me old new bounds bindings names good idle stand =
     stand-kept u streams me old new (so_far u new good) bounds bindings names stand
-    (λ word it named. unchanged-idle me (held_of it).id old new idle)
+    (λ word it named. unchanged-idle me (named_held it).id old new idle)
 
 -- nothing is kept of any word yet
 pub names-none : (streams me : ℕ) (past : List Entry) (names : List (Option Named)) → names ≡ [] → NamesStand streams me past [] [] names

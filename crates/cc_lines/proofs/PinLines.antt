@@ -12,7 +12,7 @@ use Rattle.cc_entry.specs.declared.error.CcError.{CcError}
 use Rattle.cc_entry.specs.declared.hold.HoldKind.TheVariants as kind
 use Rattle.cc_entry.specs.declared.reply.Outcome.TheVariants as outcome
 use Rattle.cc_entry.specs.declared.reply.Reply.TheVariants as reply
-use Rattle.cc_script.specs.HoldWords.{Uses, fresh, repinned}
+use Rattle.cc_script.specs.HoldWords.{UsesHold, fresh, bound_repinned}
 use Rattle.cc_script.specs.declared.bound.Bound.{Bound}
 use Rattle.cc_script.specs.declared.bound.Need.TheVariants as need
 use Rattle.cc_script.specs.declared.script.Action.TheVariants as action
@@ -25,10 +25,10 @@ use Rattle.cc_calls.specs.Answers.{CallEnds}
 use Rattle.cc_calls.specs.Pages.{WentOn}
 use Rattle.cc_turns.specs.Standing.{Standing}
 use Rattle.cc_calls.specs.Held.{IsHolding}
-use Rattle.cc_calls.specs.Ends.{RepinEnds, held_at, hold_outcome}
+use Rattle.cc_calls.specs.Ends.{RepinEnds, held_of_range, hold_outcome}
 use Rattle.cc_calls.specs.declared.held.Held.{Held}
 use Rattle.cc_lines.specs.Holds.{HasNamed, NamesState, bound_named, kind_of, made_told, named_at, test_of}
-use Rattle.cc_lines.specs.Line.{CanServe, LineServed, StandFor}
+use Rattle.cc_lines.specs.Line.{CanServe, LineServed, NamesStandFor}
 use Rattle.cc_lines.specs.declared.holds.Named.{Named}
 use Rattle.cc_lines.specs.declared.holds.Named.TheVariants as named
 use Rattle.cc_lines.proofs.KeptWords.{set-back, set-twice}
@@ -48,7 +48,7 @@ module _ (old new : Standing) (names now : NamesState) (word : ℕ) (exclusive :
   within : word < length names.named
   within = let below = slice_get_within can.bounds word can.right.bound can.right.named in omega (arith, below, can.stand.counted)
 
-  named-map : (bounds : List Bound) (bindings : List Binding) → StandFor old bounds bindings names → Uses need.Map bounds word → hold_named bindings word is_map ≡ Some mapped.id
+  named-map : (bounds : List Bound) (bindings : List Binding) → NamesStandFor old bounds bindings names → UsesHold need.Map bounds word → hold_named bindings word is_map ≡ Some mapped.id
   named-map bounds bindings stand used =
       named-hold old.streams old.number old.seen word used.bound bindings (named.Map mapped) is_map (has-word old names bounds bindings need.Map word (named.Map mapped) stand used was) refl
 
@@ -133,20 +133,20 @@ module _ (old new : Standing) (names now : NamesState) (word : ℕ) (pinned : He
       went : WentOn old new
       went = went-on old new ends.call_ends.goes_on
 
-      has : (bounds : List Bound) (bindings : List Binding) → StandFor old bounds bindings names → (used : Uses need.Pin bounds word) → HasNamed old.streams old.number old.seen word used.bound bindings (named.Pin pinned)
+      has : (bounds : List Bound) (bindings : List Binding) → NamesStandFor old bounds bindings names → (used : UsesHold need.Pin bounds word) → HasNamed old.streams old.number old.seen word used.bound bindings (named.Pin pinned)
       has bounds bindings stand used = has-word old names bounds bindings need.Pin word (named.Pin pinned) stand used was
 
-      ranged : (b : Bound) → pinned.file ≡ b.file → pinned.at ≡ b.at → pinned.len ≡ b.len → IfOk (held_answer made) (λ held. held ≡ held_at pinned.file pinned.at pinned.len held.id) → IfOk (held_answer made) (λ held. held ≡ held_at b.file b.at b.len held.id)
+      ranged : (b : Bound) → pinned.file ≡ b.file → pinned.at ≡ b.at → pinned.len ≡ b.len → IfOk (held_answer made) (λ held. held ≡ held_of_range pinned.file pinned.at pinned.len held.id) → IfOk (held_answer made) (λ held. held ≡ held_of_range b.file b.at b.len held.id)
       ranged b file_is at_is len_is range =
-          subst (λ n. IfOk (held_answer made) (λ held. held ≡ held_at b.file b.at n held.id)) len_is
-          (subst (λ n. IfOk (held_answer made) (λ held. held ≡ held_at b.file n pinned.len held.id)) at_is
-          (subst (λ f. IfOk (held_answer made) (λ held. held ≡ held_at f pinned.at pinned.len held.id)) file_is range))
+          subst (λ n. IfOk (held_answer made) (λ held. held ≡ held_of_range b.file b.at n held.id)) len_is
+          (subst (λ n. IfOk (held_answer made) (λ held. held ≡ held_of_range b.file n pinned.len held.id)) at_is
+          (subst (λ f. IfOk (held_answer made) (λ held. held ≡ held_of_range f pinned.at pinned.len held.id)) file_is range))
 
-      after : (bounds : List Bound) (bindings : List Binding) → StandFor old bounds bindings names → (used : Uses need.Pin bounds word) → length names.named ≡ length bounds → StandFor new (bounds ++ repinned (slice_get bounds word)) (bound (length names.named) kind.Repin (made_told made) bindings) now
+      after : (bounds : List Bound) (bindings : List Binding) → NamesStandFor old bounds bindings names → (used : UsesHold need.Pin bounds word) → length names.named ≡ length bounds → NamesStandFor new (bounds ++ bound_repinned (slice_get bounds word)) (bound (length names.named) kind.Repin (made_told made) bindings) now
       after bounds bindings stand used at_end =
           let it = has bounds bindings stand used in
           let b = used.bound in
-          subst (λ o. StandFor new (bounds ++ repinned o) (bound (length names.named) kind.Repin (made_told made) bindings) now) (sym used.named)
+          subst (λ o. NamesStandFor new (bounds ++ bound_repinned o) (bound (length names.named) kind.Repin (made_told made) bindings) now) (sym used.named)
           (stand-made old new went (ends.call_ends.good can.good) bounds bindings names stand b.file b.at b.len kind.Repin is_repin (call.Repin pinned.id) (length names.named) at_end
           (subst (λ f. f.stream < old.streams) it.file_is it.known) refl (λ id. refl)
           (λ n left. (
@@ -161,7 +161,7 @@ pub no-repin : (w : Standing) (names now : NamesState) (word : ℕ) → CanServe
 no-repin w names now word can none grew = record {
   served = λ bounds bindings stand right. (
     on-none w.number _ (λ id. CallAnswered w.setup w.number (call.Repin id)) w.seen (no-word w names bounds bindings need.Pin word is_pin stand right.0 none),
-    subst (λ o. StandFor w (bounds ++ repinned o) bindings now) (sym right.0.named)
+    subst (λ o. NamesStandFor w (bounds ++ bound_repinned o) bindings now) (sym right.0.named)
         (stand-none w w (went-none w) can.good bounds bindings names stand (fresh kind.Repin right.0.bound.file right.0.bound.at right.0.bound.len) now refl (ap (λ m. m.named) grew)
         (λ id. unchanged-idle w.number id w.seen w.seen (idle-none w.number w.seen))),
   );

@@ -26,7 +26,7 @@ use Rattle.cc_pieces.specs.Served.{Served, bindings_after}
 use Rattle.cc_calls.specs.Pages.{WentOn}
 use Rattle.cc_turns.specs.Standing.{Standing}
 use Rattle.cc_lines.specs.Holds.{NamesState}
-use Rattle.cc_lines.specs.Line.{IsFullTold, LineServed, StandFor, told_of}
+use Rattle.cc_lines.specs.Line.{IsFullTold, LineServed, NamesStandFor, told_answer}
 use Rattle.cc_lines.proofs.WordLines.{answered-unchanged, stand-on}
 
 -- the call of an action that is served by one call on no hold
@@ -98,7 +98,7 @@ module _ (u : Setup) (me : ℕ) (it : Call) (told : Answer) (old new : List Entr
   plain-served bindings other is = absurd (cc is)
 
 -- such a line leaves the words as they were
-plain-stand : (new : Standing) (asked : Action) (it : Call) (told : Answer) (bounds : List Bound) (bindings : List Binding) (names : NamesState) → plain_call asked ≡ Some it → StandFor new bounds bindings names → StandFor new (bound_after asked bounds) (bindings_after asked told bindings) names
+plain-stand : (new : Standing) (asked : Action) (it : Call) (told : Answer) (bounds : List Bound) (bindings : List Binding) (names : NamesState) → plain_call asked ≡ Some it → NamesStandFor new bounds bindings names → NamesStandFor new (bound_after asked bounds) (bindings_after asked told bindings) names
 plain-stand new (action.Initialise file sizes quota temporary) it told bounds bindings names is stand = stand
 plain-stand new (action.Uninitialise file truncate) it told bounds bindings names is stand = stand
 plain-stand new (action.CopyRead file at len wait) it told bounds bindings names is stand = stand
@@ -181,7 +181,7 @@ module _ (old new : Standing) (told : Answer) (names : NamesState) (full : IsFul
       by (answer.NcRefused done cause) left id = nc_write-unchanged old.setup old.number id file at bytes (Err (done, cause)) old.seen new.seen left
       by other left id = absurd left
 
-  pub log_flush-line : (handle lsn : ℕ) (ended : Result (Unit {0}) CcError) → told ≡ told_of ended → LogFlushLeft {T = Unit {0}} old.setup old.number handle lsn ended old.seen new.seen → LineServed old new (action.LogFlush handle lsn) told names names
+  pub log_flush-line : (handle lsn : ℕ) (ended : Result (Unit {0}) CcError) → told ≡ told_answer ended → LogFlushLeft {T = Unit {0}} old.setup old.number handle lsn ended old.seen new.seen → LineServed old new (action.LogFlush handle lsn) told names names
   log_flush-line handle lsn ended is left = record {
     served = λ bounds bindings stand right. (
       subst (λ t. LogFlushAnswered old.setup old.number handle lsn t old.seen new.seen) (sym is) (by ended left),
@@ -194,6 +194,6 @@ module _ (old new : Standing) (told : Answer) (names : NamesState) (full : IsFul
     placed = refl;
   }
     where
-      by : (ended : Result (Unit {0}) CcError) → LogFlushLeft {T = Unit {0}} old.setup old.number handle lsn ended old.seen new.seen → LogFlushAnswered old.setup old.number handle lsn (told_of ended) old.seen new.seen
+      by : (ended : Result (Unit {0}) CcError) → LogFlushLeft {T = Unit {0}} old.setup old.number handle lsn ended old.seen new.seen → LogFlushAnswered old.setup old.number handle lsn (told_answer ended) old.seen new.seen
       by (Ok done) left = left
       by (Err e) left = left

@@ -28,7 +28,7 @@ use Rattle.cc_calls.specs.Purges.{PurgeEnds}
 use Rattle.cc_turns.specs.Standing.{Standing}
 use Rattle.cc_writes.specs.Ways.{IsFull}
 use Rattle.cc_lines.specs.Holds.{NamesState}
-use Rattle.cc_lines.specs.Line.{CanServe, IsFullTold, LineServed, flag_told, lsns_told, rows_told, state_told, told_of}
+use Rattle.cc_lines.specs.Line.{CanServe, IsFullTold, LineServed, flag_told, lsns_told, rows_told, state_told, told_answer}
 use Rattle.cc_calls.proofs.Paging.{full-within, most_room, writing-within}
 use Rattle.cc_lines.proofs.WordLines.{answered-unchanged, full-told, stand-on, went-on}
 use Rattle.cc_lines.proofs.UseLines.{told-answered, told-full}
@@ -121,32 +121,32 @@ lsns-full n w (Err e) less full = full-told n w e less full
 
 module _ (old new : Standing) (names : NamesState) (asked : Action) (told : Answer) (good : IsGood old.setup old.seen) where
   -- a change of bytes that is not through a hold
-  pub change-line : (it : Call) (ended : Result (Unit {0}) CcError) → plain_call asked ≡ Some it → most_room it ≤ 3 → told ≡ told_of ended → ChangeEnds old new it ended → LineServed old new asked told names names
+  pub change-line : (it : Call) (ended : Result (Unit {0}) CcError) → plain_call asked ≡ Some it → most_room it ≤ 3 → told ≡ told_answer ended → ChangeEnds old new it ended → LineServed old new asked told names names
   change-line it ended is less tells ends =
-      told-as old new asked told (told_of ended) names names tells
-      (plain-line old new (told_of ended) names (told-full (most_room it) new ended less (full-within it old new ended ends.full)) ends.pages.goes_on (ends.pages.good good) asked it is
+      told-as old new asked told (told_answer ended) names names tells
+      (plain-line old new (told_answer ended) names (told-full (most_room it) new ended less (full-within it old new ended ends.full)) ends.pages.goes_on (ends.pages.good good) asked it is
       (told-answered old.setup old.number it ended old.seen new.seen ends.pages.left))
 
   -- a call that sets something
-  pub set-line : (it : Call) (ended : Result (Unit {0}) CcError) → plain_call asked ≡ Some it → most_asked it ≤ 3 → told ≡ told_of ended → CallEnds outcome_of old new it ended → LineServed old new asked told names names
+  pub set-line : (it : Call) (ended : Result (Unit {0}) CcError) → plain_call asked ≡ Some it → most_asked it ≤ 3 → told ≡ told_answer ended → CallEnds outcome_of old new it ended → LineServed old new asked told names names
   set-line it ended is less tells ends =
-      told-as old new asked told (told_of ended) names names tells
-      (plain-line old new (told_of ended) names (told-full (most_asked it) new ended less ends.full) (went-on old new ends.goes_on) (ends.good good) asked it is
+      told-as old new asked told (told_answer ended) names names tells
+      (plain-line old new (told_answer ended) names (told-full (most_asked it) new ended less ends.full) (went-on old new ends.goes_on) (ends.good good) asked it is
       (told-answered old.setup old.number it ended old.seen new.seen ends.left))
 
   -- a flush, of which the order of its begins is asked too
-  pub flush-line : (file : File) (span : Option Range) (ended : Result (Unit {0}) CcError) → asked ≡ action.Flush file span → told ≡ told_of ended → FlushEnds old new file span ended → LineServed old new asked told names names
-  flush-line file span ended is tells ends = asked-as old new asked (action.Flush file span) told names names is (told-as old new (action.Flush file span) told (told_of ended) names names tells line)
+  pub flush-line : (file : File) (span : Option Range) (ended : Result (Unit {0}) CcError) → asked ≡ action.Flush file span → told ≡ told_answer ended → FlushEnds old new file span ended → LineServed old new asked told names names
+  flush-line file span ended is tells ends = asked-as old new asked (action.Flush file span) told names names is (told-as old new (action.Flush file span) told (told_answer ended) names names tells line)
     where
-      flushed : FlushAnswered old.setup old.number file span (told_of ended) old.seen new.seen
+      flushed : FlushAnswered old.setup old.number file span (told_answer ended) old.seen new.seen
       flushed = record { left = told-answered old.setup old.number (call.Flush file span) ended old.seen new.seen ends.left; ascending = ends.ascending }
 
-      line : LineServed old new (action.Flush file span) (told_of ended) names names
+      line : LineServed old new (action.Flush file span) (told_answer ended) names names
       line = record {
         served = λ bounds bindings stand right. (
           flushed,
           stand-on old new ends.goes_on ends.good bounds bindings names
-              (λ id. answered-unchanged old.setup old.number id (call.Flush file span) (told_of ended) old.seen new.seen flushed.left refl)
+              (λ id. answered-unchanged old.setup old.number id (call.Flush file span) (told_answer ended) old.seen new.seen flushed.left refl)
               stand,
         );
         full = inl (told-full 2 new ended (omega arith) (writing-within (call.Flush file span) new ended ends.full));
@@ -156,16 +156,16 @@ module _ (old new : Standing) (names : NamesState) (asked : Action) (told : Answ
         placed = refl;
       }
 
-  pub purge-line : (file : File) (span : Option Range) (ended : Result (Unit {0}) CcError) → plain_call asked ≡ Some (call.Purge file span) → told ≡ told_of ended → PurgeEnds old new file span ended → LineServed old new asked told names names
+  pub purge-line : (file : File) (span : Option Range) (ended : Result (Unit {0}) CcError) → plain_call asked ≡ Some (call.Purge file span) → told ≡ told_answer ended → PurgeEnds old new file span ended → LineServed old new asked told names names
   purge-line file span ended is tells ends =
-      told-as old new asked told (told_of ended) names names tells
-      (plain-line old new (told_of ended) names (told-full 2 new ended (omega arith) (writing-within (call.Purge file span) new ended ends.full)) ends.goes_on ends.good asked (call.Purge file span) is
+      told-as old new asked told (told_answer ended) names names tells
+      (plain-line old new (told_answer ended) names (told-full 2 new ended (omega arith) (writing-within (call.Purge file span) new ended ends.full)) ends.goes_on ends.good asked (call.Purge file span) is
       (told-answered old.setup old.number (call.Purge file span) ended old.seen new.seen ends.left))
 
-  pub discard-line : (file : File) (span : Option Range) (ended : Result (Unit {0}) CcError) → plain_call asked ≡ Some (call.Discard file span) → told ≡ told_of ended → DiscardEnds old new file span ended → LineServed old new asked told names names
+  pub discard-line : (file : File) (span : Option Range) (ended : Result (Unit {0}) CcError) → plain_call asked ≡ Some (call.Discard file span) → told ≡ told_answer ended → DiscardEnds old new file span ended → LineServed old new asked told names names
   discard-line file span ended is tells ends =
-      told-as old new asked told (told_of ended) names names tells
-      (plain-line old new (told_of ended) names (told-full 1 new ended (omega arith) ends.full) ends.goes_on ends.good asked (call.Discard file span) is
+      told-as old new asked told (told_answer ended) names names tells
+      (plain-line old new (told_answer ended) names (told-full 1 new ended (omega arith) ends.full) ends.goes_on ends.good asked (call.Discard file span) is
       (told-answered old.setup old.number (call.Discard file span) ended old.seen new.seen ends.left))
 
   -- the questions
@@ -194,6 +194,6 @@ module _ (old new : Standing) (names : NamesState) (asked : Action) (told : Answ
       (lsns-answered old.setup old.number it ended old.seen new.seen ends.left))
 
   -- a flush of a log
-  pub flushed-line : (handle lsn : ℕ) (ended : Result (Unit {0}) CcError) → told ≡ told_of ended → LogEnds old new (LogFlushLeft old.setup old.number handle lsn) ended → LineServed old new (action.LogFlush handle lsn) told names names
+  pub flushed-line : (handle lsn : ℕ) (ended : Result (Unit {0}) CcError) → told ≡ told_answer ended → LogEnds old new (LogFlushLeft old.setup old.number handle lsn) ended → LineServed old new (action.LogFlush handle lsn) told names names
   flushed-line handle lsn ended tells ends =
       log_flush-line old new told names (subst (IsFullTold new) (sym tells) (told-full 1 new ended (omega arith) ends.full)) (went-on old new ends.goes_on) (ends.good good) handle lsn ended tells ends.left

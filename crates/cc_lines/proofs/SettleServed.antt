@@ -22,7 +22,7 @@ use Rattle.cc_model.specs.Setup.{Setup}
 use Rattle.cc_effects.specs.Calls.{CallLeft}
 use Rattle.cc_own.specs.Own.{IsUnchanged}
 use Rattle.cc_own.proofs.Unchanged.{unchanged-call, unchanged-entry, unchanged-idle, unchanged-only, unchanged-then}
-use Rattle.cc_records.specs.Left.{HasFlushed, IsUnflushed, RecordStopped, SettleLeft, SyncedRecord, WroteRecord, WroteSome, SyncedSome}
+use Rattle.cc_records.specs.Left.{StreamHasFlushed, IsUnflushed, RecordStopped, SettleLeft, SyncedRecord, WroteRecord, WroteSome, SyncedSome}
 use Rattle.cc_pieces.specs.Answered.{SettleAnswered}
 use Rattle.cc_turns.specs.Standing.{Standing}
 use Rattle.cc_calls.specs.Pages.{WentOn}
@@ -69,7 +69,7 @@ module _ (u : Setup) (me id : ℕ) (file : File) where
   flush-unchanged : (ended : Outcome) (old new : List Entry) → CallLeft u me (call.Flush file None) ended old new → IsUnchanged me id old new
   flush-unchanged ended old new left = unchanged-call u me id (call.Flush file None) ended old new left refl
 
-  flushed-unchanged : (told : FileState) (begun old new : List Entry) → HasFlushed u me file told begun old new → IsUnchanged me id old new
+  flushed-unchanged : (told : FileState) (begun old new : List Entry) → StreamHasFlushed u me file told begun old new → IsUnchanged me id old new
   flushed-unchanged told begun old new is =
       unchanged-then me id old is.stated new (state-unchanged (outcome.Done (reply.State told)) old is.stated is.state)
       (unchanged-then me id is.stated begun new (unchanged-idle me id is.stated begun is.idle) (flush-unchanged (outcome.Done reply.Unit) begun new is.flush))

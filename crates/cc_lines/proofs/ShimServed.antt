@@ -22,8 +22,8 @@ use Rattle.cc_vacb.specs.Levels.{levels_of}
 use Rattle.cc_turns.specs.Standing.{Standing}
 use Rattle.cc_calls.specs.Pages.{WentOn}
 use Rattle.cc_shim.specs.Ends.{WasFullError}
-use Rattle.cc_lines.specs.Holds.{NamesState, held_of}
-use Rattle.cc_lines.specs.Line.{IsFullTold, LineServed, StandFor, WasFullTold}
+use Rattle.cc_lines.specs.Holds.{NamesState, named_held}
+use Rattle.cc_lines.specs.Line.{IsFullTold, LineServed, NamesStandFor, WasFullTold}
 use Rattle.cc_lines.proofs.KeptByShim.{Keeps, read-keeps, update-keeps, write-keeps}
 use Rattle.cc_lines.proofs.KeptWords.{stand-kept}
 use Rattle.cc_lines.proofs.WordLines.{has-at, so_far, stand-now, stand-on}
@@ -42,14 +42,14 @@ full-three old new other full = tt
 
 module _ (old new : Standing) (told : Answer) (names : NamesState) (full : WasFullTold old new told) (went : WentOn old new) (good : IsGood old.setup new.seen) where
   -- no hold changed that the pass had
-  stand-shim : (bounds : List Bound) (bindings : List Binding) → Keeps old.setup old.number None old.seen new.seen → StandFor old bounds bindings names → StandFor new bounds bindings names
+  stand-shim : (bounds : List Bound) (bindings : List Binding) → Keeps old.setup old.number None old.seen new.seen → NamesStandFor old bounds bindings names → NamesStandFor new bounds bindings names
   stand-shim bounds bindings keeps stand =
       let goodness = so_far old.setup new.seen good in
       stand-now old new went good bounds bindings names
       (stand-kept old.setup old.streams old.number old.seen new.seen goodness bounds bindings names.named stand
       (λ word it named.
       let has = (has-at old.streams old.number old.seen bounds bindings names.named word it stand named).1 in
-      keeps.1 (held_of it).file.stream (held_of it).id has.holds.hold goodness has.holds.has tt))
+      keeps.1 (named_held it).file.stream (named_held it).id has.holds.hold goodness has.holds.has tt))
 
   pub read-line : (file : File) (path : ReadPath) (at len : ℕ) → LockedReadAnswered old.setup old.number file path at len told old.seen new.seen → LineServed old new (action.Read file path at len) told names names
   read-line file path at len left = record {

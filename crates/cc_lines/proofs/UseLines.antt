@@ -11,7 +11,7 @@ use Rattle.cc_entry.specs.declared.call.Call.TheVariants as call
 use Rattle.cc_entry.specs.declared.entry.Entry.{Entry}
 use Rattle.cc_entry.specs.declared.error.CcError.{CcError}
 use Rattle.cc_entry.specs.declared.hold.HoldKind.{HoldKind}
-use Rattle.cc_script.specs.HoldWords.{Uses, UsesBytes, UsesRight, bound_after}
+use Rattle.cc_script.specs.HoldWords.{UsesHold, UsesBytes, UsesRight, bound_after}
 use Rattle.cc_script.specs.declared.bound.Bound.{Bound}
 use Rattle.cc_script.specs.declared.bound.Need.{Need}
 use Rattle.cc_script.specs.declared.bound.Need.TheVariants as need
@@ -28,11 +28,11 @@ use Rattle.cc_step.specs.Step.{most_asked}
 use Rattle.cc_calls.specs.Answers.{CanCall, outcome_of}
 use Rattle.cc_turns.specs.Standing.{Standing}
 use Rattle.cc_writes.specs.Ways.{IsFull}
-use Rattle.cc_calls.specs.Held.{HoldsAfter, IsHolding, covers}
+use Rattle.cc_calls.specs.Held.{HoldsAfter, IsHolding, held_covers}
 use Rattle.cc_calls.specs.Ends.{UseEnds}
 use Rattle.cc_calls.specs.declared.held.Held.{Held}
-use Rattle.cc_lines.specs.Holds.{HasNamed, NamesState, held_of, kind_of, named_at, test_of}
-use Rattle.cc_lines.specs.Line.{CanServe, HeldReadTold, IsFullTold, LineServed, StandFor, told_of}
+use Rattle.cc_lines.specs.Holds.{HasNamed, NamesState, named_held, kind_of, named_at, test_of}
+use Rattle.cc_lines.specs.Line.{CanServe, HeldReadTold, IsFullTold, LineServed, NamesStandFor, told_answer}
 use Rattle.cc_lines.specs.declared.holds.Named.{Named}
 use Rattle.cc_lines.specs.declared.holds.Named.TheVariants as named
 use Rattle.cc_lines.proofs.WordLines.{full-told, has-named, named-hold, named-none, on-hold, on-none, serves_word, stand-used, went-none, went-on}
@@ -40,34 +40,34 @@ use Rattle.cc_lines.proofs.WordLines.{full-told, has-named, named-hold, named-no
 -- ---- what a line on a hold may ask
 
 -- the pass has the hold that a word names
-pub has-word : (w : Standing) (names : NamesState) (bounds : List Bound) (bindings : List Binding) (n : Need) (word : ℕ) (it : Named) → StandFor w bounds bindings names → (uses : Uses n bounds word) → named_at names.named word ≡ Some it → HasNamed w.streams w.number w.seen word uses.bound bindings it
+pub has-word : (w : Standing) (names : NamesState) (bounds : List Bound) (bindings : List Binding) (n : Need) (word : ℕ) (it : Named) → NamesStandFor w bounds bindings names → (uses : UsesHold n bounds word) → named_at names.named word ≡ Some it → HasNamed w.streams w.number w.seen word uses.bound bindings it
 has-word w names bounds bindings n word it stand uses is =
     has-named w.streams w.number w.seen bounds bindings names.named n word it stand uses is
 
 -- it may call on its stream
-pub may-call : (w : Standing) (asked : Action) (names : NamesState) (n : Need) (word : ℕ) (it : Named) → (can : CanServe w asked names) → Uses n can.bounds word → named_at names.named word ≡ Some it → CanCall w (held_of it).file.stream
+pub may-call : (w : Standing) (asked : Action) (names : NamesState) (n : Need) (word : ℕ) (it : Named) → (can : CanServe w asked names) → UsesHold n can.bounds word → named_at names.named word ≡ Some it → CanCall w (named_held it).file.stream
 may-call w asked names n word it can uses is =
     let has = has-word w names can.bounds can.bindings n word it can.stand uses is in
     record { known = has.known; free = can.free; none = can.none }
 
-pub may-hold : (w : Standing) (asked : Action) (names : NamesState) (n : Need) (word : ℕ) (it : Named) → (can : CanServe w asked names) → Uses n can.bounds word → named_at names.named word ≡ Some it → IsHolding w (test_of it) (held_of it)
+pub may-hold : (w : Standing) (asked : Action) (names : NamesState) (n : Need) (word : ℕ) (it : Named) → (can : CanServe w asked names) → UsesHold n can.bounds word → named_at names.named word ≡ Some it → IsHolding w (test_of it) (named_held it)
 may-hold w asked names n word it can uses is = (has-word w names can.bounds can.bindings n word it can.stand uses is).holds
 
 le-from : (a b : ℕ) → a ≤ b → nat_le a b ≡ true
 le-from a b less = grind (arith, less)
 
 -- and the bytes lie in the hold
-pub may-cover : (w : Standing) (asked : Action) (names : NamesState) (n : Need) (word at len : ℕ) (it : Named) → (can : CanServe w asked names) → UsesBytes n can.bounds word at len → named_at names.named word ≡ Some it → covers (held_of it) at len ≡ true
+pub may-cover : (w : Standing) (asked : Action) (names : NamesState) (n : Need) (word at len : ℕ) (it : Named) → (can : CanServe w asked names) → UsesBytes n can.bounds word at len → named_at names.named word ≡ Some it → held_covers (named_held it) at len ≡ true
 may-cover w asked names n word at len it can bytes is =
     let has = has-word w names can.bounds can.bindings n word it can.stand bytes.uses is in
-    let from : (held_of it).at ≤ at = subst (λ k. k ≤ at) (sym has.at_is) bytes.from in
-    let to : at + len ≤ (held_of it).at + (held_of it).len = subst (λ k. at + len ≤ k + (held_of it).len) (sym has.at_is) (subst (λ k. at + len ≤ bytes.uses.bound.at + k) (sym has.len_is) bytes.to) in
+    let from : (named_held it).at ≤ at = subst (λ k. k ≤ at) (sym has.at_is) bytes.from in
+    let to : at + len ≤ (named_held it).at + (named_held it).len = subst (λ k. at + len ≤ k + (named_held it).len) (sym has.at_is) (subst (λ k. at + len ≤ bytes.uses.bound.at + k) (sym has.len_is) bytes.to) in
     rw (le-from _ _ from, le-from _ _ to) refl
 
 -- ---- a line whose word names no hold that serves
 
 module _ (w : Standing) (names : NamesState) where
-  pub unused : (asked : Action) → CanServe w asked names → ((bounds : List Bound) (bindings : List Binding) → StandFor w bounds bindings names → UsesRight bounds asked → Served w.setup w.number bindings asked answer.NoHold w.seen w.seen) → ((bounds : List Bound) (bindings : List Binding) → StandFor w bounds bindings names → StandFor w (bound_after asked bounds) (bindings_after asked answer.NoHold bindings) names) → LineServed w w asked answer.NoHold names names
+  pub unused : (asked : Action) → CanServe w asked names → ((bounds : List Bound) (bindings : List Binding) → NamesStandFor w bounds bindings names → UsesRight bounds asked → Served w.setup w.number bindings asked answer.NoHold w.seen w.seen) → ((bounds : List Bound) (bindings : List Binding) → NamesStandFor w bounds bindings names → NamesStandFor w (bound_after asked bounds) (bindings_after asked answer.NoHold bindings) names) → LineServed w w asked answer.NoHold names names
   unused asked can left stands = record {
     served = λ bounds bindings stand right. (left bounds bindings stand right, stands bounds bindings stand);
     full = inl tt;
@@ -77,7 +77,7 @@ module _ (w : Standing) (names : NamesState) where
     placed = refl;
   }
 
-  pub no-word : (bounds : List Bound) (bindings : List Binding) (n : Need) (word : ℕ) (of_kind : HoldKind → Bool) → StandFor w bounds bindings names → Uses n bounds word → serves_word of_kind (named_at names.named word) ≡ false → hold_named bindings word of_kind ≡ None
+  pub no-word : (bounds : List Bound) (bindings : List Binding) (n : Need) (word : ℕ) (of_kind : HoldKind → Bool) → NamesStandFor w bounds bindings names → UsesHold n bounds word → serves_word of_kind (named_at names.named word) ≡ false → hold_named bindings word of_kind ≡ None
   no-word bounds bindings n word of_kind stand uses serves =
       named-none w.streams w.number w.seen word uses.bound bindings (named_at names.named word) of_kind (stand.each word uses.bound uses.named uses.still) serves
 
@@ -115,16 +115,16 @@ module _ (w : Standing) (names : NamesState) where
 
 -- ---- a line that makes a call on the hold that a word names
 
-pub told-answered : (u : Setup) (me : ℕ) (it : Call) (ended : Result (Unit {0}) CcError) (old new : List Entry) → CallLeft u me it (outcome_of ended) old new → CallAnswered u me it (told_of ended) old new
+pub told-answered : (u : Setup) (me : ℕ) (it : Call) (ended : Result (Unit {0}) CcError) (old new : List Entry) → CallLeft u me it (outcome_of ended) old new → CallAnswered u me it (told_answer ended) old new
 told-answered u me it (Ok done) old new left = left
 told-answered u me it (Err e) old new left = left
 
-pub told-full : (n : ℕ) (w : Standing) (ended : Result (Unit {0}) CcError) → n ≤ 3 → IsFull n w ended → IsFullTold w (told_of ended)
+pub told-full : (n : ℕ) (w : Standing) (ended : Result (Unit {0}) CcError) → n ≤ 3 → IsFull n w ended → IsFullTold w (told_answer ended)
 told-full n w (Ok done) less full = tt
 told-full n w (Err e) less full = full-told n w e less full
 
 -- a call on a hold, in the form of a read through it
-pub use-told : (old new : Standing) (of_kind : HoldKind → Bool) (held : Held) (it : Call) (ended : Result (Unit {0}) CcError) → most_asked it ≤ 3 → UseEnds old new of_kind held it ended → HeldReadTold old new of_kind held it (told_of ended)
+pub use-told : (old new : Standing) (of_kind : HoldKind → Bool) (held : Held) (it : Call) (ended : Result (Unit {0}) CcError) → most_asked it ≤ 3 → UseEnds old new of_kind held it ended → HeldReadTold old new of_kind held it (told_answer ended)
 use-told old new of_kind held it ended less ends = record {
   answered = told-answered old.setup old.number it ended old.seen new.seen ends.call_ends.left;
   full = told-full (most_asked it) new ended less ends.call_ends.full;
@@ -134,13 +134,13 @@ use-told old new of_kind held it ended less ends = record {
 }
 
 -- the same by another name of the call and of the answer
-pub use-answered : (old new : Standing) (of_kind : HoldKind → Bool) (held : Held) (it asked : Call) (ended : Result (Unit {0}) CcError) (told : Answer) → it ≡ asked → told ≡ told_of ended → most_asked asked ≤ 3 → UseEnds old new of_kind held it ended → HeldReadTold old new of_kind held asked told
+pub use-answered : (old new : Standing) (of_kind : HoldKind → Bool) (held : Held) (it asked : Call) (ended : Result (Unit {0}) CcError) (told : Answer) → it ≡ asked → told ≡ told_answer ended → most_asked asked ≤ 3 → UseEnds old new of_kind held it ended → HeldReadTold old new of_kind held asked told
 use-answered old new of_kind held it asked ended told same tells less ends =
     subst (λ t. HeldReadTold old new of_kind held asked t) (sym tells)
     (use-told old new of_kind held asked ended less (subst (λ i. UseEnds old new of_kind held i ended) same ends))
 
 module _ (old new : Standing) (names : NamesState) (word : ℕ) (it : Named) (is : named_at names.named word ≡ Some it) (told : Answer) where
-  used : (asked : Action) (made : Call) (n : Need) → CanServe old asked names → HeldReadTold old new (test_of it) (held_of it) made told → ((id : ℕ) → ((held_of it).id == id) ≡ false → changes_it id made ≡ false) → ((bounds : List Bound) → UsesRight bounds asked → Uses n bounds word) → ((bounds : List Bound) (bindings : List Binding) → StandFor old bounds bindings names → UsesRight bounds asked → CallAnswered old.setup old.number made told old.seen new.seen → Served old.setup old.number bindings asked told old.seen new.seen) → ((bounds : List Bound) (bindings : List Binding) → StandFor new bounds bindings names → StandFor new (bound_after asked bounds) (bindings_after asked told bindings) names) → LineServed old new asked told names names
+  used : (asked : Action) (made : Call) (n : Need) → CanServe old asked names → HeldReadTold old new (test_of it) (named_held it) made told → ((id : ℕ) → ((named_held it).id == id) ≡ false → changes_it id made ≡ false) → ((bounds : List Bound) → UsesRight bounds asked → UsesHold n bounds word) → ((bounds : List Bound) (bindings : List Binding) → NamesStandFor old bounds bindings names → UsesRight bounds asked → CallAnswered old.setup old.number made told old.seen new.seen → Served old.setup old.number bindings asked told old.seen new.seen) → ((bounds : List Bound) (bindings : List Binding) → NamesStandFor new bounds bindings names → NamesStandFor new (bound_after asked bounds) (bindings_after asked told bindings) names) → LineServed old new asked told names names
   used asked made n can ends spares uses left stands = record {
     served = λ bounds bindings stand right. (left bounds bindings stand right ends.answered, stands bounds bindings (after bounds bindings stand (uses bounds right)));
     full = inl ends.full;
@@ -150,12 +150,12 @@ module _ (old new : Standing) (names : NamesState) (word : ℕ) (it : Named) (is
     placed = refl;
   }
     where
-      after : (bounds : List Bound) (bindings : List Binding) → StandFor old bounds bindings names → Uses n bounds word → StandFor new bounds bindings names
+      after : (bounds : List Bound) (bindings : List Binding) → NamesStandFor old bounds bindings names → UsesHold n bounds word → NamesStandFor new bounds bindings names
       after bounds bindings stand uses =
           stand-used old new ends.goes_on (ends.good can.good) bounds bindings names n word it made told stand uses is ends.answered spares
-          (subst (λ k. HoldsAfter k new.seen (test_of it) (held_of it)) (ap (λ w. w.number) ends.goes_on.same) (ends.holding can.good))
+          (subst (λ k. HoldsAfter k new.seen (test_of it) (named_held it)) (ap (λ w. w.number) ends.goes_on.same) (ends.holding can.good))
 
-  by-word : (bounds : List Bound) (bindings : List Binding) (n : Need) (of_kind : HoldKind → Bool) → StandFor old bounds bindings names → Uses n bounds word → of_kind (kind_of it) ≡ true → hold_named bindings word of_kind ≡ Some (held_of it).id
+  by-word : (bounds : List Bound) (bindings : List Binding) (n : Need) (of_kind : HoldKind → Bool) → NamesStandFor old bounds bindings names → UsesHold n bounds word → of_kind (kind_of it) ≡ true → hold_named bindings word of_kind ≡ Some (named_held it).id
   by-word bounds bindings n of_kind stand uses serves =
       named-hold old.streams old.number old.seen word uses.bound bindings it of_kind (has-word old names bounds bindings n word it stand uses is) serves
 

@@ -14,7 +14,7 @@ use Rattle.cc_entry.specs.declared.error.CcError.{CcError}
 use Rattle.cc_entry.specs.declared.error.CcError.TheVariants as error
 use Rattle.cc_entry.specs.declared.hold.HoldKind.{HoldKind}
 use Rattle.cc_entry.specs.declared.reply.Outcome.TheVariants as outcome
-use Rattle.cc_script.specs.HoldWords.{Uses}
+use Rattle.cc_script.specs.HoldWords.{UsesHold}
 use Rattle.cc_script.specs.declared.bound.Bound.{Bound}
 use Rattle.cc_script.specs.declared.bound.Need.{Need}
 use Rattle.cc_model.specs.Allowed.{IsAllowed}
@@ -32,8 +32,8 @@ use Rattle.cc_writes.specs.Hands.{Went}
 use Rattle.cc_writes.specs.Ways.{IsFullError}
 use Rattle.cc_calls.specs.Held.{HoldsAfter}
 use Rattle.cc_calls.specs.declared.held.Held.{Held}
-use Rattle.cc_lines.specs.Holds.{HasNamed, IsNamed, NamesStand, NamesState, held_of, kind_of, named_at, test_of}
-use Rattle.cc_lines.specs.Line.{IsFullTold, StandFor}
+use Rattle.cc_lines.specs.Holds.{HasNamed, HoldIsNamed, NamesStand, NamesState, named_held, kind_of, named_at, test_of}
+use Rattle.cc_lines.specs.Line.{IsFullTold, NamesStandFor}
 use Rattle.cc_lines.specs.declared.holds.Named.{Named}
 use Rattle.cc_lines.specs.declared.holds.Named.TheVariants as named
 use Rattle.cc_lines.proofs.KeptWords.{get-there, length-set, named-within, stand-changed, stand-kept}
@@ -65,9 +65,9 @@ full-told n w e less full = full-less n 3 w e less full
 -- ---- the hold that a word names
 
 -- what a word names that a line uses
-pub has-named : (streams me : ℕ) (past : List Entry) (bounds : List Bound) (bindings : List Binding) (names : List (Option Named)) (need : Need) (word : ℕ) (it : Named) → NamesStand streams me past bounds bindings names → (uses : Uses need bounds word) → named_at names word ≡ Some it → HasNamed streams me past word uses.bound bindings it
+pub has-named : (streams me : ℕ) (past : List Entry) (bounds : List Bound) (bindings : List Binding) (names : List (Option Named)) (need : Need) (word : ℕ) (it : Named) → NamesStand streams me past bounds bindings names → (uses : UsesHold need bounds word) → named_at names word ≡ Some it → HasNamed streams me past word uses.bound bindings it
 has-named streams me past bounds bindings names need word it stand uses is =
-    subst (IsNamed streams me past word uses.bound bindings) is (stand.each word uses.bound uses.named uses.still)
+    subst (HoldIsNamed streams me past word uses.bound bindings) is (stand.each word uses.bound uses.named uses.still)
 
 -- a word that names a hold was bound, and no line ended it
 pub has-at : (streams me : ℕ) (past : List Entry) (bounds : List Bound) (bindings : List Binding) (names : List (Option Named)) (word : ℕ) (it : Named) → NamesStand streams me past bounds bindings names → named_at names word ≡ Some it → (b : Bound) × HasNamed streams me past word b bindings it
@@ -78,9 +78,9 @@ has-at streams me past bounds bindings names word it stand named =
   where
     by : (t : Bool) (b : Bound) → t ≡ b.ended → slice_get bounds word ≡ Some b → HasNamed streams me past word b bindings it
     by true b ended at = absurd (cc (named, stand.ended word b at (sym ended)))
-    by false b still at = subst (IsNamed streams me past word b bindings) named (stand.each word b at (sym still))
+    by false b still at = subst (HoldIsNamed streams me past word b bindings) named (stand.each word b at (sym still))
 
-pub named-hold : (streams me : ℕ) (past : List Entry) (word : ℕ) (bound : Bound) (bindings : List Binding) (it : Named) (of_kind : HoldKind → Bool) → HasNamed streams me past word bound bindings it → of_kind (kind_of it) ≡ true → hold_named bindings word of_kind ≡ Some (held_of it).id
+pub named-hold : (streams me : ℕ) (past : List Entry) (word : ℕ) (bound : Bound) (bindings : List Binding) (it : Named) (of_kind : HoldKind → Bool) → HasNamed streams me past word bound bindings it → of_kind (kind_of it) ≡ true → hold_named bindings word of_kind ≡ Some (named_held it).id
 named-hold streams me past word bound bindings it of_kind has serves =
     let kind : of_kind has.binding.kind ≡ true = ap of_kind has.kind_is ∙ serves in
     ap (id_if of_kind) has.found ∙ (ap (λ t. if t then Some has.binding.id else None) kind ∙ ap Some has.id_is)
@@ -95,7 +95,7 @@ abbrev pub serves_word : (HoldKind → Bool) → Option Named → Bool
 serves_word of_kind None = false
 serves_word of_kind (Some it) = of_kind (kind_of it)
 
-pub named-none : (streams me : ℕ) (past : List Entry) (word : ℕ) (bound : Bound) (bindings : List Binding) (o : Option Named) (of_kind : HoldKind → Bool) → IsNamed streams me past word bound bindings o → serves_word of_kind o ≡ false → hold_named bindings word of_kind ≡ None
+pub named-none : (streams me : ℕ) (past : List Entry) (word : ℕ) (bound : Bound) (bindings : List Binding) (o : Option Named) (of_kind : HoldKind → Bool) → HoldIsNamed streams me past word bound bindings o → serves_word of_kind o ≡ false → hold_named bindings word of_kind ≡ None
 named-none streams me past word bound bindings None of_kind is serves = ap (id_if of_kind) is
 named-none streams me past word bound bindings (Some it) of_kind is serves = named-other streams me past word bound bindings it of_kind is serves
 
@@ -124,30 +124,30 @@ module _ (old new : Standing) (went : WentOn old new) (good : IsGood old.setup n
   number-is = ap (λ w. w.number) went.same
 
   -- what stands for the pass as it was numbered
-  pub stand-now : (bounds : List Bound) (bindings : List Binding) (names : NamesState) → NamesStand old.streams old.number new.seen bounds bindings names.named → StandFor new bounds bindings names
+  pub stand-now : (bounds : List Bound) (bindings : List Binding) (names : NamesState) → NamesStand old.streams old.number new.seen bounds bindings names.named → NamesStandFor new bounds bindings names
   stand-now bounds bindings names stand =
       subst (λ s. NamesStand s new.number new.seen bounds bindings names.named) (sym streams-are)
       (subst (λ n. NamesStand old.streams n new.seen bounds bindings names.named) (sym number-is) stand)
 
   -- no hold of the pass changed
-  pub stand-on : (bounds : List Bound) (bindings : List Binding) (names : NamesState) → ((id : ℕ) → IsUnchanged old.number id old.seen new.seen) → StandFor old bounds bindings names → StandFor new bounds bindings names
+  pub stand-on : (bounds : List Bound) (bindings : List Binding) (names : NamesState) → ((id : ℕ) → IsUnchanged old.number id old.seen new.seen) → NamesStandFor old bounds bindings names → NamesStandFor new bounds bindings names
   stand-on bounds bindings names keeps stand =
       stand-now bounds bindings names
       (stand-kept old.setup old.streams old.number old.seen new.seen (so_far old.setup new.seen good) bounds bindings names.named stand
-      (λ word it named. keeps (held_of it).id))
+      (λ word it named. keeps (named_held it).id))
 
   -- a call was made on the hold that a word names, which the pass has still
-  pub stand-used : (bounds : List Bound) (bindings : List Binding) (names : NamesState) (need : Need) (word : ℕ) (it : Named) (asked : Call) (told : Answer) → StandFor old bounds bindings names → Uses need bounds word → named_at names.named word ≡ Some it → CallAnswered old.setup old.number asked told old.seen new.seen → ((id : ℕ) → ((held_of it).id == id) ≡ false → changes_it id asked ≡ false) → HoldsAfter old.number new.seen (test_of it) (held_of it) → StandFor new bounds bindings names
+  pub stand-used : (bounds : List Bound) (bindings : List Binding) (names : NamesState) (need : Need) (word : ℕ) (it : Named) (asked : Call) (told : Answer) → NamesStandFor old bounds bindings names → UsesHold need bounds word → named_at names.named word ≡ Some it → CallAnswered old.setup old.number asked told old.seen new.seen → ((id : ℕ) → ((named_held it).id == id) ≡ false → changes_it id asked ≡ false) → HoldsAfter old.number new.seen (test_of it) (named_held it) → NamesStandFor new bounds bindings names
   stand-used bounds bindings names need word it asked told stand uses named answered spares holds =
       stand-now bounds bindings names
       (stand-changed old.setup old.streams old.number old.seen new.seen (so_far old.setup new.seen good) bounds bindings names.named stand bindings
       word uses.bound uses.bound (Some it) names.named bounds uses.named uses.named (λ other differ. refl) refl named (λ other differ. refl) refl
-      (λ other another differ also. answered-unchanged old.setup old.number (held_of another).id asked told old.seen new.seen answered
-      (spares (held_of another).id (ne_eqb (held_of it).id (held_of another).id (stand.apart word other it another (λ e. differ (sym e)) named also))))
+      (λ other another differ also. answered-unchanged old.setup old.number (named_held another).id asked told old.seen new.seen answered
+      (spares (named_held another).id (ne_eqb (named_held it).id (named_held another).id (stand.apart word other it another (λ e. differ (sym e)) named also))))
       (λ other differ. refl)
       (λ still. still-has)
       (λ ended. absurd (cc (ended, uses.still)))
-      (λ other is. (it, named, ap (λ n. (held_of n).id) (sym (same-some it other is)))))
+      (λ other is. (it, named, ap (λ n. (named_held n).id) (sym (same-some it other is)))))
     where
       same-some : (a b : Named) → Some a ≡ Some b → a ≡ b
       same-some a b is = cc is
@@ -199,7 +199,7 @@ pub neither : (a b : Bool) → a ≡ false → b ≡ false → (a || b) ≡ fals
 neither a b not_a not_b = rw (not_a, not_b) refl
 
 -- the word that a line uses lies among those that are kept, also once it was taken out
-pub word-within : (streams me : ℕ) (past : List Entry) (bounds : List Bound) (bindings : List Binding) (names : List (Option Named)) (need : Need) (word : ℕ) → NamesStand streams me past bounds bindings names → Uses need bounds word → word < length names
+pub word-within : (streams me : ℕ) (past : List Entry) (bounds : List Bound) (bindings : List Binding) (names : List (Option Named)) (need : Need) (word : ℕ) → NamesStand streams me past bounds bindings names → UsesHold need bounds word → word < length names
 word-within streams me past bounds bindings names need word stand uses =
     let below = slice_get_within bounds word uses.bound uses.named in omega (arith, below, stand.counted)
 

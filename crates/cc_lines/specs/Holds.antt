@@ -51,12 +51,12 @@ test_of (named.Repin held) its_kind = is_repin its_kind
 test_of (named.ReadChain held) its_kind = is_read_chain its_kind
 test_of (named.WriteChain held) its_kind = is_write_chain its_kind
 
-abbrev pub held_of : Named → Held
-held_of (named.Map held) = held
-held_of (named.Pin held) = held
-held_of (named.Repin held) = held
-held_of (named.ReadChain held) = held
-held_of (named.WriteChain held) = held
+abbrev pub named_held : Named → Held
+named_held (named.Map held) = held
+named_held (named.Pin held) = held
+named_held (named.Repin held) = held
+named_held (named.ReadChain held) = held
+named_held (named.WriteChain held) = held
 
 -- the binding of a word
 abbrev pub binding_of : List Binding → ℕ → Option Binding
@@ -68,18 +68,18 @@ pub record HasNamed (streams me : ℕ) (past : List Entry) (word : ℕ) (bound :
     (it : Named) : Type 0 where
   pub binding : Binding
   pub found : binding_of bindings word ≡ Some binding
-  pub id_is : binding.id ≡ (held_of it).id
+  pub id_is : binding.id ≡ (named_held it).id
   pub kind_is : binding.kind ≡ kind_of it
-  pub holds : HoldsAfter me past (test_of it) (held_of it)
-  pub known : (held_of it).file.stream < streams
-  pub file_is : (held_of it).file ≡ bound.file
-  pub at_is : (held_of it).at ≡ bound.at
-  pub len_is : (held_of it).len ≡ bound.len
+  pub holds : HoldsAfter me past (test_of it) (named_held it)
+  pub known : (named_held it).file.stream < streams
+  pub file_is : (named_held it).file ≡ bound.file
+  pub at_is : (named_held it).at ≡ bound.at
+  pub len_is : (named_held it).len ≡ bound.len
 
 -- What a word names whose hold no line ended: that hold, or nothing where it was not made.
-abbrev pub IsNamed : ℕ → ℕ → List Entry → ℕ → Bound → List Binding → Option Named → Type 0
-IsNamed streams me past word bound bindings None = binding_of bindings word ≡ None
-IsNamed streams me past word bound bindings (Some it) = HasNamed streams me past word bound bindings it
+abbrev pub HoldIsNamed : ℕ → ℕ → List Entry → ℕ → Bound → List Binding → Option Named → Type 0
+HoldIsNamed streams me past word bound bindings None = binding_of bindings word ≡ None
+HoldIsNamed streams me past word bound bindings (Some it) = HasNamed streams me past word bound bindings it
 
 -- What is kept of a caller's words stands for a past: there is one for each word that the caller's lines bound, it names
 -- the hold that the word's binding names, or nothing where there is none or the hold was ended, and no two name one hold.
@@ -88,11 +88,11 @@ pub record NamesStand (streams me : ℕ) (past : List Entry) (bounds : List Boun
   pub counted : length names ≡ length bounds
   pub unbound : (word : ℕ) → length bounds ≤ word → binding_of bindings word ≡ None
   pub each : (word : ℕ) (bound : Bound) → slice_get bounds word ≡ Some bound → bound.ended ≡ false →
-      IsNamed streams me past word bound bindings (named_at names word)
+      HoldIsNamed streams me past word bound bindings (named_at names word)
   pub ended : (word : ℕ) (bound : Bound) → slice_get bounds word ≡ Some bound → bound.ended ≡ true →
       named_at names word ≡ None
   pub apart : (word other : ℕ) (it another : Named) → word ≢ other → named_at names word ≡ Some it →
-      named_at names other ≡ Some another → (held_of it).id ≢ (held_of another).id
+      named_at names other ≡ Some another → (named_held it).id ≢ (named_held another).id
 
 -- what the next word names once a call was to make it, and the answer of the call's line
 abbrev pub bound_named : Result Named CcError → Option Named
@@ -100,9 +100,9 @@ bound_named (Ok it) = Some it
 bound_named (Err e) = None
 
 abbrev pub made_told : Result Named CcError → Answer
-made_told (Ok it) = answer.Given (reply.Hold (held_of it).id)
+made_told (Ok it) = answer.Given (reply.Hold (named_held it).id)
 made_told (Err e) = answer.Refused e
 
 -- There is room for the word that an action binds, where it binds one.
-abbrev pub HasRoom : Action → NamesState → Type 0
-HasRoom asked names = binds asked ≡ true → length names.named < names.room
+abbrev pub HasRoomForWord : Action → NamesState → Type 0
+HasRoomForWord asked names = binds asked ≡ true → length names.named < names.room

@@ -15,7 +15,7 @@ use Rattle.cc_entry.specs.declared.reply.Reply.TheVariants as reply
 use Rattle.cc_entry.specs.declared.call.Call.{Call}
 use Rattle.cc_entry.specs.declared.hold.HoldKind.{HoldKind}
 use Rattle.cc_pieces.specs.Answered.{AheadAnswered, CallAnswered}
-use Rattle.cc_pieces.specs.Queue.{StepPlaced}
+use Rattle.cc_pieces.specs.Queue.{AheadStepPlaced}
 use Rattle.cc_script.specs.declared.script.Action.{Action}
 use Rattle.cc_script.specs.declared.script.Action.TheVariants as action
 use Rattle.cc_script.specs.HoldWords.{UsesRight, bound_after}
@@ -35,7 +35,7 @@ pub use Rattle.cc_writes.specs.Ways.{IsFullError}
 pub use Rattle.cc_shim.specs.Ends.{WasFullError}
 pub use Rattle.cc_calls.specs.Pages.{WentOn}
 pub use Rattle.cc_calls.specs.Answers.{IsFree}
-use Rattle.cc_lines.specs.Holds.{NamesState, NamesStand, HasRoom}
+use Rattle.cc_lines.specs.Holds.{NamesState, NamesStand, HasRoomForWord}
 use Rattle.cc_lines.specs.Queues.{PlacesWent, hand_of}
 
 -- An action of a run on one of so many streams, or on none; one on a hold names no stream. Those of `steps` alone are no
@@ -105,8 +105,8 @@ IsServable streams (action.Defer file bytes retrying) = file.stream < streams
 IsServable streams action.Post = Unit {0}
 
 -- What is kept of the words of a pass stands for what it has seen.
-abbrev pub StandFor : Standing → List Bound → List Binding → NamesState → Type 0
-StandFor w bounds bindings names = NamesStand w.streams w.number w.seen bounds bindings names.named
+abbrev pub NamesStandFor : Standing → List Bound → List Binding → NamesState → Type 0
+NamesStandFor w bounds bindings names = NamesStand w.streams w.number w.seen bounds bindings names.named
 
 -- A pass may make the call of an action: it holds no turn and has nothing under way; what it has seen is good; and the
 -- action uses right the words that are kept for it, with room for the one that it binds.
@@ -117,9 +117,9 @@ pub record CanServe (w : Standing) (asked : Action) (names : NamesState) : Type 
   pub good : IsGood w.setup w.seen
   pub bounds : List Bound
   pub bindings : List Binding
-  pub stand : StandFor w bounds bindings names
+  pub stand : NamesStandFor w bounds bindings names
   pub right : UsesRight bounds asked
-  pub room : HasRoom asked names
+  pub room : HasRoomForWord asked names
 
 -- A page is to be stored by a noncached write.
 pub record IsStoring (w : Standing) : Type 0 where
@@ -155,9 +155,9 @@ WasFullTold old new other = Unit {0}
 -- stands for it then; of a journal that is told to be full this is so, and this of the pass's places at the queues; the
 -- pass goes on as it stood and may call again; and what it has seen is good.
 pub record LineWith (Full Placed : Type 0) (old new : Standing) (asked : Action) (told : Answer) (was now : NamesState) : Type 0 where
-  pub served : (bounds : List Bound) (bindings : List Binding) → StandFor old bounds bindings was → UsesRight bounds asked →
+  pub served : (bounds : List Bound) (bindings : List Binding) → NamesStandFor old bounds bindings was → UsesRight bounds asked →
       Served old.setup old.number bindings asked told old.seen new.seen
-      × StandFor new (bound_after asked bounds) (bindings_after asked told bindings) now
+      × NamesStandFor new (bound_after asked bounds) (bindings_after asked told bindings) now
   pub full : Full
   pub goes_on : WentOn old new
   pub good : IsGood old.setup new.seen
@@ -196,7 +196,7 @@ LineEnds old new asked told was now =
 pub record StepAt (old new : Standing) (told : Answer) (was now : PlaceState Request) : Type 0 where
   pub taken : Option Request
   pub answered : AheadAnswered old.setup old.number taken told old.seen new.seen
-  pub placed : StepPlaced taken (hand_of was) (hand_of now)
+  pub placed : AheadStepPlaced taken (hand_of was) (hand_of now)
   pub queue_is : now.queue ≡ was.queue
 
 -- The same of an action that binds a word, which is the next one: it may be asked so, and its line was served so.
@@ -207,9 +207,9 @@ abbrev pub NextEnds : Standing → Standing → (ℕ → Action) → Answer → 
 NextEnds old new asked told was now = LineServed old new (asked (length was.named)) told was now
 
 -- the answer of a line whose call answers no value
-abbrev pub told_of : Result (Unit {0}) CcError → Answer
-told_of (Ok done) = answer.Given reply.Unit
-told_of (Err e) = answer.Refused e
+abbrev pub told_answer : Result (Unit {0}) CcError → Answer
+told_answer (Ok done) = answer.Given reply.Unit
+told_answer (Err e) = answer.Refused e
 
 -- the answer of a line that asks for the state of a stream, and for a flag
 abbrev pub state_told : Result FileState CcError → Answer

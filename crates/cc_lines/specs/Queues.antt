@@ -5,7 +5,7 @@ use Rattle.cc_entry.specs.declared.entry.Entry.{Entry}
 use Rattle.cc_entry.specs.declared.place.Request.{Request}
 use Rattle.cc_async.specs.declared.queue.QueuedRead.{QueuedRead}
 use Rattle.cc_pieces.specs.AsyncQueue.{AsyncPlace, AsyncRan, Numbered}
-use Rattle.cc_pieces.specs.Queue.{PlaceRan, QueuePlace}
+use Rattle.cc_pieces.specs.Queue.{PlaceRan, AheadQueuePlace}
 use Rattle.cc_queue.specs.Places.{PlaceState, new_place}
 use Rattle.cc_script.specs.declared.script.Action.{Action}
 use Rattle.cc_lines.specs.declared.queues.Places.{Places}
@@ -20,7 +20,7 @@ abbrev pub new_places : Queues → Places
 new_places queues = record { ahead = new_place queues.ahead; copies = new_place queues.copies }
 
 -- what a place at the queue of read-ahead says of itself
-abbrev pub hand_of : PlaceState Request → QueuePlace
+abbrev pub hand_of : PlaceState Request → AheadQueuePlace
 hand_of place = record { pushed = place.pushed; taken = place.taken; empties = place.empties; fulls = place.fulls }
 
 -- the same of a place at the queue of copied reads

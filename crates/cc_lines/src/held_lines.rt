@@ -4,7 +4,7 @@ ghost use Rattle.std.specs.Prelude.{◌≡◌, ◌<◌, ◌++◌, ◌∷◌, [],
 ghost use Rattle.cc_entry.specs.Kinds.{is_map, is_pin, is_read_chain, is_write_chain};
 ghost use Rattle.cc_entry.specs.declared.call.Call.TheVariants as call;
 ghost use Rattle.cc_calls.specs.Answers.{CanCall};
-ghost use Rattle.cc_calls.specs.Held.{IsHolding, covers};
+ghost use Rattle.cc_calls.specs.Held.{IsHolding, held_covers};
 ghost use Rattle.cc_script.specs.declared.script.Action.TheVariants as action;
 ghost use Rattle.cc_lines.specs.Holds.{bound_named, made_told};
 ghost use Rattle.cc_lines.specs.Line.{CanServe, CanServeNext, HeldReadTold, LineServed, NextEnds};
@@ -12,7 +12,7 @@ ghost use Rattle.cc_lines.specs.Line.{CanServe, CanServeNext, HeldReadTold, Line
 use crate::holds::{Named, Names};
 use crate::line::answered;
 use cc_calls::{
-    Hold, Mapped, Pinned, ReadChain, WriteChain, map_data, mapped_read, mdl_bytes, mdl_read,
+    HoldHandle, Mapped, Pinned, ReadChain, WriteChain, map_data, mapped_read, mdl_bytes, mdl_read,
     mdl_read_complete, mdl_store, mdl_write_abort, mdl_write_complete, pin_mapped, pin_read,
     pinned_read, pinned_write, prepare_mdl_write, prepare_pin_write, repin, set_dirty, unmap,
     unpin, unpin_repinned,
@@ -403,7 +403,7 @@ fn bind(names: &mut Names, made: Result<Named, CcError>) -> Answer
 fn read_map<T: Turns>(alloc: Global, turns: &mut T, hold: &Mapped, at: u64, len: u64) -> Answer
     requires can { CanCall (T.standing turns.old) hold.now.file.stream }
     requires holding { IsHolding (T.standing turns.old) is_map hold.now }
-    requires covers { covers hold.now at len ≡ true }
+    requires covers { held_covers hold.now at len ≡ true }
     ensures { HeldReadTold (T.standing turns.old) (T.standing turns.new) is_map hold.now (call.MappedRead hold.now.id at len) result }
 {
     let Ok(mut out) = vec![in alloc; 0; len as usize] else {
@@ -422,7 +422,7 @@ fn read_map<T: Turns>(alloc: Global, turns: &mut T, hold: &Mapped, at: u64, len:
 fn read_pin<T: Turns>(alloc: Global, turns: &mut T, hold: &Pinned, at: u64, len: u64) -> Answer
     requires can { CanCall (T.standing turns.old) hold.now.file.stream }
     requires holding { IsHolding (T.standing turns.old) is_pin hold.now }
-    requires covers { covers hold.now at len ≡ true }
+    requires covers { held_covers hold.now at len ≡ true }
     ensures { HeldReadTold (T.standing turns.old) (T.standing turns.new) is_pin hold.now (call.PinnedRead hold.now.id at len) result }
 {
     let Ok(mut out) = vec![in alloc; 0; len as usize] else {
@@ -441,7 +441,7 @@ fn read_pin<T: Turns>(alloc: Global, turns: &mut T, hold: &Pinned, at: u64, len:
 fn read_chain<T: Turns>(alloc: Global, turns: &mut T, hold: &ReadChain, at: u64, len: u64) -> Answer
     requires can { CanCall (T.standing turns.old) hold.now.file.stream }
     requires holding { IsHolding (T.standing turns.old) is_read_chain hold.now }
-    requires covers { covers hold.now at len ≡ true }
+    requires covers { held_covers hold.now at len ≡ true }
     ensures { HeldReadTold (T.standing turns.old) (T.standing turns.new) is_read_chain hold.now (call.MdlBytes hold.now.id at len) result }
 {
     let Ok(mut out) = vec![in alloc; 0; len as usize] else {
@@ -466,7 +466,7 @@ fn write_pin<T: Turns>(
 ) -> Answer
     requires can { CanCall (T.standing turns.old) hold.now.file.stream }
     requires holding { IsHolding (T.standing turns.old) is_pin hold.now }
-    requires covers { covers hold.now at (length bytes.now) ≡ true }
+    requires covers { held_covers hold.now at (length bytes.now) ≡ true }
     ensures { HeldReadTold (T.standing turns.old) (T.standing turns.new) is_pin hold.now
         (call.PinnedWrite hold.now.id at bytes.now) result }
 {
@@ -486,7 +486,7 @@ fn store<T: Turns>(
 ) -> Answer
     requires can { CanCall (T.standing turns.old) chain.now.file.stream }
     requires holding { IsHolding (T.standing turns.old) is_write_chain chain.now }
-    requires covers { covers chain.now at (length bytes.now) ≡ true }
+    requires covers { held_covers chain.now at (length bytes.now) ≡ true }
     ensures { HeldReadTold (T.standing turns.old) (T.standing turns.new) is_write_chain chain.now
         (call.MdlStore chain.now.id at bytes.now) result }
 {

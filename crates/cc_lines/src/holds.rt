@@ -5,7 +5,7 @@ ghost use Rattle.std.specs.Option.{option_copied};
 ghost use Rattle.cc_lines.specs.Holds.{named_at};
 
 use crate::queues::Places;
-use cc_calls::{Hold, Mapped, Pinned, ReadChain, Repinned, WriteChain};
+use cc_calls::{HoldHandle, Mapped, Pinned, ReadChain, Repinned, WriteChain};
 use cc_entry::NoMemory;
 use cc_script::HoldWord;
 use std::alloc::Global;
@@ -24,11 +24,11 @@ pub enum Named {
 
 impl Named {
     ghost use Rattle.std.specs.Prelude.{◌≡◌};
-    ghost use Rattle.cc_lines.specs.Holds.{held_of};
+    ghost use Rattle.cc_lines.specs.Holds.{named_held};
 
     /// The id of the hold.
     pub fn id(&self) -> u64
-        ensures { result ≡ (held_of self.now).id }
+        ensures { result ≡ (named_held self.now).id }
     {
         match self {
             Named::Map(hold) => hold.id(),

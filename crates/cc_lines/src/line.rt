@@ -7,7 +7,7 @@ ghost use Rattle.cc_pieces.specs.Queue.{is_queue_action};
 ghost use Rattle.cc_turns.specs.Standing.{Standing};
 ghost use Rattle.cc_calls.specs.Answers.{CanCall, IsFree};
 ghost use Rattle.cc_calls.specs.Pages.{StaysGood, WentOn};
-ghost use Rattle.cc_lines.specs.Line.{AnyServed, CanServe, IsFullTold, LineEnds, LineServed, flag_told, lsns_told, rows_told, state_told, told_of};
+ghost use Rattle.cc_lines.specs.Line.{AnyServed, CanServe, IsFullTold, LineEnds, LineServed, flag_told, lsns_told, rows_told, state_told, told_answer};
 ghost use Rattle.cc_lines.specs.Queues.{queues_of};
 ghost use Rattle.std.specs.Prelude.{◌≡◌, false};
 
@@ -231,7 +231,7 @@ where
 
 /// The answer of a line whose call answers no value.
 pub(crate) fn answered(ended: Result<(), CcError>) -> Answer
-    ensures { result ≡ told_of ended }
+    ensures { result ≡ told_answer ended }
 {
     match ended {
         Ok(()) => Answer::Given(Reply::Unit),

@@ -6,7 +6,7 @@ ghost use Rattle.cc_format.specs.declared.record.StreamRecord.TheVariants.{V1};
 ghost use Rattle.cc_turns.specs.Disk.{opening_of};
 ghost use Rattle.cc_calls.specs.Answers.{CanCall};
 ghost use Rattle.cc_calls.specs.Pages.{WentOn};
-ghost use Rattle.cc_lines.specs.Line.{IsFullTold, told_of};
+ghost use Rattle.cc_lines.specs.Line.{IsFullTold, told_answer};
 
 use crate::line::answered;
 use cc_calls::{initialize, set_log_handle};
@@ -67,8 +67,8 @@ fn open_logged<T: Turns>(
     requires first { (T.standing turns.old).number ≡ 0 }
     requires few { number < 16 }
     ensures opened { LoggedOpening (T.standing turns.old).setup number (opening_with number stream.now sizes) stream.now.log
-        (told_of result) (T.standing turns.old).seen (T.standing turns.new).seen }
-    ensures full { IsFullTold (T.standing turns.new) (told_of result) }
+        (told_answer result) (T.standing turns.old).seen (T.standing turns.new).seen }
+    ensures full { IsFullTold (T.standing turns.new) (told_answer result) }
     ensures goes_on { WentOn (T.standing turns.old) (T.standing turns.new) }
 {
     let file = FileId::new(number, 0).unwrap();
@@ -93,9 +93,9 @@ fn open_stored<T: Turns>(
     requires few { number < 16 }
     requires told { (T.standing turns.old).setup.opening number
         ≡ opening_of ((T.standing turns.old).disks number).told }
-    ensures opened { StreamOpening (T.standing turns.old).setup number stream.now true (told_of result)
+    ensures opened { StreamOpening (T.standing turns.old).setup number stream.now true (told_answer result)
         (T.standing turns.old).seen (T.standing turns.new).seen }
-    ensures full { IsFullTold (T.standing turns.new) (told_of result) }
+    ensures full { IsFullTold (T.standing turns.new) (told_answer result) }
     ensures goes_on { WentOn (T.standing turns.old) (T.standing turns.new) }
 {
     let id = StreamId::new(number).unwrap();
@@ -116,9 +116,9 @@ fn open_recorded<T: Turns>(
     requires can { CanCall (T.standing turns.old) number }
     requires first { (T.standing turns.old).number ≡ 0 }
     requires few { number < 16 }
-    ensures opened { RecordedOpening (T.standing turns.old).setup number stream.now told (told_of result)
+    ensures opened { RecordedOpening (T.standing turns.old).setup number stream.now told (told_answer result)
         (T.standing turns.old).seen (T.standing turns.new).seen }
-    ensures full { IsFullTold (T.standing turns.new) (told_of result) }
+    ensures full { IsFullTold (T.standing turns.new) (told_answer result) }
     ensures goes_on { WentOn (T.standing turns.old) (T.standing turns.new) }
 {
     match told {
@@ -146,9 +146,9 @@ fn open_first_version<T: Turns>(
     requires can { CanCall (T.standing turns.old) number }
     requires first { (T.standing turns.old).number ≡ 0 }
     requires few { number < 16 }
-    ensures opened { RecordedOpening (T.standing turns.old).setup number stream.now (Some (V1 size)) (told_of result)
+    ensures opened { RecordedOpening (T.standing turns.old).setup number stream.now (Some (V1 size)) (told_answer result)
         (T.standing turns.old).seen (T.standing turns.new).seen }
-    ensures full { IsFullTold (T.standing turns.new) (told_of result) }
+    ensures full { IsFullTold (T.standing turns.new) (told_answer result) }
     ensures goes_on { WentOn (T.standing turns.old) (T.standing turns.new) }
 {
     let sizes = FileSizes {
@@ -167,9 +167,9 @@ fn migrate<T: Turns>(alloc: Global, turns: &mut T, number: u8) -> Result<(), CcE
     requires can { CanCall (T.standing turns.old) number }
     requires first { (T.standing turns.old).number ≡ 0 }
     requires few { number < 16 }
-    ensures left { MigrationLeft (T.standing turns.old).setup number (told_of result)
+    ensures left { MigrationLeft (T.standing turns.old).setup number (told_answer result)
         (T.standing turns.old).seen (T.standing turns.new).seen }
-    ensures full { IsFullTold (T.standing turns.new) (told_of result) }
+    ensures full { IsFullTold (T.standing turns.new) (told_answer result) }
     ensures goes_on { WentOn (T.standing turns.old) (T.standing turns.new) }
 {
     let file = FileId::new(number, 0).unwrap();

@@ -13,12 +13,12 @@ use Rattle.std.proofs.lemmas.Map.Made.{Contains-from_values_of, Contains-values_
 use Rattle.std.proofs.lemmas.Map.Lookups.{exact_unsigned}
 use Rattle.std.proofs.lemmas.Map.Keys.{IsDistinct-from_sorted}
 use Rattle.cc_entry.specs.Place.{Range}
-use Rattle.cc_entry.specs.Locks.{least_id, overlaps}
+use Rattle.cc_entry.specs.Locks.{least_lock_id, overlaps}
 use Rattle.cc_entry.specs.declared.lock.Lock.{Lock}
 use Rattle.cc_locks.specs.declared.asked.Asked.{Asked}
 use Rattle.cc_locks.specs.declared.asked.Asked.TheVariants as asked
 use Rattle.cc_locks.specs.Asked.{span_of, conflicts}
-use Rattle.cc_locks.specs.Place.{Place, place_of, place_cmp, class_of, lesser, lock_of, lock_at, IsIndexed, Covers, IsLeastOfClass}
+use Rattle.cc_locks.specs.Place.{LockPlace, place_of, place_cmp, class_of, lesser_id, lock_of, lock_at, LocksAreIndexed, CoversClass, IsLeastOfClass}
 use Rattle.cc_locks.proofs.Order.{place_total, place_exact, place-within, class-le, class-fits}
 use Rattle.cc_locks.proofs.Members.{Contains-from_filter, Contains-filter}
 use Rattle.cc_locks.proofs.Least.{IsLeast, IsLeast-list, IsLeast-unique, lesser-one, lesser-left, lesser-right}
@@ -39,7 +39,7 @@ conflicts-meets (asked.Read file range) lock h = overlaps-meets lock.span range 
 conflicts-meets (asked.Write file range) lock h = overlaps-meets lock.span range (and_parts (overlaps lock.span range) _ h).0
 conflicts-meets (asked.Lock range exclusive) lock h = overlaps-meets lock.span range (and_parts (overlaps lock.span range) _ h).0
 
-module _ (ids : List (ℕ × Lock)) (places : List (Place × Lock)) (used : List Bool) (i : IsIndexed ids places used) where
+module _ (ids : List (ℕ × Lock)) (places : List (LockPlace × Lock)) (used : List Bool) (i : LocksAreIndexed ids places used) where
   -- a lock of the list is the one of an id
   of_id : (lock : Lock) → Contains (values_of ids) lock → (id : ℕ) × (lock_of ids id ≡ Some lock)
   of_id lock has =
@@ -47,7 +47,7 @@ module _ (ids : List (ℕ × Lock)) (places : List (Place × Lock)) (used : List
       (key.0, lookup-from_Contains {eq = eq_by_cmp nat_cmp} (eq_by_cmp_equiv nat_cmp_total) key.0 lock ids (IsDistinct-from_sorted nat_cmp (keys_of ids) i.ids_ascend) key.1)
 
   -- a lock at a place is of the list
-  listed : (e : Place × Lock) → Contains places e → Contains (values_of ids) e.1
+  listed : (e : LockPlace × Lock) → Contains places e → Contains (values_of ids) e.1
   listed e has =
       let at : lock_at places e.0 ≡ Some e.1 = lookup-from_Contains {eq = eq_by_cmp place_cmp} (eq_by_cmp_equiv place_total) e.0 e.1 places (IsDistinct-from_sorted place_cmp (keys_of places) i.places_ascend) has in
       let by_id = (i.placed e.0 e.1 at).1 in
@@ -64,8 +64,8 @@ module _ (ids : List (ℕ × Lock)) (places : List (Place × Lock)) (used : List
   }
 
   -- those that conflict begin within the reach of the class
-  pub IsLeastOfClass-found : (a : Asked) (class reach low high : ℕ) (found : Option ℕ) → Covers class reach → low ≡ (span_of a).from - reach → high ≡ (span_of a).to
-      → found ≡ reduce min (map (λ (e : Place × Lock). e.1.id) (filter (λ (e : Place × Lock). conflicts a e.1) (entries_between place_cmp (Included (class, low, 0)) (Excluded (class, high, 0)) places)))
+  pub IsLeastOfClass-found : (a : Asked) (class reach low high : ℕ) (found : Option ℕ) → CoversClass class reach → low ≡ (span_of a).from - reach → high ≡ (span_of a).to
+      → found ≡ reduce min (map (λ (e : LockPlace × Lock). e.1.id) (filter (λ (e : LockPlace × Lock). conflicts a e.1) (entries_between place_cmp (Included (class, low, 0)) (Excluded (class, high, 0)) places)))
       → IsLeastOfClass a (values_of ids) class found
   IsLeastOfClass-found a class reach low high found covers from to is = record {
     one = λ id h.
@@ -82,11 +82,11 @@ module _ (ids : List (ℕ × Lock)) (places : List (Place × Lock)) (used : List
         best.least (place_of lock, lock) (Contains-filter inside (place_of lock, lock) places (place-within class low high (place_of lock) at start end) there) pick;
   }
     where
-      inside : Place × Lock → Bool
+      inside : LockPlace × Lock → Bool
       inside e = range_contains place_cmp (Included (class, low, 0)) (Excluded (class, high, 0)) e.0
 
-      best : IsLeast (λ (e : Place × Lock). conflicts a e.1) (λ (e : Place × Lock). e.1.id) (Contains (filter inside places)) found
-      best = subst (IsLeast (λ (e : Place × Lock). conflicts a e.1) (λ (e : Place × Lock). e.1.id) (Contains (filter inside places))) (sym is) (IsLeast-list (λ (e : Place × Lock). conflicts a e.1) (λ (e : Place × Lock). e.1.id) (filter inside places))
+      best : IsLeast (λ (e : LockPlace × Lock). conflicts a e.1) (λ (e : LockPlace × Lock). e.1.id) (Contains (filter inside places)) found
+      best = subst (IsLeast (λ (e : LockPlace × Lock). conflicts a e.1) (λ (e : LockPlace × Lock). e.1.id) (Contains (filter inside places))) (sym is) (IsLeast-list (λ (e : LockPlace × Lock). conflicts a e.1) (λ (e : LockPlace × Lock). e.1.id) (filter inside places))
 
 -- the least id of a lock that conflicts, of the classes below one
 pub record IsLeastBelow (a : Asked) (locks : List Lock) (class : ℕ) (found : Option ℕ) : Type 0 where
@@ -96,7 +96,7 @@ pub record IsLeastBelow (a : Asked) (locks : List Lock) (class : ℕ) (found : O
 pub IsLeastBelow-start : (a : Asked) (locks : List Lock) → IsLeastBelow a locks 0 None
 IsLeastBelow-start a locks = record { one = λ id h. absurd (cc); least = λ lock has pick lt. absurd (omega arith) }
 
-pub IsLeastBelow-next : (a : Asked) (locks : List Lock) (class : ℕ) (found next : Option ℕ) → IsLeastBelow a locks class found → IsLeastOfClass a locks class next → IsLeastBelow a locks (class + 1) (lesser found next)
+pub IsLeastBelow-next : (a : Asked) (locks : List Lock) (class : ℕ) (found next : Option ℕ) → IsLeastBelow a locks class found → IsLeastOfClass a locks class next → IsLeastBelow a locks (class + 1) (lesser_id found next)
 IsLeastBelow-next a locks class found next below of = record {
   one = λ id h. elim (lesser-one found next id h) [ inl w ↦ below.one id w | inr w ↦ of.one id w ];
   least = λ lock has pick lt. elim (cases_lt (class_of lock.span) class) [
@@ -105,17 +105,17 @@ IsLeastBelow-next a locks class found next below of = record {
   ];
 }
 
-pub IsLeastBelow-end : (a : Asked) (locks : List Lock) (found : Option ℕ) → IsLeastBelow a locks 65 found → found ≡ least_id (conflicts a) locks
+pub IsLeastBelow-end : (a : Asked) (locks : List Lock) (found : Option ℕ) → IsLeastBelow a locks 65 found → found ≡ least_lock_id (conflicts a) locks
 IsLeastBelow-end a locks found below =
-    IsLeast-unique (conflicts a) (λ (l : Lock). l.id) (Contains locks) found (least_id (conflicts a) locks) all (IsLeast-list (conflicts a) (λ (l : Lock). l.id) locks)
+    IsLeast-unique (conflicts a) (λ (l : Lock). l.id) (Contains locks) found (least_lock_id (conflicts a) locks) all (IsLeast-list (conflicts a) (λ (l : Lock). l.id) locks)
   where
     all : IsLeast (conflicts a) (λ (l : Lock). l.id) (Contains locks) found
     all = record { one = below.one; least = λ lock has pick. below.least lock has pick (omega (arith, class-le lock.span)) }
 
-pub Covers-start : Covers 0 0
+pub Covers-start : CoversClass 0 0
 Covers-start = λ len fits lt. omega arith
 
-pub Covers-next : (class reach next : ℕ) → Covers class reach → (2 * reach + 1 ≤ next) ⊎ (2 ^ 64 ≤ next + 1) → Covers (class + 1) next
+pub Covers-next : (class reach next : ℕ) → CoversClass class reach → (2 * reach + 1 ≤ next) ⊎ (2 ^ 64 ≤ next + 1) → CoversClass (class + 1) next
 Covers-next class reach next covers (inr top) = λ len fits lt. omega arith
 Covers-next class reach next covers (inl double) = λ len fits lt.
     let pow : 2 ^ (class + 1) ≡ 2 ^ class * 2 = pow-add 2 class 1 in

@@ -7,7 +7,7 @@ use Rattle.std.proofs.lemmas.Bool.{cond-true, cond-false, false_from_ne_true}
 use Rattle.std.proofs.lemmas.List.Elements.{All-head, All-tail, All-cons, All-push}
 use Rattle.std.proofs.lemmas.Map.Views.{tells_apart, IfSome-lookup_from_All}
 use Rattle.cc_entry.specs.declared.lock.Lock.{Lock}
-use Rattle.cc_locks.specs.Place.{Place, place_of, place_cmp, class_of, lock_of, lock_at, IsIndexed}
+use Rattle.cc_locks.specs.Place.{LockPlace, place_of, place_cmp, class_of, lock_of, lock_at, LocksAreIndexed}
 use Rattle.cc_locks.proofs.Order.{place_exact, place-same, place-apart, at-same, at-apart, at-true}
 use Rattle.cc_locks.proofs.Ids.{IsKeyed, Keyed, insert-last, keyed-lock}
 
@@ -39,13 +39,13 @@ keyed-remove test (e ∷ ids) h = go (test e.0) (keyed-remove test ids (All-tail
     go true rest = All-tail IsKeyed e ids h
     go false rest = All-cons IsKeyed e (remove_entry test ids) (All-head IsKeyed e ids h) rest
 
-module _ (ids : List (ℕ × Lock)) (places : List (Place × Lock)) (used : List Bool) (lock : Lock) (i : IsIndexed ids places used) where
+module _ (ids : List (ℕ × Lock)) (places : List (LockPlace × Lock)) (used : List Bool) (lock : Lock) (i : LocksAreIndexed ids places used) where
   -- a lock with an id above all others comes
   module _ (above : All (λ (l : Lock). l.id < lock.id) (values_of ids)) (within : class_of lock.span < length used) where
     fresh : (n : ℕ) (l : Lock) → lock_of ids n ≡ Some l → l.id < lock.id
     fresh n l h = subst (λ (o : Option Lock). IfSome o (λ (l : Lock). l.id < lock.id)) h (IfSome-lookup_from_All (λ (l : Lock). l.id < lock.id) (is_at (nat_cmp n)) ids above)
 
-    module _ (new : List (Place × Lock)) (put : (p : Place) → lock_at new p ≡ cond (is_at (place_cmp (place_of lock)) p) (Some lock) (lock_at places p)) where
+    module _ (new : List (LockPlace × Lock)) (put : (p : LockPlace) → lock_at new p ≡ cond (is_at (place_cmp (place_of lock)) p) (Some lock) (lock_at places p)) where
       apart : (n : ℕ) (l : Lock) → lock_of ids n ≡ Some l → lock_at new (place_of l) ≡ Some l
       apart n l h =
           put (place_of l) ∙ (cond-false (is_at (place_cmp (place_of lock)) (place_of l)) (Some lock) (lock_at places (place_of l)) (place-apart (place_of lock) (place_of l) (fresh n l h)) ∙ i.held n l h)
@@ -53,7 +53,7 @@ module _ (ids : List (ℕ × Lock)) (places : List (Place × Lock)) (used : List
       pub IsIndexed-added : (more : List (ℕ × Lock)) → more ≡ insert_entry nat_cmp ids lock.id lock
           → ((n : ℕ) → lock_of more n ≡ cond (is_at (nat_cmp lock.id) n) (Some lock) (lock_of ids n))
           → IsStrictlySortedBy nat_cmp (keys_of more) → IsStrictlySortedBy place_cmp (keys_of new) → lock.span.to - lock.span.from < 2 ^ 64
-          → IsIndexed more new (set used (class_of lock.span) true)
+          → LocksAreIndexed more new (set used (class_of lock.span) true)
       IsIndexed-added more is upd up pup fits = record {
         ids_ascend = up;
         places_ascend = pup;
@@ -86,8 +86,8 @@ module _ (ids : List (ℕ × Lock)) (places : List (Place × Lock)) (used : List
           by_id = upd lock.id ∙ cond-true (is_at (nat_cmp lock.id) lock.id) (Some lock) (lock_of ids lock.id) (at-same lock.id)
 
       -- it goes from its place again
-      pub IsIndexed-back : (old : List (Place × Lock)) → ((p : Place) → lock_at old p ≡ cond (is_at (place_cmp (place_of lock)) p) None (lock_at new p))
-          → IsStrictlySortedBy place_cmp (keys_of old) → IsIndexed ids old (set used (class_of lock.span) true)
+      pub IsIndexed-back : (old : List (LockPlace × Lock)) → ((p : LockPlace) → lock_at old p ≡ cond (is_at (place_cmp (place_of lock)) p) None (lock_at new p))
+          → IsStrictlySortedBy place_cmp (keys_of old) → LocksAreIndexed ids old (set used (class_of lock.span) true)
       IsIndexed-back old back pup = record {
         ids_ascend = i.ids_ascend;
         places_ascend = pup;
@@ -101,7 +101,7 @@ module _ (ids : List (ℕ × Lock)) (places : List (Place × Lock)) (used : List
       }
 
   -- one more class is noted
-  pub IsIndexed-noted : (class : ℕ) → IsIndexed ids places (set used class true)
+  pub IsIndexed-noted : (class : ℕ) → LocksAreIndexed ids places (set used class true)
   IsIndexed-noted class = record {
     ids_ascend = i.ids_ascend;
     places_ascend = i.places_ascend;
@@ -113,17 +113,17 @@ module _ (ids : List (ℕ × Lock)) (places : List (Place × Lock)) (used : List
   }
 
   -- a lock goes
-  pub IsIndexed-removed : (fewer : List (ℕ × Lock)) (new : List (Place × Lock)) → lock_of ids lock.id ≡ Some lock → fewer ≡ remove_entry (is_at (nat_cmp lock.id)) ids
+  pub IsIndexed-removed : (fewer : List (ℕ × Lock)) (new : List (LockPlace × Lock)) → lock_of ids lock.id ≡ Some lock → fewer ≡ remove_entry (is_at (nat_cmp lock.id)) ids
       → ((n : ℕ) → lock_of fewer n ≡ cond (is_at (nat_cmp lock.id) n) None (lock_of ids n))
-      → ((p : Place) → lock_at new p ≡ cond (is_at (place_cmp (place_of lock)) p) None (lock_at places p))
-      → IsStrictlySortedBy nat_cmp (keys_of fewer) → IsStrictlySortedBy place_cmp (keys_of new) → IsIndexed fewer new used
+      → ((p : LockPlace) → lock_at new p ≡ cond (is_at (place_cmp (place_of lock)) p) None (lock_at places p))
+      → IsStrictlySortedBy nat_cmp (keys_of fewer) → IsStrictlySortedBy place_cmp (keys_of new) → LocksAreIndexed fewer new used
   IsIndexed-removed fewer new there is upd put up pup = record {
     ids_ascend = up;
     places_ascend = pup;
     keyed = subst Keyed (sym is) (keyed-remove (is_at (nat_cmp lock.id)) ids i.keyed);
     held = λ n l h.
         let w = was n l h in
-        let other = false_from_ne_true (is_at (place_cmp (place_of lock)) (place_of l)) (λ at. same n l w.0 (keyed-lock ids n l i.keyed w.1) (ap (λ (p : Place). p.2) (tells_apart place_exact (place_of lock) (place_of l) at))) in
+        let other = false_from_ne_true (is_at (place_cmp (place_of lock)) (place_of l)) (λ at. same n l w.0 (keyed-lock ids n l i.keyed w.1) (ap (λ (p : LockPlace). p.2) (tells_apart place_exact (place_of lock) (place_of l) at))) in
         put (place_of l) ∙ (cond-false (is_at (place_cmp (place_of lock)) (place_of l)) None (lock_at places (place_of l)) other ∙ i.held n l w.1);
     placed = λ p l h.
         let w = removed-cases (is_at (place_cmp (place_of lock)) p) l (lock_at places p) (sym (put p) ∙ h) in
@@ -140,19 +140,19 @@ module _ (ids : List (ℕ × Lock)) (places : List (Place × Lock)) (used : List
       same : (n : ℕ) (l : Lock) → is_at (nat_cmp lock.id) n ≡ false → l.id ≡ n → lock.id ≡ l.id → ⊥
       same n l other named e = let hit : is_at (nat_cmp lock.id) n ≡ true = subst (λ k. is_at (nat_cmp lock.id) k ≡ true) (e ∙ named) (at-same lock.id) in absurd (cc)
 
-      differs : (p : Place) (l : Lock) → is_at (place_cmp (place_of lock)) p ≡ false → p ≡ place_of l → lock_of ids l.id ≡ Some l → l.id ≡ lock.id → ⊥
+      differs : (p : LockPlace) (l : Lock) → is_at (place_cmp (place_of lock)) p ≡ false → p ≡ place_of l → lock_of ids l.id ≡ Some l → l.id ≡ lock.id → ⊥
       differs p l other at of e =
           let is_lock : lock_of ids lock.id ≡ Some l = subst (λ k. lock_of ids k ≡ Some l) e of in
           let both : Some lock ≡ Some l = sym there ∙ is_lock in
           let one : lock ≡ l = cc in
-          let hit : is_at (place_cmp (place_of lock)) p ≡ true = subst (λ (q : Place). is_at (place_cmp (place_of lock)) q ≡ true) (ap place_of one ∙ sym at) (place-same (place_of lock)) in
+          let hit : is_at (place_cmp (place_of lock)) p ≡ true = subst (λ (q : LockPlace). is_at (place_cmp (place_of lock)) q ≡ true) (ap place_of one ∙ sym at) (place-same (place_of lock)) in
           absurd (cc)
 
   -- the lock of an id goes
-  pub IsIndexed-removed_id : (id : ℕ) (fewer : List (ℕ × Lock)) (new : List (Place × Lock)) → lock_of ids id ≡ Some lock → fewer ≡ remove_entry (is_at (nat_cmp id)) ids
+  pub IsIndexed-removed_id : (id : ℕ) (fewer : List (ℕ × Lock)) (new : List (LockPlace × Lock)) → lock_of ids id ≡ Some lock → fewer ≡ remove_entry (is_at (nat_cmp id)) ids
       → ((n : ℕ) → lock_of fewer n ≡ cond (is_at (nat_cmp id) n) None (lock_of ids n))
-      → ((p : Place) → lock_at new p ≡ cond (is_at (place_cmp (place_of lock)) p) None (lock_at places p))
-      → IsStrictlySortedBy nat_cmp (keys_of fewer) → IsStrictlySortedBy place_cmp (keys_of new) → IsIndexed fewer new used
+      → ((p : LockPlace) → lock_at new p ≡ cond (is_at (place_cmp (place_of lock)) p) None (lock_at places p))
+      → IsStrictlySortedBy nat_cmp (keys_of fewer) → IsStrictlySortedBy place_cmp (keys_of new) → LocksAreIndexed fewer new used
   IsIndexed-removed_id id fewer new there is upd put up pup =
       let same : id ≡ lock.id = sym (keyed-lock ids id lock i.keyed there) in
       IsIndexed-removed fewer new (subst (λ k. lock_of ids k ≡ Some lock) same there) (subst (λ k. fewer ≡ remove_entry (is_at (nat_cmp k)) ids) same is)

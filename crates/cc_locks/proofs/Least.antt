@@ -2,14 +2,14 @@
 use Rattle.std.proofs.Common.{◌≡◌, ℕ, ◌<◌, ◌≤◌, min, Bool, true, false, cond, Option, None, Some, IsSomeAnd, List, [], ◌∷◌, ◌⊎◌, inl, inr, map, refl, sym, ◌∙◌, ap, subst, arith}
 use Rattle.std.proofs.lemmas.Bool.{cases_lt}
 use Rattle.std.specs.List.{Contains, filter, fold, reduce}
-use Rattle.cc_locks.specs.Place.{lesser}
+use Rattle.cc_locks.specs.Place.{lesser_id}
 use Rattle.cc_locks.proofs.Members.{Contains-here, Contains-there, Contains-cases, Contains-nil}
 
 pub record IsLeast {X : Type 0} (picks : X → Bool) (id : X → ℕ) (Has : X → Type 0) (found : Option ℕ) : Type 0 where
   pub one : (n : ℕ) → found ≡ Some n → (x : X) × Has x × (picks x ≡ true) × (id x ≡ n)
   pub least : (x : X) → Has x → picks x ≡ true → IsSomeAnd found (λ n. n ≤ id x)
 
-pub lesser-one : (a b : Option ℕ) (n : ℕ) → lesser a b ≡ Some n → (a ≡ Some n) ⊎ (b ≡ Some n)
+pub lesser-one : (a b : Option ℕ) (n : ℕ) → lesser_id a b ≡ Some n → (a ≡ Some n) ⊎ (b ≡ Some n)
 lesser-one None b n h = inr h
 lesser-one (Some x) None n h = inl h
 lesser-one (Some x) (Some y) n h = by (cases x y)
@@ -21,12 +21,12 @@ lesser-one (Some x) (Some y) n h = by (cases x y)
     by (inl e) = inl (ap (λ k. Some k) (sym e) ∙ h)
     by (inr e) = inr (ap (λ k. Some k) (sym e) ∙ h)
 
-pub lesser-left : (a b : Option ℕ) (m : ℕ) → IsSomeAnd a (λ n. n ≤ m) → IsSomeAnd (lesser a b) (λ n. n ≤ m)
+pub lesser-left : (a b : Option ℕ) (m : ℕ) → IsSomeAnd a (λ n. n ≤ m) → IsSomeAnd (lesser_id a b) (λ n. n ≤ m)
 lesser-left None b m h = absurd h
 lesser-left (Some x) None m h = h
 lesser-left (Some x) (Some y) m h = omega arith
 
-pub lesser-right : (a b : Option ℕ) (m : ℕ) → IsSomeAnd b (λ n. n ≤ m) → IsSomeAnd (lesser a b) (λ n. n ≤ m)
+pub lesser-right : (a b : Option ℕ) (m : ℕ) → IsSomeAnd b (λ n. n ≤ m) → IsSomeAnd (lesser_id a b) (λ n. n ≤ m)
 lesser-right None b m h = h
 lesser-right (Some x) None m h = absurd h
 lesser-right (Some x) (Some y) m h = omega arith
@@ -38,7 +38,7 @@ fold-shift x y (z ∷ ys) = ap (λ k. fold min k ys) (assoc x y z) ∙ fold-shif
     assoc : (x y z : ℕ) → min (min x y) z ≡ min x (min y z)
     assoc x y z = omega arith
 
-pub reduce-cons : (x : ℕ) (xs : List ℕ) → reduce min (x ∷ xs) ≡ lesser (Some x) (reduce min xs)
+pub reduce-cons : (x : ℕ) (xs : List ℕ) → reduce min (x ∷ xs) ≡ lesser_id (Some x) (reduce min xs)
 reduce-cons x [] = refl
 reduce-cons x (y ∷ ys) = ap (λ k. Some k) (fold-shift x y ys)
 

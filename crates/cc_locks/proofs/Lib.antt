@@ -5,4 +5,3 @@ mod Ids
 mod Indexed
 mod Classes
 mod Replay
-mod Walks

@@ -8,10 +8,10 @@ use Rattle.std.specs.BTreeMap.{is_at}
 use Rattle.std.specs.BTreeMap.Range.{range_contains}
 use Rattle.std.specs.declared.ops.Bound.TheVariants.{Included, Excluded}
 use Rattle.cc_entry.specs.Place.{Range}
-use Rattle.cc_locks.specs.Place.{Place, place_cmp, class_of}
+use Rattle.cc_locks.specs.Place.{LockPlace, place_cmp, class_of}
 
 pub place_total : IsTotalOrder place_cmp
-place_total = then_total (then_total (on_total (λ (p : Place). p.0) nat_cmp_total) (on_total (λ (p : Place). p.1) nat_cmp_total)) (on_total (λ (p : Place). p.2) nat_cmp_total)
+place_total = then_total (then_total (on_total (λ (p : LockPlace). p.0) nat_cmp_total) (on_total (λ (p : LockPlace). p.1) nat_cmp_total)) (on_total (λ (p : LockPlace). p.2) nat_cmp_total)
 
 cmp-exact : (a b c d e f : ℕ) → place_cmp (a, b, c) (d, e, f) ≡ Equal → (a ≡ d) × (b ≡ e) × (c ≡ f)
 cmp-exact a b c d e f h = (grind (arith, nat_tests), grind (arith, nat_tests), grind (arith, nat_tests))
@@ -19,13 +19,13 @@ cmp-exact a b c d e f h = (grind (arith, nat_tests), grind (arith, nat_tests), g
 pub place_exact : CmpEqualImpliesEq place_cmp
 place_exact x y h = let e = cmp-exact x.0 x.1 x.2 y.0 y.1 y.2 h in λ i. (e.0 i, e.1 i, e.2 i)
 
-pub place-same : (p : Place) → is_at (place_cmp p) p ≡ true
+pub place-same : (p : LockPlace) → is_at (place_cmp p) p ≡ true
 place-same p = grind (arith, nat_tests)
 
-pub place-apart : (p q : Place) → q.2 < p.2 → is_at (place_cmp p) q ≡ false
+pub place-apart : (p q : LockPlace) → q.2 < p.2 → is_at (place_cmp p) q ≡ false
 place-apart p q lt = grind (arith, nat_tests)
 
-pub place-within : (class low high : ℕ) (p : Place) → p.0 ≡ class → low ≤ p.1 → p.1 < high
+pub place-within : (class low high : ℕ) (p : LockPlace) → p.0 ≡ class → low ≤ p.1 → p.1 < high
     → range_contains place_cmp (Included (class, low, 0)) (Excluded (class, high, 0)) p ≡ true
 place-within class low high p e le lt = grind (arith, nat_tests)
 

@@ -10,7 +10,7 @@ use Rattle.cc_entry.specs.Locks.{LockTable, lock_conflicts, lock_conflict, is_na
 use Rattle.cc_entry.specs.declared.lock.Lock.{Lock}
 use Rattle.cc_entry.specs.declared.lock.LockCall.{LockCall}
 use Rattle.cc_entry.specs.declared.lock.LockCall.TheVariants as call
-use Rattle.cc_locks.specs.Locks.{Held, held, IsReplayed, locked, unlocked}
+use Rattle.cc_locks.specs.Locks.{HeldLocks, held_locks, IsReplayed, locked, unlocked}
 use Rattle.cc_locks.proofs.Least.{IsLeast-list}
 
 -- where there is no least id that conflicts, nothing does
@@ -22,7 +22,7 @@ none-conflicts locks range exclusive none k d lt =
     (λ pick. subst (λ (o : Option ℕ). IsSomeAnd o (λ n. n ≤ (get_or locks k d).id)) none (all.least (get_or locks k d) (Contains-get_or locks k d lt) pick))
 
 -- a lock that was granted
-pub IsReplayed-granted : (old : Held) (file : File) (range : Range) (exclusive : Bool) → IsReplayed old → lock_conflict old.table.locks range exclusive ≡ None
+pub IsReplayed-granted : (old : HeldLocks) (file : File) (range : Range) (exclusive : Bool) → IsReplayed old → lock_conflict old.table.locks range exclusive ≡ None
     → IsReplayed (locked old file range exclusive None)
 IsReplayed-granted old file range exclusive i free = record {
   table = sym (ap (λ (t : LockTable). after_lock t file range exclusive (lock_conflict t.locks range exclusive)) (sym i.table) ∙ ap (λ (o : Option ℕ). after_lock old.table file range exclusive o) free);
@@ -33,7 +33,7 @@ IsReplayed-granted old file range exclusive i free = record {
 }
 
 -- a lock that was refused
-pub IsReplayed-refused : (old : Held) (file : File) (range : Range) (exclusive : Bool) (id : ℕ) → IsReplayed old → lock_conflict old.table.locks range exclusive ≡ Some id
+pub IsReplayed-refused : (old : HeldLocks) (file : File) (range : Range) (exclusive : Bool) (id : ℕ) → IsReplayed old → lock_conflict old.table.locks range exclusive ≡ Some id
     → IsReplayed (locked old file range exclusive (Some id))
 IsReplayed-refused old file range exclusive id i conflict = record {
   table = sym (ap (λ (t : LockTable). after_lock t file range exclusive (lock_conflict t.locks range exclusive)) (sym i.table) ∙ ap (λ (o : Option ℕ). after_lock old.table file range exclusive o) conflict);
@@ -43,7 +43,7 @@ IsReplayed-refused old file range exclusive id i conflict = record {
 }
 
 -- a lock that was to end
-pub IsReplayed-unlocked : (old : Held) (file : File) (id : ℕ) → IsReplayed old → IsReplayed (unlocked old file id)
+pub IsReplayed-unlocked : (old : HeldLocks) (file : File) (id : ℕ) → IsReplayed old → IsReplayed (unlocked old file id)
 IsReplayed-unlocked old file id i = record {
   table = ap (λ (t : LockTable). after_unlock t file id) i.table;
   answered = (ap (λ (t : LockTable). unlock_answer t file id) (sym i.table), i.answered);

@@ -10,13 +10,13 @@ use Rattle.cc_entry.specs.declared.lock.LockCall.{LockCall}
 use Rattle.cc_entry.specs.declared.lock.LockCall.TheVariants as call
 
 -- the locks of a stream, and the calls so far, with the newest first
-pub record Held : Type 0 where
+pub record HeldLocks : Type 0 where
   pub stream : ℕ
   pub table : LockTable
   pub history : List LockCall
 
-abbrev pub held : ℕ → ℕ → List Lock → List LockCall → Held
-held stream granted locks history = record {
+abbrev pub held_locks : ℕ → ℕ → List Lock → List LockCall → HeldLocks
+held_locks stream granted locks history = record {
   stream = stream;
   table = record { locks = locks; granted = granted };
   history = history;
@@ -24,14 +24,14 @@ held stream granted locks history = record {
 
 -- the locks are the replay of the calls, each of which was answered as by one thread at its place, and no two of them are such that
 -- the later would have been refused by the earlier
-pub record IsReplayed (h : Held) : Type 0 where
+pub record IsReplayed (h : HeldLocks) : Type 0 where
   pub table : h.table ≡ locks_after h.history
   pub answered : AreAnswered h.history
   pub compatible : AreCompatible h.table.locks
   pub numbered : All (λ l. l.id ≤ h.table.granted) h.table.locks
 
 -- after a call for a lock that was answered by the rules, given the least id that conflicts
-abbrev pub locked : Held → File → Range → Bool → Option ℕ → Held
+abbrev pub locked : HeldLocks → File → Range → Bool → Option ℕ → HeldLocks
 locked old file range exclusive conflict =
     let answer = lock_answer old.table conflict in
     record {
@@ -41,7 +41,7 @@ locked old file range exclusive conflict =
     }
 
 -- after a call for the end of a lock
-abbrev pub unlocked : Held → File → ℕ → Held
+abbrev pub unlocked : HeldLocks → File → ℕ → HeldLocks
 unlocked old file id = record {
   stream = old.stream;
   table = after_unlock old.table file id;
@@ -49,13 +49,13 @@ unlocked old file id = record {
 }
 
 -- a lock is granted where none conflicts, with the next id
-pub record Grants (old new : Held) (file : File) (range : Range) (exclusive : Bool) (id : ℕ) : Type 0 where
+pub record Grants (old new : HeldLocks) (file : File) (range : Range) (exclusive : Bool) (id : ℕ) : Type 0 where
   pub free : lock_conflict old.table.locks range exclusive ≡ None
   pub next : id ≡ old.table.granted + 1
   pub after : new ≡ locked old file range exclusive None
 
 -- a lock is refused with the least id that conflicts; memory is wanting only where none does, and then nothing has changed
-abbrev pub Refuses : Held → Held → File → Range → Bool → CcError → Type 0
+abbrev pub Refuses : HeldLocks → HeldLocks → File → Range → Bool → CcError → Type 0
 Refuses old new file range exclusive (error.LockConflict id) =
     (lock_conflict old.table.locks range exclusive ≡ Some id) × (new ≡ locked old file range exclusive (Some id))
 Refuses old new file range exclusive error.NoMemory = (lock_conflict old.table.locks range exclusive ≡ None) × (new ≡ old)

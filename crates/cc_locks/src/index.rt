@@ -2,9 +2,9 @@
 
 ghost use Rattle.std.specs.Prelude.{◌≡◌, ◌<◌, ◌≤◌, [], ◌∷◌, ◌++◌, not, All, OnOk, OnErr};
 ghost use Rattle.std.specs.List.{list_any, filter};
-ghost use Rattle.cc_entry.specs.Locks.{least_id, is_named};
+ghost use Rattle.cc_entry.specs.Locks.{least_lock_id, is_named};
 ghost use Rattle.cc_locks.specs.Asked.{conflicts};
-ghost use Rattle.cc_locks.specs.Place.{lesser, Covers, IsLeastOfClass};
+ghost use Rattle.cc_locks.specs.Place.{lesser_id, CoversClass, IsLeastOfClass};
 
 use crate::asked::Asked;
 use crate::place::{Place, class_of, least_between, place_of};
@@ -15,30 +15,30 @@ use std::marker::Model;
 
 /// The locks, and which classes of lengths they have had so far.
 #[derive(Drop)]
-pub(crate) struct Index {
+pub(crate) struct LockIndex {
     ids: BTreeMap<u64, Lock>,
     places: BTreeMap<Place, Lock>,
     used: [bool; 65],
 }
 
-impl Model for Index {
+impl Model for LockIndex {
     ghost use Rattle.std.specs.Prelude.{List};
     ghost use Rattle.std.specs.Map.{values_of};
     ghost use Rattle.cc_entry.specs.declared.lock.Lock.{Lock};
-    ghost use Rattle.cc_locks.specs.Place.{IsIndexed};
+    ghost use Rattle.cc_locks.specs.Place.{LocksAreIndexed};
 
     ghost Value = { List Lock };
 
     ghost view = { λ index. values_of index.ids.entries };
 
-    ghost invariant = { λ index. IsIndexed index.ids.entries index.places.entries index.used };
+    ghost invariant = { λ index. LocksAreIndexed index.ids.entries index.places.entries index.used };
 }
 
-impl Index {
-    pub(crate) fn new(alloc: Global) -> Index
+impl LockIndex {
+    pub(crate) fn new(alloc: Global) -> LockIndex
         ensures { result ≡ [] }
     {
-        Index {
+        LockIndex {
             ids: BTreeMap::new(alloc),
             places: BTreeMap::new(alloc),
             used: [false; 65],
@@ -81,7 +81,7 @@ impl Index {
 
     /// The least id of a lock that conflicts.
     pub(crate) fn least(&self, asked: &Asked) -> Option<u64>
-        ensures { result ≡ least_id (conflicts asked.now) self.now }
+        ensures { result ≡ least_lock_id (conflicts asked.now) self.now }
     {
         let mut found = None;
         let mut reach = 0u64;
@@ -96,7 +96,7 @@ impl Index {
     // before it, so only those are looked at that begin so.
     fn least_of_class(&self, class: u8, reach: u64, asked: &Asked) -> Option<u64>
         requires within { class ≤ 64 }
-        requires covers { Covers class reach }
+        requires covers { CoversClass class reach }
         ensures { IsLeastOfClass asked.now self.now class result }
     {
         let used = self.used[class as usize];
@@ -111,7 +111,7 @@ impl Index {
 
 // The lesser of two ids, either of which may be missing.
 fn lesser(a: Option<u64>, b: Option<u64>) -> Option<u64>
-    ensures { result ≡ lesser a b }
+    ensures { result ≡ lesser_id a b }
 {
     match (a, b) {
         (None, id) => id,

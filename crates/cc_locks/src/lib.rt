@@ -10,7 +10,6 @@
 mod asked;
 mod index;
 mod locks;
-mod past;
 mod place;
 
 pub use locks::Locks;

@@ -5,9 +5,9 @@ ghost use Rattle.cc_entry.specs.Locks.{no_locks, unlock_answer, read_conflict, w
 ghost use Rattle.cc_locks.specs.Locks.{IsReplayed, Grants, Refuses, unlocked};
 
 use crate::asked::Asked;
-use crate::index::Index;
-use crate::past::Past;
+use crate::index::LockIndex;
 use cc_entry::{CcError, FileId, Lock, LockCall, Span, StreamId};
+use cc_traits::PastItems;
 use std::alloc::Global;
 use std::marker::Model;
 
@@ -16,18 +16,18 @@ use std::marker::Model;
 pub struct Locks {
     stream: StreamId,
     granted: u64,
-    index: Index,
-    past: Past<LockCall>,
+    index: LockIndex,
+    past: PastItems<LockCall>,
 }
 
 impl Model for Locks {
-    ghost use Rattle.cc_locks.specs.Locks.{Held, held, IsReplayed};
+    ghost use Rattle.cc_locks.specs.Locks.{HeldLocks, held_locks, IsReplayed};
 
-    ghost Value = { Held };
+    ghost Value = { HeldLocks };
 
-    ghost view = { λ locks. held locks.stream locks.granted locks.index locks.past.noted };
+    ghost view = { λ locks. held_locks locks.stream locks.granted locks.index locks.past.noted };
 
-    ghost invariant = { λ locks. IsReplayed (held locks.stream locks.granted locks.index locks.past.noted) };
+    ghost invariant = { λ locks. IsReplayed (held_locks locks.stream locks.granted locks.index locks.past.noted) };
 }
 
 impl Locks {
@@ -40,8 +40,8 @@ impl Locks {
         Locks {
             stream,
             granted: 0,
-            index: Index::new(alloc),
-            past: Past::new(),
+            index: LockIndex::new(alloc),
+            past: PastItems::new(),
         }
     }
 
@@ -61,7 +61,7 @@ impl Locks {
         ensures refused { IfErr result (Refuses self.old self.new file span exclusive) }
     {
         if let Some(id) = self.index.least(&Asked::Lock(span, exclusive)) {
-            self.past = self.past.and(&lock_call(file, span, exclusive, false, id));
+            self.past.grow(&lock_call(file, span, exclusive, false, id));
             return Err(CcError::LockConflict { id });
         }
         let Some(id) = self.granted.checked_add(1) else {
@@ -77,7 +77,7 @@ impl Locks {
             return Err(CcError::NoMemory);
         }
         self.granted = id;
-        self.past = self.past.and(&lock_call(file, span, exclusive, true, id));
+        self.past.grow(&lock_call(file, span, exclusive, true, id));
         Ok(id)
     }
 
@@ -89,7 +89,7 @@ impl Locks {
         ensures rest { OnOk result (self.new ≡ unlocked self.old file id) }
     {
         let gone = self.index.remove(file, id);
-        self.past = self.past.and(&LockCall::Unlock { file, id, gone });
+        self.past.grow(&LockCall::Unlock { file, id, gone });
         Ok(gone)
     }
 

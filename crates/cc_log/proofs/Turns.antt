@@ -4,16 +4,16 @@ use Rattle.cc_entry.specs.declared.error.CcError.{CcError}
 use Rattle.std.specs.List.{cons_option}
 use Rattle.cc_entry.specs.declared.entry.Entry.{Entry}
 use Rattle.cc_entry.specs.declared.entry.Entry.TheVariants as entry
-use Rattle.cc_traits.specs.Log.{Log, LogEntry, Appended, Kept, Flushed}
+use Rattle.cc_traits.specs.Log.{Log, LogEntry, Appended, LogKept, Flushed}
 use Rattle.cc_traits.specs.Told.{Both}
 use Rattle.cc_model.specs.Logs.{flushed_to, floor_of}
 use Rattle.cc_traits.specs.Stop.{OnFailed, OnNoMemory}
 use Rattle.cc_traits.specs.declared.stop.Stop.{Stop}
 use Rattle.cc_traits.specs.declared.stop.Stop.TheVariants as stop
-use Rattle.cc_log.specs.Turn.{LogState, appended, Holds, Stands, left_by, refusal_of}
+use Rattle.cc_log.specs.Turn.{LogTurnState, appended, HoldsLogEntries, Stands, entry_left_by, refusal_of}
 
 -- a file that nothing was done to
-opened-holds : (handle : ℕ) (file : Option Log) → Both file file (Holds (appended [] handle) 0)
+opened-holds : (handle : ℕ) (file : Option Log) → Both file file (HoldsLogEntries (appended [] handle) 0)
 unfolding appended
 opened-holds handle None = tt
 opened-holds handle (Some log) = record { entries_are = sym (append-nil log.entries); durable = omega arith }
@@ -26,7 +26,7 @@ unfolding floor_of flushed_to
 Stands-opened told handle file = record { floor_is = refl; flushed_is = refl; file_is = opened-holds handle (told file) }
 
 -- a file that took one entry more
-took-entry : (past : List Entry) (pass handle lsn flushed : ℕ) (bytes : List ℕ) (begun old new : Option Log) → Both begun old (Holds (appended past handle) flushed) → Both old new (Appended lsn bytes) → Both begun new (Holds (appended (entry.Append pass handle lsn bytes ∷ past) handle) flushed)
+took-entry : (past : List Entry) (pass handle lsn flushed : ℕ) (bytes : List ℕ) (begun old new : Option Log) → Both begun old (HoldsLogEntries (appended past handle) flushed) → Both old new (Appended lsn bytes) → Both begun new (HoldsLogEntries (appended (entry.Append pass handle lsn bytes ∷ past) handle) flushed)
 unfolding appended
 took-entry past pass handle lsn flushed bytes None None None first second = tt
 took-entry past pass handle lsn flushed bytes None None (Some c) first second = absurd second
@@ -40,7 +40,7 @@ took-entry past pass handle lsn flushed bytes (Some a) (Some b) (Some c) first s
     })
 
 -- a file whose entries stayed
-kept-entries : (entries : List LogEntry) (flushed : ℕ) (begun old new : Option Log) → Both begun old (Holds entries flushed) → Both old new Kept → Both begun new (Holds entries flushed)
+kept-entries : (entries : List LogEntry) (flushed : ℕ) (begun old new : Option Log) → Both begun old (HoldsLogEntries entries flushed) → Both old new LogKept → Both begun new (HoldsLogEntries entries flushed)
 kept-entries entries flushed None None None first second = tt
 kept-entries entries flushed None None (Some c) first second = absurd second
 kept-entries entries flushed None (Some b) c first second = absurd first
@@ -50,7 +50,7 @@ kept-entries entries flushed (Some a) (Some b) (Some c) first second =
     record { entries_are = second.entries ∙ first.entries_are; durable = omega (arith, first.durable, second.durable) }
 
 -- and one that is durable up to an LSN too
-flushed-entries : (entries : List LogEntry) (flushed to : ℕ) (begun old new : Option Log) → Both begun old (Holds entries flushed) → Both old new (Flushed to) → Both begun new (Holds entries (max flushed to))
+flushed-entries : (entries : List LogEntry) (flushed to : ℕ) (begun old new : Option Log) → Both begun old (HoldsLogEntries entries flushed) → Both old new (Flushed to) → Both begun new (HoldsLogEntries entries (max flushed to))
 flushed-entries entries flushed to None None None first second = tt
 flushed-entries entries flushed to None None (Some c) first second = absurd second
 flushed-entries entries flushed to None (Some b) c first second = absurd first
@@ -60,7 +60,7 @@ flushed-entries entries flushed to (Some a) (Some b) (Some c) first second =
     record { entries_are = second.entries ∙ first.entries_are; durable = omega (arith, first.durable, second.durable, second.reached) }
 
 -- after an append, a failure and a flush
-pub Stands-appended : {L : Type 0} (told : L → Option Log) (begun : Option Log) (past : List Entry) (pass lsn : ℕ) (bytes : List ℕ) (log : LogState L) (file : L) → Stands told begun past log → lsn ≡ log.floor + 1 → Both (told log.file) (told file) (Appended lsn bytes) → Stands told begun (entry.Append pass log.handle lsn bytes ∷ past) (record log { floor = lsn; file = file })
+pub Stands-appended : {L : Type 0} (told : L → Option Log) (begun : Option Log) (past : List Entry) (pass lsn : ℕ) (bytes : List ℕ) (log : LogTurnState L) (file : L) → Stands told begun past log → lsn ≡ log.floor + 1 → Both (told log.file) (told file) (Appended lsn bytes) → Stands told begun (entry.Append pass log.handle lsn bytes ∷ past) (record log { floor = lsn; file = file })
 unfolding floor_of flushed_to
 Stands-appended told begun past pass lsn bytes log file stood next took =
     let floor_is : log.floor ≡ floor_of past log.handle = stood.floor_is in
@@ -71,7 +71,7 @@ Stands-appended told begun past pass lsn bytes log file stood next took =
       file_is = took-entry past pass log.handle lsn log.flushed bytes begun (told log.file) (told file) stood.file_is took;
     }
 
-pub Stands-failed : {L : Type 0} (told : L → Option Log) (begun : Option Log) (past : List Entry) (pass : ℕ) (log : LogState L) (file : L) → Stands told begun past log → Both (told log.file) (told file) Kept → Stands told begun (entry.LogFailed pass log.handle ∷ past) (record log { file = file })
+pub Stands-failed : {L : Type 0} (told : L → Option Log) (begun : Option Log) (past : List Entry) (pass : ℕ) (log : LogTurnState L) (file : L) → Stands told begun past log → Both (told log.file) (told file) LogKept → Stands told begun (entry.LogFailed pass log.handle ∷ past) (record log { file = file })
 unfolding floor_of flushed_to appended
 Stands-failed told begun past pass log file stood kept =
     let floor_is : log.floor ≡ floor_of past log.handle = stood.floor_is in
@@ -82,7 +82,7 @@ Stands-failed told begun past pass log file stood kept =
       file_is = kept-entries (appended past log.handle) log.flushed begun (told log.file) (told file) stood.file_is kept;
     }
 
-pub Stands-flushed : {L : Type 0} (told : L → Option Log) (begun : Option Log) (past : List Entry) (pass to : ℕ) (log : LogState L) (file : L) → Stands told begun past log → Both (told log.file) (told file) (Flushed to) → Stands told begun (entry.Flushed pass log.handle to ∷ past) (record log { floor = max log.floor to; flushed = max log.flushed to; file = file })
+pub Stands-flushed : {L : Type 0} (told : L → Option Log) (begun : Option Log) (past : List Entry) (pass to : ℕ) (log : LogTurnState L) (file : L) → Stands told begun past log → Both (told log.file) (told file) (Flushed to) → Stands told begun (entry.Flushed pass log.handle to ∷ past) (record log { floor = max log.floor to; flushed = max log.flushed to; file = file })
 unfolding floor_of flushed_to appended
 Stands-flushed told begun past pass to log file stood reached =
     let floor_is : log.floor ≡ floor_of past log.handle = stood.floor_is in
@@ -94,11 +94,11 @@ Stands-flushed told begun past pass to log file stood reached =
     }
 
 -- what a call leaves whose file stopped: its failure, or nothing
-stopped-so : {L T : Type 0} (done : T → Entry) (told : L → Option Log) (begun : Option Log) (past : List Entry) (pass : ℕ) (log : LogState L) (file : L) (its_stop : Stop) → Stands told begun past log → OnFailed {T = Unit {0}} (Err its_stop) (Both (told log.file) (told file) Kept) → OnNoMemory {T = Unit {0}} (Err its_stop) (told file ≡ told log.file) → Stands told begun (cons_option (left_by done pass log.handle (Err (refusal_of log.handle its_stop))) past) (record log { file = file })
+stopped-so : {L T : Type 0} (done : T → Entry) (told : L → Option Log) (begun : Option Log) (past : List Entry) (pass : ℕ) (log : LogTurnState L) (file : L) (its_stop : Stop) → Stands told begun past log → OnFailed {T = Unit {0}} (Err its_stop) (Both (told log.file) (told file) LogKept) → OnNoMemory {T = Unit {0}} (Err its_stop) (told file ≡ told log.file) → Stands told begun (cons_option (entry_left_by done pass log.handle (Err (refusal_of log.handle its_stop))) past) (record log { file = file })
 stopped-so done told begun past pass log file stop.Failed stood failed same = Stands-failed told begun past pass log file stood failed
 stopped-so done told begun past pass log file stop.NoMemory stood failed same =
     record { floor_is = stood.floor_is; flushed_is = stood.flushed_is; file_is = rw same stood.file_is }
 
-pub Stands-stopped : {L T : Type 0} (done : T → Entry) (told : L → Option Log) (begun : Option Log) (past : List Entry) (pass : ℕ) (log : LogState L) (file : L) (its_stop : Stop) (e : CcError) → e ≡ refusal_of log.handle its_stop → Stands told begun past log → OnFailed {T = Unit {0}} (Err its_stop) (Both (told log.file) (told file) Kept) → OnNoMemory {T = Unit {0}} (Err its_stop) (told file ≡ told log.file) → Stands told begun (cons_option (left_by done pass log.handle (Err e)) past) (record log { file = file })
+pub Stands-stopped : {L T : Type 0} (done : T → Entry) (told : L → Option Log) (begun : Option Log) (past : List Entry) (pass : ℕ) (log : LogTurnState L) (file : L) (its_stop : Stop) (e : CcError) → e ≡ refusal_of log.handle its_stop → Stands told begun past log → OnFailed {T = Unit {0}} (Err its_stop) (Both (told log.file) (told file) LogKept) → OnNoMemory {T = Unit {0}} (Err its_stop) (told file ≡ told log.file) → Stands told begun (cons_option (entry_left_by done pass log.handle (Err e)) past) (record log { file = file })
 Stands-stopped done told begun past pass log file its_stop e is stood failed same =
-    subst (λ (error : CcError). Stands told begun (cons_option (left_by done pass log.handle (Err error)) past) (record log { file = file })) (sym is) (stopped-so done told begun past pass log file its_stop stood failed same)
+    subst (λ (error : CcError). Stands told begun (cons_option (entry_left_by done pass log.handle (Err error)) past) (record log { file = file })) (sym is) (stopped-so done told begun past pass log file its_stop stood failed same)

@@ -13,7 +13,7 @@ use Rattle.cc_model.specs.Logs.{flushed_to, floor_of}
 
 -- a log as contracts see it: its handle, the greatest LSN that was appended or flushed to, the greatest
 -- that was flushed to, and its file
-pub record LogState (L : Type 0) : Type 0 where
+pub record LogTurnState (L : Type 0) : Type 0 where
   pub handle : ℕ
   pub floor : ℕ
   pub flushed : ℕ
@@ -27,35 +27,35 @@ appended (entry.Append pass handle lsn bytes ∷ past) log =
 appended (other ∷ past) log = appended past log
 
 -- a log's file holds the entries that it began with and then these, and is durable up to an LSN
-pub record Holds (entries : List LogEntry) (lsn : ℕ) (begun now : Log) : Type 0 where
+pub record HoldsLogEntries (entries : List LogEntry) (lsn : ℕ) (begun now : Log) : Type 0 where
   pub entries_are : now.entries ≡ begun.entries ++ entries
   pub durable : lsn ≤ now.durable
 
 -- A log stands for a past: floor and flushed are what the past says, and its file, which began as this,
 -- has the past's appends behind its first entries, durable up to what was flushed.
-pub record Stands {L : Type 0} (told : L → Option Log) (begun : Option Log) (past : List Entry) (log : LogState L) : Type 0 where
+pub record Stands {L : Type 0} (told : L → Option Log) (begun : Option Log) (past : List Entry) (log : LogTurnState L) : Type 0 where
   pub floor_is : log.floor ≡ floor_of past log.handle
   pub flushed_is : log.flushed ≡ flushed_to past log.handle
-  pub file_is : Both begun (told log.file) (Holds (appended past log.handle) log.flushed)
+  pub file_is : Both begun (told log.file) (HoldsLogEntries (appended past log.handle) log.flushed)
 
 -- the entry that a call on a log leaves, where it leaves one: its failure, or its own where it was done
-abbrev pub left_by : {T : Type 0} → (T → Entry) → ℕ → ℕ → Result T CcError → Option Entry
-left_by done pass handle (Ok value) = Some (done value)
-left_by done pass handle (Err (error.LogFault failed)) = Some (entry.LogFailed pass handle)
-left_by done pass handle (Err other) = None
+abbrev pub entry_left_by : {T : Type 0} → (T → Entry) → ℕ → ℕ → Result T CcError → Option Entry
+entry_left_by done pass handle (Ok value) = Some (done value)
+entry_left_by done pass handle (Err (error.LogFault failed)) = Some (entry.LogFailed pass handle)
+entry_left_by done pass handle (Err other) = None
 
 -- the past after an append, and after a flush, by a pass
 abbrev pub past_appended : ℕ → ℕ → List ℕ → Result ℕ CcError → List Entry → List Entry
-past_appended pass handle bytes result past = cons_option (left_by (λ lsn. entry.Append pass handle lsn bytes) pass handle result) past
+past_appended pass handle bytes result past = cons_option (entry_left_by (λ lsn. entry.Append pass handle lsn bytes) pass handle result) past
 
 abbrev pub past_flushed : ℕ → ℕ → ℕ → Result (Unit {0}) CcError → List Entry → List Entry
-past_flushed pass handle to result past = cons_option (left_by (λ done. entry.Flushed pass handle to) pass handle result) past
+past_flushed pass handle to result past = cons_option (entry_left_by (λ done. entry.Flushed pass handle to) pass handle result) past
 
 -- by how much a call raises the log's count of faults: by one exactly where it answers LogFault
-abbrev pub faults_by : {T : Type 0} → Result T CcError → ℕ
-faults_by (Ok value) = 0
-faults_by (Err (error.LogFault failed)) = 1
-faults_by (Err other) = 0
+abbrev pub log_faults_by : {T : Type 0} → Result T CcError → ℕ
+log_faults_by (Ok value) = 0
+log_faults_by (Err (error.LogFault failed)) = 1
+log_faults_by (Err other) = 0
 
 -- what a call answers whose file stopped
 abbrev pub refusal_of : ℕ → Stop → CcError

@@ -4,7 +4,7 @@ ghost use Rattle.std.specs.Prelude.{◌≡◌, ◌↔◌, ℕ, ◌+◌, ◌-◌,
 ghost use Rattle.cc_entry.specs.declared.error.CcError.TheVariants as error;
 ghost use Rattle.cc_entry.specs.declared.entry.Entry.{Entry};
 ghost use Rattle.cc_traits.specs.Log.{Log};
-ghost use Rattle.cc_log.specs.Turn.{LogState, Stands, past_appended, past_flushed, faults_by, refusal_of, IsAppendError, IsFlushError};
+ghost use Rattle.cc_log.specs.Turn.{LogTurnState, Stands, past_appended, past_flushed, log_faults_by, refusal_of, IsAppendError, IsFlushError};
 
 use cc_entry::{CcError, Lsn};
 use cc_traits::{LogFile, Stop};
@@ -21,9 +21,9 @@ pub struct LogTurn<L = Box<dyn LogFile + Send>> {
 
 impl<L> Model for LogTurn<L> {
     ghost use Rattle.std.specs.Prelude.{◌≤◌, ◌^◌};
-    ghost use Rattle.cc_log.specs.Turn.{LogState};
+    ghost use Rattle.cc_log.specs.Turn.{LogTurnState};
 
-    ghost Value = { LogState L };
+    ghost Value = { LogTurnState L };
 
     ghost view = { λ t. record { handle = t.handle; floor = t.floor; flushed = t.flushed; file = t.file } };
 
@@ -67,7 +67,7 @@ impl<L: LogFile> LogTurn<L> {
         ensures full { IsErrOf result (error.LogFull self.old.handle) ↔ (self.old.floor ≡ 2 ^ 62) }
         ensures within { self.old.floor ≤ 2 ^ 62 }
         ensures causes { IfErr result (λ e. IsAppendError self.old.handle e) }
-        ensures counted { L.faults self.new.file ≡ L.faults self.old.file + faults_by result }
+        ensures counted { L.faults self.new.file ≡ L.faults self.old.file + log_faults_by result }
         ensures handle { self.new.handle ≡ self.old.handle }
         ensures stands { (begun : Option Log) (past : List Entry) (pass : ℕ) → Stands L.told begun past self.old →
             Stands L.told begun (past_appended pass self.old.handle bytes.now result past) self.new }
@@ -93,7 +93,7 @@ impl<L: LogFile> LogTurn<L> {
     pub fn flush(&mut self, to: Lsn) -> Result<(), CcError>
         ensures causes { IfErr result (λ e. IsFlushError self.old.handle e) }
         ensures full { IsErrOf result error.NoMemory → L.faults self.old.file ≡ 2 ^ 64 - 1 }
-        ensures counted { L.faults self.new.file ≡ L.faults self.old.file + faults_by result }
+        ensures counted { L.faults self.new.file ≡ L.faults self.old.file + log_faults_by result }
         ensures handle { self.new.handle ≡ self.old.handle }
         ensures stands { (begun : Option Log) (past : List Entry) (pass : ℕ) → Stands L.told begun past self.old →
             Stands L.told begun (past_flushed pass self.old.handle to result past) self.new }

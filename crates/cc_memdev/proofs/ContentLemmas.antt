@@ -15,7 +15,7 @@ use Rattle.std.proofs.lemmas.List.{append-nil, at_drop_more, at_drop_all}
 use Rattle.std.proofs.lemmas.Bool.{eqb-true, eq-eqb}
 use Rattle.cc_traits.specs.Disk.{Disk, blank_page, last_content, contents, or_alone, page_of, may_of, Settled}
 use Rattle.cc_traits.proofs.DiskLemmas.{last_content-append, contents-append, Wrote-by_contents, WriteFailed-by_contents, Settled-by_contents}
-use Rattle.cc_memdev.specs.Content.{PageContents, recorded, settled_page, holds_of, may_list, disk_over, Records}
+use Rattle.cc_memdev.specs.Content.{PageContents, recorded, settled_page, held_contents, may_list, disk_over, Records}
 
 abbrev pub Pages : Type 0
 Pages = List (ℕ × PageContents)
@@ -56,8 +56,8 @@ absent_later entry rest page ascend e =
 later : (entry : ℕ × PageContents) (rest : Pages) → Ascend (entry ∷ rest) → Ascend rest
 later entry rest ascend = sorted_tail nat_cmp entry.0 (keys_of rest) ascend
 
-pub last_content-written : (pages : Pages) (page : ℕ) (bytes : List ℕ) → Ascend pages → last_content (holds_of pages) page bytes ≡ held_or (written_at page pages) bytes
-unfolding last_content holds_of
+pub last_content-written : (pages : Pages) (page : ℕ) (bytes : List ℕ) → Ascend pages → last_content (held_contents pages) page bytes ≡ held_or (written_at page pages) bytes
+unfolding last_content held_contents
 last_content-written [] page bytes ascend = refl
 last_content-written (entry ∷ rest) page bytes ascend =
     last_content-written rest page _ (later entry rest ascend) ∙ at_test (is_at (nat_cmp page) entry.0) (entry.0 == page) refl (same_test entry.0 page)
@@ -98,7 +98,7 @@ contents-written (entry ∷ rest) page ascend =
 pub page_of-disk_over : (fill : ℕ) (opening : List (ℕ × List ℕ)) (pages : Pages) (page : ℕ) → Ascend pages → page_of (disk_over fill opening pages) page ≡ held_or (written_at page pages) (last_content opening page (blank_page fill))
 unfolding page_of
 page_of-disk_over fill opening pages page ascend =
-    last_content-append opening (holds_of pages) page (blank_page fill) ∙ last_content-written pages page _ ascend
+    last_content-append opening (held_contents pages) page (blank_page fill) ∙ last_content-written pages page _ ascend
 
 pub may_of-disk_over : (fill : ℕ) (opening : List (ℕ × List ℕ)) (pages : Pages) (page : ℕ) → Ascend pages → may_of (disk_over fill opening pages) page ≡ or_alone (listed_in (written_at page pages)) (page_of (disk_over fill opening pages) page)
 unfolding may_of
@@ -106,7 +106,7 @@ may_of-disk_over fill opening pages page ascend =
     ap (λ c. or_alone c (page_of (disk_over fill opening pages) page)) (contents-written pages page ascend)
 
 pub disk_over-empty : (fill : ℕ) (opening : List (ℕ × List ℕ)) (pages : Pages) → pages ≡ [] → disk_over fill opening pages ≡ record { fill = fill; holds = opening; may = [] }
-unfolding holds_of may_list
+unfolding held_contents may_list
 disk_over-empty fill opening pages e =
     ap (disk_over fill opening) e ∙ ap (λ (holds : List (ℕ × List ℕ)). let disk : Disk = record { fill = fill; holds = holds; may = [] } in disk) (append-nil opening)
 

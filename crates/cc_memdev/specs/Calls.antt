@@ -21,16 +21,16 @@ one_more made = min (made + 1) (2 ^ 64 - 1)
 abbrev pub is_listed : CallPlan → Bool
 is_listed plan = list_any (λ n. n == one_more plan.made) plan.fails
 
-abbrev pub after_call : CallPlan → CallPlan
-after_call plan = record { fails = plan.fails; made = one_more plan.made }
+abbrev pub plan_after_call : CallPlan → CallPlan
+plan_after_call plan = record { fails = plan.fails; made = one_more plan.made }
 
 -- whether the next call comes after the stop
-abbrev pub is_past : Option ℕ → ℕ → Bool
-is_past None made = false
-is_past (Some k) made = nat_lt k made
+abbrev pub is_past_stop : Option ℕ → ℕ → Bool
+is_past_stop None made = false
+is_past_stop (Some k) made = nat_lt k made
 
 abbrev pub is_stopped : StopPlan → Bool
-is_stopped plan = is_past plan.after (one_more plan.made)
+is_stopped plan = is_past_stop plan.after (one_more plan.made)
 
 abbrev pub after_any_call : StopPlan → StopPlan
 after_any_call plan = record { after = plan.after; made = one_more plan.made }

@@ -21,9 +21,9 @@ abbrev pub settled_page : PageContents → PageContents
 settled_page page = record { held = page.held; may = [] }
 
 -- what the pages that were written hold, and what a crash now can leave of them
-unfoldable pub holds_of : List (ℕ × PageContents) → List (ℕ × List ℕ)
-holds_of [] = []
-holds_of (entry ∷ rest) = (entry.0, entry.1.held) ∷ holds_of rest
+unfoldable pub held_contents : List (ℕ × PageContents) → List (ℕ × List ℕ)
+held_contents [] = []
+held_contents (entry ∷ rest) = (entry.0, entry.1.held) ∷ held_contents rest
 
 unfoldable pub may_list : List (ℕ × PageContents) → List (ℕ × List ℕ)
 may_list [] = []
@@ -33,7 +33,7 @@ may_list (entry ∷ rest) = map (λ bytes. (entry.0, bytes)) entry.1.may ++ may_
 abbrev pub disk_over : ℕ → List (ℕ × List ℕ) → List (ℕ × PageContents) → Disk
 disk_over fill opening written = record {
   fill = fill;
-  holds = opening ++ holds_of written;
+  holds = opening ++ held_contents written;
   may = may_list written;
 }
 

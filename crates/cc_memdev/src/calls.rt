@@ -1,34 +1,34 @@
 //! Which calls on a device are to fail: those that are listed, and those after a stop.
 
 ghost use Rattle.std.specs.Prelude.{◌≡◌, ◌++◌, [], Some, None};
-ghost use Rattle.cc_memdev.specs.Calls.{CallPlan, StopPlan, is_listed, after_call, is_stopped, after_any_call};
+ghost use Rattle.cc_memdev.specs.Calls.{CallPlan, StopPlan, is_listed, plan_after_call, is_stopped, after_any_call};
 
 use std::marker::Model;
 
 /// The calls of one kind on a device, counted from 1, and the numbers of those that are to fail.
 #[derive(Drop)]
-pub(crate) struct Calls {
+pub(crate) struct DeviceCalls {
     fails: Vec<u64>,
     made: u64,
 }
 
-impl Model for Calls {
+impl Model for DeviceCalls {
     ghost Value = { CallPlan };
 
     ghost view = { λ calls. record { fails = calls.fails.items; made = calls.made } };
 }
 
-impl Calls {
-    pub(crate) fn new(fails: Vec<u64>) -> Calls
+impl DeviceCalls {
+    pub(crate) fn new(fails: Vec<u64>) -> DeviceCalls
         ensures { result ≡ record { fails = fails.items; made = 0 } }
     {
-        Calls { fails, made: 0 }
+        DeviceCalls { fails, made: 0 }
     }
 
     /// Counts the next call, and answers whether it is to fail.
     pub(crate) fn is_next_listed(&mut self) -> bool
         ensures listed { result ≡ is_listed self.old }
-        ensures counted { self.new ≡ after_call self.old }
+        ensures counted { self.new ≡ plan_after_call self.old }
     {
         self.made = self.made.saturating_add(1);
         self.fails.contains(&self.made)

@@ -3,11 +3,11 @@
 ghost use Rattle.std.specs.Prelude.{◌≡◌, ◌+◌, ◌-◌, ◌^◌, ◌↔◌, true, false, [], Some, None, IsOk, IfOk, OnOk, OnErr};
 ghost use Rattle.cc_traits.specs.Stop.{faults_in, OnFailed, OnNoMemory};
 ghost use Rattle.cc_traits.specs.Disk.{Found, page_of, may_of, Wrote, Settled};
-ghost use Rattle.cc_memdev.specs.Calls.{after_call, after_any_call, fails_next};
+ghost use Rattle.cc_memdev.specs.Calls.{plan_after_call, after_any_call, fails_next};
 ghost use Rattle.cc_memdev.specs.Content.{WriteFailedInPlace};
 ghost use Rattle.cc_memdev.specs.Devices.{DiskState};
 
-use crate::calls::{AllCalls, Calls};
+use crate::calls::{AllCalls, DeviceCalls};
 use crate::content::Content;
 use cc_traits::{Faults, PageDisk, Stop, Told};
 use std::alloc::{AllocError, Global};
@@ -25,9 +25,9 @@ pub struct DiskFails {
 #[derive(Drop)]
 pub struct MemDisk {
     content: Content,
-    reads: Calls,
-    writes: Calls,
-    syncs: Calls,
+    reads: DeviceCalls,
+    writes: DeviceCalls,
+    syncs: DeviceCalls,
     all: AllCalls,
     faults: Faults,
 }
@@ -82,9 +82,9 @@ impl MemDisk {
     {
         MemDisk {
             content: Content::new(alloc, fill, pages),
-            reads: Calls::new(fails.reads),
-            writes: Calls::new(fails.writes),
-            syncs: Calls::new(fails.syncs),
+            reads: DeviceCalls::new(fails.reads),
+            writes: DeviceCalls::new(fails.writes),
+            syncs: DeviceCalls::new(fails.syncs),
             all: AllCalls::new(),
             faults: Faults::new(),
         }
@@ -123,7 +123,7 @@ impl PageDisk for MemDisk {
     fn read_page(&mut self, page: u64, out: &mut [u8; 4096]) -> Result<(), Stop>
         ensures found { OnOk result (Found page out.new self.old.disk) }
         ensures state { self.new ≡ record self.old {
-          reads = after_call self.old.reads;
+          reads = plan_after_call self.old.reads;
           stop = after_any_call self.old.stop;
           faults = self.old.faults + faults_in result;
         } }
@@ -145,7 +145,7 @@ impl PageDisk for MemDisk {
         ensures no_memory { OnNoMemory result (self.new.disk ≡ self.old.disk) }
         ensures state { self.new ≡ record self.old {
           disk = self.new.disk;
-          writes = after_call self.old.writes;
+          writes = plan_after_call self.old.writes;
           stop = after_any_call self.old.stop;
           faults = self.old.faults + faults_in result;
         } }
@@ -170,7 +170,7 @@ impl PageDisk for MemDisk {
         ensures err { OnErr result (self.new.disk ≡ self.old.disk) }
         ensures state { self.new ≡ record self.old {
           disk = self.new.disk;
-          syncs = after_call self.old.syncs;
+          syncs = plan_after_call self.old.syncs;
           stop = after_any_call self.old.stop;
           faults = self.old.faults + faults_in result;
         } }

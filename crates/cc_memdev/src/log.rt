@@ -2,11 +2,11 @@
 
 ghost use Rattle.std.specs.Prelude.{◌≡◌, ◌+◌, ◌-◌, ◌^◌, ◌↔◌, true, false, max, map, [], ◌∷◌, ◌++◌, Some, None, IfOk, IsOk, OnOk, OnErr};
 ghost use Rattle.cc_traits.specs.Stop.{faults_in, OnFailed, OnNoMemory};
-ghost use Rattle.cc_traits.specs.Log.{Holds};
-ghost use Rattle.cc_memdev.specs.Calls.{after_call, after_any_call, fails_next};
+ghost use Rattle.cc_traits.specs.Log.{HoldsEntry};
+ghost use Rattle.cc_memdev.specs.Calls.{plan_after_call, after_any_call, fails_next};
 ghost use Rattle.cc_memdev.specs.Devices.{LogState, entries_of, greatest_lsn};
 
-use crate::calls::{AllCalls, Calls};
+use crate::calls::{AllCalls, DeviceCalls};
 use cc_traits::{Faults, LogFile, Stop};
 use std::alloc::Global;
 use std::marker::Model;
@@ -26,9 +26,9 @@ pub struct MemLog {
     alloc: Global,
     entries: Vec<(u64, Vec<u8>)>,
     durable: u64,
-    appends: Calls,
-    flushes: Calls,
-    reads: Calls,
+    appends: DeviceCalls,
+    flushes: DeviceCalls,
+    reads: DeviceCalls,
     all: AllCalls,
     faults: Faults,
 }
@@ -86,9 +86,9 @@ impl MemLog {
             alloc,
             entries,
             durable,
-            appends: Calls::new(fails.appends),
-            flushes: Calls::new(fails.flushes),
-            reads: Calls::new(fails.reads),
+            appends: DeviceCalls::new(fails.appends),
+            flushes: DeviceCalls::new(fails.flushes),
+            reads: DeviceCalls::new(fails.reads),
             all: AllCalls::new(),
             faults: Faults::new(),
         }
@@ -136,7 +136,7 @@ impl LogFile for MemLog {
         ensures err { OnErr result (self.new.log ≡ self.old.log) }
         ensures state { self.new ≡ record self.old {
           log = self.new.log;
-          appends = after_call self.old.appends;
+          appends = plan_after_call self.old.appends;
           stop = after_any_call self.old.stop;
           faults = self.old.faults + faults_in result;
         } }
@@ -159,7 +159,7 @@ impl LogFile for MemLog {
         ensures err { OnErr result (self.new.log ≡ self.old.log) }
         ensures state { self.new ≡ record self.old {
           log = self.new.log;
-          flushes = after_call self.old.flushes;
+          flushes = plan_after_call self.old.flushes;
           stop = after_any_call self.old.stop;
           faults = self.old.faults + faults_in result;
         } }
@@ -176,9 +176,9 @@ impl LogFile for MemLog {
     }
 
     fn entry(&mut self, n: u64, out: &mut Vec<u8>) -> Result<Option<u64>, Stop>
-        ensures held { IfOk result (λ lsn. Holds n lsn out.new.items self.old.log) }
+        ensures held { IfOk result (λ lsn. HoldsEntry n lsn out.new.items self.old.log) }
         ensures state { self.new ≡ record self.old {
-          reads = after_call self.old.reads;
+          reads = plan_after_call self.old.reads;
           stop = after_any_call self.old.stop;
           faults = self.old.faults + faults_in result;
         } }

@@ -2,10 +2,10 @@
 
 ghost use Rattle.std.specs.Prelude.{◌≡◌, ◌+◌, ◌-◌, ◌^◌, ◌<◌, ◌≤◌, ◌↔◌, true, false, min, length, take, drop, vec_len, [], ◌++◌, Some, IsOk, IfOk, OnOk, OnErr};
 ghost use Rattle.cc_traits.specs.Stop.{faults_in, given_in, is_end, OnFailed, OnNoMemory};
-ghost use Rattle.cc_memdev.specs.Calls.{after_call, is_listed};
+ghost use Rattle.cc_memdev.specs.Calls.{plan_after_call, is_listed};
 ghost use Rattle.cc_memdev.specs.Devices.{SourceState, SinkState};
 
-use crate::calls::Calls;
+use crate::calls::DeviceCalls;
 use cc_traits::{Faults, Sink, Source, Stop, is_end};
 use std::alloc::Global;
 use std::marker::Model;
@@ -17,7 +17,7 @@ pub struct MemSource {
     at: usize,
     ended: bool,
     chunk: usize,
-    takes: Calls,
+    takes: DeviceCalls,
     faults: Faults,
 }
 
@@ -53,7 +53,7 @@ impl MemSource {
             at: 0,
             ended: false,
             chunk,
-            takes: Calls::new(fails),
+            takes: DeviceCalls::new(fails),
             faults: Faults::new(),
         }
     }
@@ -88,7 +88,7 @@ impl Source for MemSource {
           left = self.new.left;
           given = self.new.given;
           ended = self.new.ended;
-          takes = after_call self.old.takes;
+          takes = plan_after_call self.old.takes;
           faults = self.old.faults + faults_in result;
         } }
         ensures planned { IsOk result ↔ (is_listed self.old.takes ≡ false) }
@@ -111,7 +111,7 @@ impl Source for MemSource {
 #[derive(Drop)]
 pub struct MemSink {
     taken: Vec<u8>,
-    puts: Calls,
+    puts: DeviceCalls,
     faults: Faults,
 }
 
@@ -130,7 +130,7 @@ impl MemSink {
     {
         MemSink {
             taken: Vec::new(alloc),
-            puts: Calls::new(fails),
+            puts: DeviceCalls::new(fails),
             faults: Faults::new(),
         }
     }
@@ -164,7 +164,7 @@ impl Sink for MemSink {
         ensures err { OnErr result (self.new.taken ≡ self.old.taken) }
         ensures state { self.new ≡ record self.old {
           taken = self.new.taken;
-          puts = after_call self.old.puts;
+          puts = plan_after_call self.old.puts;
           faults = self.old.faults + faults_in result;
         } }
         ensures ok_unplanned { OnOk result (is_listed self.old.puts ≡ false) }

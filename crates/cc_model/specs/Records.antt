@@ -39,8 +39,8 @@ is_settled (other ∷ h) p = is_settled h p
 
 -- Whether a valid data length may be told on the disk: each page with a byte below it, at or past the valid data length of the
 -- first initialise, is settled.
-abbrev pub MayTell : List Effect → ℕ → Type 0
-MayTell h valid =
+abbrev pub MayTellValid : List Effect → ℕ → Type 0
+MayTellValid h valid =
     (p : ℕ) → first_valid h < valid → first_valid h < 4096 * p + 4096 → 4096 * p < valid → is_settled h p ≡ true
 
 -- a record of this size and valid data length may be written
@@ -48,7 +48,7 @@ pub record MayRecord (h : List Effect) (size valid : ℕ) : Type 0 where
   pub no_transfer : open_of h ≡ None
   pub its_size : size ≡ size_of h
   pub within : valid ≤ valid_of h
-  pub told : MayTell h valid
+  pub told : MayTellValid h valid
 
 -- n bytes of a number, the least first
 abbrev pub little_endian : ℕ → ℕ → List ℕ

@@ -22,6 +22,19 @@ first_of [] = None
 first_of (None ∷ rest) = first_of rest
 first_of (Some e ∷ rest) = Some e
 
+-- those in the arguments of a call, and in the sizes, maps and logs that it meets
+abbrev pub argument_reasons : Setup → List Effect → Call → List (Option CcError)
+argument_reasons u h call =
+    not_cached h (cached_file call (file_of call))
+    ∷ too_long call
+    ∷ view_boundary call
+    ∷ bad_sizes h call
+    ∷ bad_granularity call
+    ∷ no_log u call
+    ∷ beyond_size (size_of h) call
+    ∷ beyond_valid (valid_of h) call
+    ∷ []
+
 -- The refusal of a call, given the stream that it names, where there is one: the first reason that
 -- holds. Want of room in the journal, of memory, and faults are no reasons of this list.
 unfoldable pub refusal : Setup → List Entry → List Effect → Call → Option CcError

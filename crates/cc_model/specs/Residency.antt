@@ -57,8 +57,8 @@ abbrev pub block_is_mapped : List Effect → ℕ → Bool
 block_is_mapped h b = list_any (λ p. block_of p == b) (residents h)
 
 -- how many view blocks have one
-abbrev pub mapped_blocks : List Effect → ℕ
-mapped_blocks h = distinct_count nat_eq (map block_of (residents h))
+abbrev pub mapped_block_count : List Effect → ℕ
+mapped_block_count h = distinct_count nat_eq (map block_of (residents h))
 
 -- how many would have one with this page
 abbrev pub mapped_blocks_with : List Effect → ℕ → ℕ

@@ -6,7 +6,7 @@ use Rattle.std.specs.List.{list_any, flat_map, filter_map, range_with_len}
 use Rattle.std.specs.Option.{option_map}
 use Rattle.cc_entry.specs.declared.entry.Entry.{Entry}
 use Rattle.cc_entry.specs.Kinds.{is_pin}
-use Rattle.cc_entry.specs.Lsns.{joined, alone}
+use Rattle.cc_entry.specs.Lsns.{joined, lsn_alone}
 use Rattle.cc_entry.specs.declared.place.DirtyRow.{DirtyRow}
 use Rattle.cc_entry.specs.Pages.{has_page, pages_of}
 use Rattle.cc_model.specs.Numbers.{ascending}
@@ -19,7 +19,7 @@ use Rattle.cc_model.specs.Settings.{log_of}
 -- the least and the greatest LSN among touches, where one has an LSN
 abbrev pub lsns_among : List Touch → Option (ℕ × ℕ)
 lsns_among [] = None
-lsns_among (touch ∷ touches) = joined (alone touch.lsn) (lsns_among touches)
+lsns_among (touch ∷ touches) = joined (lsn_alone touch.lsn) (lsns_among touches)
 
 -- the least and the greatest LSN stamped on a page and not yet written
 abbrev pub lsns_of : List Effect → ℕ → Option (ℕ × ℕ)
@@ -47,8 +47,8 @@ abbrev pub owed_pages : List Hold → List ℕ
 owed_pages holds = ascending (flat_map (λ hold. if is_pin hold.kind then flat_map pages_of hold.owed else []) holds)
 
 -- a row of the dirty page table, for a page that has a stamp
-abbrev pub row_of : ℕ → List Effect → ℕ → Option DirtyRow
-row_of s h p =
+abbrev pub dirty_row_of : ℕ → List Effect → ℕ → Option DirtyRow
+dirty_row_of s h p =
     option_map (λ lsns. record { page = record { stream = s; page = p }; oldest = lsns.0; newest = lsns.1 }) (lsns_of h p)
 
 -- whether the log is the stream's
@@ -57,12 +57,12 @@ is_log log None = false
 is_log log (Some handle) = handle == log
 
 -- the table's rows of one stream
-abbrev pub rows_of : List Entry → ℕ → ℕ → List DirtyRow
-rows_of past log s =
+abbrev pub dirty_rows_of : List Entry → ℕ → ℕ → List DirtyRow
+dirty_rows_of past log s =
     let h = history past s in
-    if is_log log (log_of h) then filter_map (row_of s h) (dirty_pages h) else []
+    if is_log log (log_of h) then filter_map (dirty_row_of s h) (dirty_pages h) else []
 
 -- The dirty page table of a log (CcGetDirtyPages): a row for each dirty page with a stamp of a stream
 -- with this log, by stream and page.
 unfoldable pub dirty_table : List Entry → ℕ → List DirtyRow
-dirty_table past log = flat_map (rows_of past log) (range_with_len 0 16)
+dirty_table past log = flat_map (dirty_rows_of past log) (range_with_len 0 16)

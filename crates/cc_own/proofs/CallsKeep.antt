@@ -33,7 +33,7 @@ use Rattle.cc_effects.specs.Moments.{own, EachOwn}
 use Rattle.cc_effects.specs.Places.{MayPlace, Works}
 use Rattle.cc_effects.specs.Calls.{IsPlaced, IsUnplaced, CallLeft}
 use Rattle.cc_effects.proofs.FrontLaws.{placed-of}
-use Rattle.cc_own.specs.Own.{HasHold, names_it, hold_after, changes_it, changes_hold, new_hold, made_by}
+use Rattle.cc_own.specs.Own.{HasHold, names_it, hold_after, changes_it, changes_hold, hold_of_range, hold_of_done_call}
 use Rattle.cc_own.proofs.FoundHolds.{some-is, IsOpen, after-same}
 use Rattle.cc_own.proofs.OpenIds.{ids-apart, none-open}
 use Rattle.cc_own.proofs.OwnHolds.{served, served-range, done-changes, done-makes, own-keeps, all-keep, others-keep}
@@ -146,7 +146,7 @@ placed-changes u me s id hold after it r earlier old new p good is has =
         (own-keeps u me s id hold _ (earlier ++ old) at kept front)
 
 -- of the hold that it makes
-placed-makes : (u : Setup) (me s : ℕ) (hold : Hold) (it : Call) (r : Reply) (earlier old new : List Entry) (p : IsPlaced me it (outcome.Done r) earlier old new) → IsGoodSoFar u new → p.stream ≡ Some s → made_by (id_of r) me it (holds_of (history (earlier ++ old) s)) ≡ Some hold → HasHold me s (id_of r) hold new
+placed-makes : (u : Setup) (me s : ℕ) (hold : Hold) (it : Call) (r : Reply) (earlier old new : List Entry) (p : IsPlaced me it (outcome.Done r) earlier old new) → IsGoodSoFar u new → p.stream ≡ Some s → hold_of_done_call (id_of r) me it (holds_of (history (earlier ++ old) s)) ≡ Some hold → HasHold me s (id_of r) hold new
 placed-makes u me s hold it r earlier old new p good here makes =
     entry-on u me s (id_of r) hold it (outcome.Done r) earlier old new p good
     (subst (λ (o : Option ℕ). HasHold me s (id_of r) hold (entry.Call me p.nth o it (outcome.Done r) ∷ (earlier ++ old))) (sym here) (done-makes me s p.nth it r (earlier ++ old) hold makes))
@@ -216,38 +216,38 @@ filed-stream holds pass stream call.IsDirtyData file is filed = absurd (cc)
 filed-stream holds pass stream other file is filed = filed ∙ ap Some (ap (λ (f : File). f.stream) (some-is _ file is))
 
 -- the hold that a done call makes that names a file, whatever is open
-made-anyhow : (id pass : ℕ) (it : Call) (file : File) (holds : List Hold) → file_of it ≡ Some file → made_by id pass it holds ≡ made_by id pass it []
+made-anyhow : (id pass : ℕ) (it : Call) (file : File) (holds : List Hold) → file_of it ≡ Some file → hold_of_done_call id pass it holds ≡ hold_of_done_call id pass it []
 made-anyhow id pass (call.PreparePin named at len true exclusive) file holds is = refl
 made-anyhow id pass (call.PreparePin named at len false exclusive) file holds is = refl
 made-anyhow id pass (call.Repin named) file holds is = absurd (cc)
 made-anyhow id pass other file holds is = refl
 
-pub made-leaves : (u : Setup) (me : ℕ) (file : File) (hold : Hold) (it : Call) (r : Reply) (old new : List Entry) → CallLeft u me it (outcome.Done r) old new → IsGoodSoFar u new → file_of it ≡ Some file → made_by (id_of r) me it [] ≡ Some hold → HasHold me file.stream (id_of r) hold new
+pub made-leaves : (u : Setup) (me : ℕ) (file : File) (hold : Hold) (it : Call) (r : Reply) (old new : List Entry) → CallLeft u me it (outcome.Done r) old new → IsGoodSoFar u new → file_of it ≡ Some file → hold_of_done_call (id_of r) me it [] ≡ Some hold → HasHold me file.stream (id_of r) hold new
 made-leaves u me file hold it r old new left good is makes =
     placed-makes u me file.stream hold it r left.earlier old new left.placed good (filed-stream _ me left.placed.stream it file is left.placed.filed) (made-anyhow (id_of r) me it file _ is ∙ makes)
 
 -- each of them
-pub map-leaves : (u : Setup) (me n : ℕ) (file : File) (at len : ℕ) (old new : List Entry) → CallLeft u me (call.Map file at len) (outcome.Done (reply.Hold n)) old new → IsGoodSoFar u new → HasHold me file.stream n (new_hold n me file at len kind.Map false []) new
+pub map-leaves : (u : Setup) (me n : ℕ) (file : File) (at len : ℕ) (old new : List Entry) → CallLeft u me (call.Map file at len) (outcome.Done (reply.Hold n)) old new → IsGoodSoFar u new → HasHold me file.stream n (hold_of_range n me file at len kind.Map false []) new
 map-leaves u me n file at len old new left good = placed-makes u me file.stream _ (call.Map file at len) (reply.Hold n) left.earlier old new left.placed good left.placed.filed refl
 
-pub pin_read-leaves : (u : Setup) (me n : ℕ) (file : File) (at len : ℕ) (exclusive : Bool) (old new : List Entry) → CallLeft u me (call.PinRead file at len exclusive) (outcome.Done (reply.Hold n)) old new → IsGoodSoFar u new → HasHold me file.stream n (new_hold n me file at len kind.Pin exclusive []) new
+pub pin_read-leaves : (u : Setup) (me n : ℕ) (file : File) (at len : ℕ) (exclusive : Bool) (old new : List Entry) → CallLeft u me (call.PinRead file at len exclusive) (outcome.Done (reply.Hold n)) old new → IsGoodSoFar u new → HasHold me file.stream n (hold_of_range n me file at len kind.Pin exclusive []) new
 pin_read-leaves u me n file at len exclusive old new left good = placed-makes u me file.stream _ (call.PinRead file at len exclusive) (reply.Hold n) left.earlier old new left.placed good left.placed.filed refl
 
-pub prepare_zeroed-leaves : (u : Setup) (me n : ℕ) (file : File) (at len : ℕ) (exclusive : Bool) (old new : List Entry) → CallLeft u me (call.PreparePin file at len true exclusive) (outcome.Done (reply.Hold n)) old new → IsGoodSoFar u new → HasHold me file.stream n (new_hold n me file at len kind.Pin exclusive (record { from = at; to = at + len } ∷ [])) new
+pub prepare_zeroed-leaves : (u : Setup) (me n : ℕ) (file : File) (at len : ℕ) (exclusive : Bool) (old new : List Entry) → CallLeft u me (call.PreparePin file at len true exclusive) (outcome.Done (reply.Hold n)) old new → IsGoodSoFar u new → HasHold me file.stream n (hold_of_range n me file at len kind.Pin exclusive (record { from = at; to = at + len } ∷ [])) new
 prepare_zeroed-leaves u me n file at len exclusive old new left good = placed-makes u me file.stream _ (call.PreparePin file at len true exclusive) (reply.Hold n) left.earlier old new left.placed good left.placed.filed refl
 
-pub prepare-leaves : (u : Setup) (me n : ℕ) (file : File) (at len : ℕ) (exclusive : Bool) (old new : List Entry) → CallLeft u me (call.PreparePin file at len false exclusive) (outcome.Done (reply.Hold n)) old new → IsGoodSoFar u new → HasHold me file.stream n (new_hold n me file at len kind.Pin exclusive []) new
+pub prepare-leaves : (u : Setup) (me n : ℕ) (file : File) (at len : ℕ) (exclusive : Bool) (old new : List Entry) → CallLeft u me (call.PreparePin file at len false exclusive) (outcome.Done (reply.Hold n)) old new → IsGoodSoFar u new → HasHold me file.stream n (hold_of_range n me file at len kind.Pin exclusive []) new
 prepare-leaves u me n file at len exclusive old new left good = placed-makes u me file.stream _ (call.PreparePin file at len false exclusive) (reply.Hold n) left.earlier old new left.placed good left.placed.filed refl
 
-pub mdl_read-leaves : (u : Setup) (me n : ℕ) (file : File) (at len : ℕ) (old new : List Entry) → CallLeft u me (call.MdlRead file at len) (outcome.Done (reply.Hold n)) old new → IsGoodSoFar u new → HasHold me file.stream n (new_hold n me file at len kind.ReadChain false []) new
+pub mdl_read-leaves : (u : Setup) (me n : ℕ) (file : File) (at len : ℕ) (old new : List Entry) → CallLeft u me (call.MdlRead file at len) (outcome.Done (reply.Hold n)) old new → IsGoodSoFar u new → HasHold me file.stream n (hold_of_range n me file at len kind.ReadChain false []) new
 mdl_read-leaves u me n file at len old new left good = placed-makes u me file.stream _ (call.MdlRead file at len) (reply.Hold n) left.earlier old new left.placed good left.placed.filed refl
 
-pub mdl_write-leaves : (u : Setup) (me n : ℕ) (file : File) (at len : ℕ) (old new : List Entry) → CallLeft u me (call.MdlWrite file at len) (outcome.Done (reply.Hold n)) old new → IsGoodSoFar u new → HasHold me file.stream n (new_hold n me file at len kind.WriteChain false []) new
+pub mdl_write-leaves : (u : Setup) (me n : ℕ) (file : File) (at len : ℕ) (old new : List Entry) → CallLeft u me (call.MdlWrite file at len) (outcome.Done (reply.Hold n)) old new → IsGoodSoFar u new → HasHold me file.stream n (hold_of_range n me file at len kind.WriteChain false []) new
 mdl_write-leaves u me n file at len old new left good = placed-makes u me file.stream _ (call.MdlWrite file at len) (reply.Hold n) left.earlier old new left.placed good left.placed.filed refl
 
-pub repin-leaves : (u : Setup) (me s n id : ℕ) (hold : Hold) (old new : List Entry) → CallLeft u me (call.Repin id) (outcome.Done (reply.Hold n)) old new → IsGoodSoFar u new → HasHold me s id hold old → HasHold me s n (new_hold n me hold.file hold.at hold.len kind.Repin false []) new
+pub repin-leaves : (u : Setup) (me s n id : ℕ) (hold : Hold) (old new : List Entry) → CallLeft u me (call.Repin id) (outcome.Done (reply.Hold n)) old new → IsGoodSoFar u new → HasHold me s id hold old → HasHold me s n (hold_of_range n me hold.file hold.at hold.len kind.Repin false []) new
 repin-leaves u me s n id hold old new left good has =
     let here = placed-here u me s id hold (call.Repin id) _ left.earlier old new left.placed good (eq-eqb id id refl) has in
     let front = front-keeps u me s id hold (call.Repin id) _ left.earlier old new left.placed good has in
     placed-makes u me s _ (call.Repin id) (reply.Hold n) left.earlier old new left.placed good here
-    (ap (option_map (λ (it : Hold). new_hold n me it.file it.at it.len kind.Repin false [])) front.found)
+    (ap (option_map (λ (it : Hold). hold_of_range n me it.file it.at it.len kind.Repin false [])) front.found)

@@ -11,7 +11,7 @@ use Rattle.cc_entry.specs.declared.call.Call.TheVariants as call
 use Rattle.cc_entry.specs.declared.hold.HoldKind.TheVariants as kind
 use Rattle.cc_model.specs.Holds.{Hold, hold_at, changed_at, repinned, held_after}
 use Rattle.cc_model.specs.Cache.{makes_hold}
-use Rattle.cc_own.specs.Own.{hold_after, changes_it, made_by}
+use Rattle.cc_own.specs.Own.{hold_after, changes_it, hold_of_done_call}
 
 pub some-is : {A : Type 0} (a b : A) → Some a ≡ Some b → a ≡ b
 some-is a b is = cc
@@ -132,7 +132,7 @@ after-pass id (call.EndHold named) hold new is = go (named == id) is
 after-pass id other hold new is = sym (ap (λ (h : Hold). h.pass) (some-is hold new is))
 
 -- a new hold is found by its id
-pub made-found : (id pass : ℕ) (call : Call) (holds : List Hold) (hold : Hold) → made_by id pass call holds ≡ Some hold → hold_at (held_after pass call id holds) id ≡ Some hold
+pub made-found : (id pass : ℕ) (call : Call) (holds : List Hold) (hold : Hold) → hold_of_done_call id pass call holds ≡ Some hold → hold_at (held_after pass call id holds) id ≡ Some hold
 made-found id pass (call.Map file at len) holds hold is = rw (eq-eqb id id refl) is
 made-found id pass (call.PinRead file at len exclusive) holds hold is = rw (eq-eqb id id refl) is
 made-found id pass (call.PreparePin file at len true exclusive) holds hold is = rw (eq-eqb id id refl) is
@@ -147,7 +147,7 @@ made-found id pass (call.MdlWrite file at len) holds hold is = rw (eq-eqb id id 
 made-found id pass other holds hold is = absurd (cc)
 
 -- and is of the pass
-pub made-pass : (id pass : ℕ) (call : Call) (holds : List Hold) (hold : Hold) → made_by id pass call holds ≡ Some hold → hold.pass ≡ pass
+pub made-pass : (id pass : ℕ) (call : Call) (holds : List Hold) (hold : Hold) → hold_of_done_call id pass call holds ≡ Some hold → hold.pass ≡ pass
 made-pass id pass (call.Map file at len) holds hold is = sym (ap (λ (h : Hold). h.pass) (some-is _ hold is))
 made-pass id pass (call.PinRead file at len exclusive) holds hold is = sym (ap (λ (h : Hold). h.pass) (some-is _ hold is))
 made-pass id pass (call.PreparePin file at len true exclusive) holds hold is = sym (ap (λ (h : Hold). h.pass) (some-is _ hold is))

@@ -24,7 +24,7 @@ use Rattle.cc_model.specs.Allowed.{IsAllowedSoFar}
 use Rattle.cc_model.specs.Good.{IsGoodSoFar}
 use Rattle.cc_laws.proofs.RoomPasts.{IsGoodSoFar-before}
 use Rattle.cc_effects.specs.Moments.{own, Others}
-use Rattle.cc_own.specs.Own.{HasHold, hold_after, changes_it, changes_hold, made_by}
+use Rattle.cc_own.specs.Own.{HasHold, hold_after, changes_it, changes_hold, hold_of_done_call}
 use Rattle.cc_own.proofs.FoundHolds.{found-after, after-same, after-pass, made-found, made-pass}
 use Rattle.cc_own.proofs.OpenIds.{StepsAt, steps-at, held-done, fresh-id}
 
@@ -74,7 +74,7 @@ done-changes u me s id hold new pass nth call reply past good has after = record
 }
 
 -- a done call of the pass makes a hold of its own
-pub done-makes : (me s nth : ℕ) (call : Call) (reply : Reply) (past : List Entry) (hold : Hold) → made_by (id_of reply) me call (holds_of (history past s)) ≡ Some hold → HasHold me s (id_of reply) hold (entry.Call me nth (Some s) call (outcome.Done reply) ∷ past)
+pub done-makes : (me s nth : ℕ) (call : Call) (reply : Reply) (past : List Entry) (hold : Hold) → hold_of_done_call (id_of reply) me call (holds_of (history past s)) ≡ Some hold → HasHold me s (id_of reply) hold (entry.Call me nth (Some s) call (outcome.Done reply) ∷ past)
 done-makes me s nth call reply past hold makes = record {
   found = ap (λ holds. hold_at holds (id_of reply)) (held-done me nth s call reply past) ∙ made-found (id_of reply) me call (holds_of (history past s)) hold makes;
   mine = made-pass (id_of reply) me call (holds_of (history past s)) hold makes;

@@ -23,7 +23,7 @@ use Rattle.cc_model.specs.Holds.{range_held}
 use Rattle.cc_effects.specs.Asked.{Calls, Writes}
 use Rattle.cc_effects.specs.Moments.{PlacedOnly}
 use Rattle.cc_effects.specs.Repins.{UnpinLeft}
-use Rattle.cc_effects.specs.Noncached.{shape_refusal, pages_from, MisshapenLeft, IsUntold, EndsShort, PagesRead, PageReadsRefused, AlignedReadLeft, ShapedReadLeft, NcReadLeft, IsTransferred, TakesOut, IsPageWritten, TransferRefused, PageRefused, PagesWritten, AlignedWriteLeft, ShapedWriteLeft, NcWriteLeft}
+use Rattle.cc_effects.specs.Noncached.{shape_refusal, pages_from, MisshapenLeft, IsUntold, EndsShort, PagesRead, PageReadsRefused, AlignedReadLeft, ShapedReadLeft, NcReadLeft, StoreIsTransferred, TakesOut, IsPageWritten, TransferRefused, PageRefused, PagesWritten, AlignedWriteLeft, ShapedWriteLeft, NcWriteLeft}
 use Rattle.cc_effects.specs.PageWrites.{PageWrite, HasScanned, PageWriteLeft, TickCutOff, TickLeft}
 use Rattle.cc_effects.specs.ReadAhead.{AheadLeft}
 use Rattle.cc_effects.specs.Throttle.{DeferLeft, PostLeft}
@@ -84,7 +84,7 @@ shaped-read-unchanged u me id file at len (Some refusal) (Err failed) old new le
 pub nc_read-unchanged : (u : Setup) (me id : ℕ) (file : File) (at len : ℕ) (answered : Result (List ℕ) (ℕ × CcError)) (old new : List Entry) → NcReadLeft u me file at len answered old new → IsUnchanged me id old new
 nc_read-unchanged u me id file at len answered old new left = shaped-read-unchanged u me id file at len (shape_refusal at len) answered old new left
 
-transferred-unchanged : (me id : ℕ) (file : File) (page : ℕ) (bytes : List ℕ) (end : End) (old new : List Entry) → IsTransferred me file page bytes end old new → IsUnchanged me id old new
+transferred-unchanged : (me id : ℕ) (file : File) (page : ℕ) (bytes : List ℕ) (end : End) (old new : List Entry) → StoreIsTransferred me file page bytes end old new → IsUnchanged me id old new
 transferred-unchanged me id file page bytes end old new is =
     subst (IsUnchanged me id old) (sym is.grew)
     (unchanged-then me id old _ _

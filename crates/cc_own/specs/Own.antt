@@ -68,20 +68,20 @@ pub record IsUnchanged (me id : ℕ) (old new : List Entry) : Type 0 where
   pub unchanged : list_any (changes_hold id) (own me during) ≡ false
 
 -- a hold of a range as a done call makes it
-abbrev pub new_hold : ℕ → ℕ → File → ℕ → ℕ → HoldKind → Bool → List Range → Hold
-new_hold id pass file at len its_kind exclusive owed =
+abbrev pub hold_of_range : ℕ → ℕ → File → ℕ → ℕ → HoldKind → Bool → List Range → Hold
+hold_of_range id pass file at len its_kind exclusive owed =
     record { id = id; pass = pass; file = file; at = at; len = len; kind = its_kind; exclusive = exclusive; owed = owed }
 
 -- the hold that a done call of the pass makes, whose reply has this id, given the open holds before it
-abbrev pub made_by : ℕ → ℕ → Call → List Hold → Option Hold
-made_by id pass (call.Map file at len) holds = Some (new_hold id pass file at len kind.Map false [])
-made_by id pass (call.PinRead file at len exclusive) holds = Some (new_hold id pass file at len kind.Pin exclusive [])
-made_by id pass (call.PreparePin file at len true exclusive) holds =
-    Some (new_hold id pass file at len kind.Pin exclusive (record { from = at; to = at + len } ∷ []))
-made_by id pass (call.PreparePin file at len false exclusive) holds =
-    Some (new_hold id pass file at len kind.Pin exclusive [])
-made_by id pass (call.Repin named) holds =
-    option_map (λ it. new_hold id pass it.file it.at it.len kind.Repin false []) (hold_at holds named)
-made_by id pass (call.MdlRead file at len) holds = Some (new_hold id pass file at len kind.ReadChain false [])
-made_by id pass (call.MdlWrite file at len) holds = Some (new_hold id pass file at len kind.WriteChain false [])
-made_by id pass other holds = None
+abbrev pub hold_of_done_call : ℕ → ℕ → Call → List Hold → Option Hold
+hold_of_done_call id pass (call.Map file at len) holds = Some (hold_of_range id pass file at len kind.Map false [])
+hold_of_done_call id pass (call.PinRead file at len exclusive) holds = Some (hold_of_range id pass file at len kind.Pin exclusive [])
+hold_of_done_call id pass (call.PreparePin file at len true exclusive) holds =
+    Some (hold_of_range id pass file at len kind.Pin exclusive (record { from = at; to = at + len } ∷ []))
+hold_of_done_call id pass (call.PreparePin file at len false exclusive) holds =
+    Some (hold_of_range id pass file at len kind.Pin exclusive [])
+hold_of_done_call id pass (call.Repin named) holds =
+    option_map (λ it. hold_of_range id pass it.file it.at it.len kind.Repin false []) (hold_at holds named)
+hold_of_done_call id pass (call.MdlRead file at len) holds = Some (hold_of_range id pass file at len kind.ReadChain false [])
+hold_of_done_call id pass (call.MdlWrite file at len) holds = Some (hold_of_range id pass file at len kind.WriteChain false [])
+hold_of_done_call id pass other holds = None

@@ -2,7 +2,7 @@
 
 ghost use Rattle.std.specs.Prelude.{◌≡◌, ℕ, ◌+◌, ◌<◌, ◌≤◌, true, None, Some, length, IsSome, IfSome, IfOk, OnOk, OnErr};
 ghost use Rattle.std.specs.Option.{option_copied, option_map};
-ghost use Rattle.cc_pages.specs.Pages.{owned, shared, page_at, bytes_at, page_of, page_in, is_owned, overwritten, KeepsOthers, Snapshot};
+ghost use Rattle.cc_pages.specs.Pages.{owned, shared, page_at, bytes_at, kept_page, page_in_slot, is_owned, overwritten, KeepsOtherFrames, Snapshot};
 
 use std::alloc::Global;
 use std::array;
@@ -62,10 +62,10 @@ pub struct Frames {
 
 impl Model for Frames {
     ghost use Rattle.std.specs.Prelude.{◌≡◌, ℕ, List, Option, length};
-    ghost use Rattle.cc_pages.specs.Pages.{Page, pages_in};
+    ghost use Rattle.cc_pages.specs.Pages.{PageFrame, pages_in};
     ghost use Rattle.cc_pages.specs.declared.frames.TheConstants.{PAGES};
 
-    ghost Value = { List (Option Page) };
+    ghost Value = { List (Option PageFrame) };
 
     ghost view = { λ f. pages_in f.slots.value };
 
@@ -100,7 +100,7 @@ impl Frames {
     pub fn put(&mut self, i: u8, bytes: &[u8; PAGE_SIZE]) -> Result<(), NoMemory>
         requires { i < PAGES }
         ensures page { OnOk result (page_at self.new i ≡ Some (owned bytes.now)) }
-        ensures others { KeepsOthers self.old self.new i }
+        ensures others { KeepsOtherFrames self.old self.new i }
         ensures err { OnErr result (self.new ≡ self.old) }
     {
         match Box::new(self.alloc, *bytes) {
@@ -119,7 +119,7 @@ impl Frames {
         requires fits { at + length bytes.now ≤ PAGE_SIZE }
         ensures page { IfSome (page_at self.old i)
             (λ page. page_at self.new i ≡ Some (owned (overwritten page.bytes at bytes.now))) }
-        ensures others { KeepsOthers self.old self.new i }
+        ensures others { KeepsOtherFrames self.old self.new i }
     {
         overwrite(&mut (*self.slots)[i as usize], at as usize, bytes);
     }
@@ -129,7 +129,7 @@ impl Frames {
     pub fn share(&mut self, i: u8) -> Result<Option<Frame>, NoMemory>
         requires { i < PAGES }
         ensures page { IfOk result (Snapshot (page_at self.old i) (page_at self.new i)) }
-        ensures others { KeepsOthers self.old self.new i }
+        ensures others { KeepsOtherFrames self.old self.new i }
         ensures err { OnErr result (self.new ≡ self.old) }
     {
         let Some(kept) = &(*self.slots)[i as usize] else {
@@ -147,7 +147,7 @@ impl Frames {
         requires there { IsSome (page_at self.old i) }
         ensures page { OnOk result (page_at self.new i
             ≡ option_map (λ page. owned page.bytes) (page_at self.old i)) }
-        ensures others { KeepsOthers self.old self.new i }
+        ensures others { KeepsOtherFrames self.old self.new i }
         ensures err { OnErr result (self.new ≡ self.old) }
     {
         if let Some(Kept::Shared(frame)) = &(*self.slots)[i as usize] {
@@ -161,7 +161,7 @@ impl Frames {
     pub fn clear(&mut self, i: u8)
         requires { i < PAGES }
         ensures page { page_at self.new i ≡ None }
-        ensures others { KeepsOthers self.old self.new i }
+        ensures others { KeepsOtherFrames self.old self.new i }
     {
         (*self.slots)[i as usize] = None;
     }
@@ -169,7 +169,7 @@ impl Frames {
 
 impl Kept {
     fn bytes(&self) -> &[u8; PAGE_SIZE]
-        ensures { result.now ≡ (page_of self.now).bytes }
+        ensures { result.now ≡ (kept_page self.now).bytes }
     {
         match self {
             Kept::Owned(frame) => &**frame,
@@ -179,8 +179,8 @@ impl Kept {
 
     // a snapshot of the page, and the page as it is kept with it
     fn shared(&self, alloc: Global) -> Result<(Frame, Kept), NoMemory>
-        ensures frame { IfOk result (λ made. made.0 ≡ (page_of self.now).bytes) }
-        ensures page { IfOk result (λ made. page_of made.1 ≡ shared (page_of self.now).bytes) }
+        ensures frame { IfOk result (λ made. made.0 ≡ (kept_page self.now).bytes) }
+        ensures page { IfOk result (λ made. kept_page made.1 ≡ shared (kept_page self.now).bytes) }
     {
         let bytes = match self {
             Kept::Owned(frame) => Arc::new(alloc, **frame).map_err(|_| NoMemory)?,
@@ -194,8 +194,8 @@ impl Kept {
 // Writes bytes over those of the owned frame in a slot, where there is one.
 fn overwrite(slot: &mut Option<Kept>, at: usize, bytes: &[u8])
     requires { at + length bytes.now ≤ PAGE_SIZE }
-    ensures { is_owned (page_in slot.old) ≡ true → page_in slot.new
-        ≡ option_map (λ page. owned (overwritten page.bytes at bytes.now)) (page_in slot.old) }
+    ensures { is_owned (page_in_slot slot.old) ≡ true → page_in_slot slot.new
+        ≡ option_map (λ page. owned (overwritten page.bytes at bytes.now)) (page_in_slot slot.old) }
 {
     if let Some(Kept::Owned(frame)) = slot {
         frame[at..at + bytes.len()].copy_from_slice(bytes);

@@ -13,8 +13,8 @@ use Rattle.cc_entry.specs.declared.answer.AsyncStart.TheVariants as start
 use Rattle.cc_entry.specs.declared.error.CcError.TheVariants as error
 use Rattle.cc_script.specs.declared.script.Action.{Action}
 use Rattle.cc_script.specs.declared.script.Action.TheVariants as action
-use Rattle.cc_pieces.specs.AsyncQueue.{AreNumbered, AsyncPlace, AsyncRan, CompletionPlaced, HasQueued, Numbered, ReadPlaced, finds_empty, finds_full, is_async, reads_done, reads_queued, with_done, with_queued}
-use Rattle.cc_pieces.specs.Explained.{Answered, Given}
+use Rattle.cc_pieces.specs.AsyncQueue.{ReadsAreNumbered, AsyncPlace, AsyncRan, CompletionPlaced, HasQueued, Numbered, ReadPlaced, finds_empty, finds_full, is_async, reads_done, reads_queued, with_done, with_queued}
+use Rattle.cc_pieces.specs.Explained.{Answered, GivenToRun}
 use Rattle.cc_pieces.specs.Queue.{lines_told, risen_by}
 use Rattle.cc_pieces.proofs.PlaceSteps.{risen-exact, risen-sum}
 
@@ -37,7 +37,7 @@ other-fulls : (asked : Action) (told : Answer) → is_async asked ≡ false → 
 other-fulls (action.AsyncRead file at len) told plain = absurd (cc plain)
 other-fulls asked told plain = refl
 
-numbers-none : (me n : ℕ) (reads : List Numbered) → reads ≡ [] → AreNumbered me n reads
+numbers-none : (me n : ℕ) (reads : List Numbered) → reads ≡ [] → ReadsAreNumbered me n reads
 numbers-none me n reads none = rw none tt
 
 pub async-other : (me : ℕ) (asked : Action) (told : Answer) (place : AsyncPlace) → is_async asked ≡ false → AsyncRan me ((asked, told) ∷ []) place place
@@ -132,7 +132,7 @@ done-append (line ∷ first) rest =
 counted-lines : (test : Action × Answer → Bool) (first rest : List (Action × Answer)) → count_by test (first ++ rest) ≡ count_by test first + count_by test rest
 counted-lines test first rest = sum_by-append (λ line. cond (test line) 1 0) first rest
 
-numbered-append : (me n m : ℕ) (xs ys : List Numbered) → m ≡ n + length xs → AreNumbered me n xs → AreNumbered me m ys → AreNumbered me n (xs ++ ys)
+numbered-append : (me n m : ℕ) (xs ys : List Numbered) → m ≡ n + length xs → ReadsAreNumbered me n xs → ReadsAreNumbered me m ys → ReadsAreNumbered me n (xs ++ ys)
 numbered-append me n m [] ys next one two = let same : m ≡ n = omega (arith, next) in rw same at two
 numbered-append me n m (x ∷ xs) ys next one two = (one.0, numbered-append me (suc n) m xs ys (omega (arith, next)) one.1 two)
 
@@ -165,10 +165,10 @@ abbrev pub untouched : AsyncPlace
 untouched = record { queued = []; done = []; empties = 0; fulls = 0 }
 
 -- so a caller has at the queue what its answers say
-pub has-queued : (given : Given) (told : Answered) (me : ℕ) (place : AsyncPlace) → AsyncRan me (lines_told given told me) untouched place → length (lines_told given told me) ≤ 2 ^ 64 - 1 → HasQueued given told me place
+pub has-queued : (given : GivenToRun) (told : Answered) (me : ℕ) (place : AsyncPlace) → AsyncRan me (lines_told given told me) untouched place → length (lines_told given told me) ≤ 2 ^ 64 - 1 → HasQueued given told me place
 has-queued given told me place ran few = record {
   queued = ran.queued;
-  numbered = subst (AreNumbered me 0) (sym ran.queued) ran.numbered;
+  numbered = subst (ReadsAreNumbered me 0) (sym ran.queued) ran.numbered;
   done = ran.done;
   empties = exact (count_by finds_empty (lines_told given told me)) place.empties (count_by-le-length finds_empty (lines_told given told me)) ran.empties;
   fulls = exact (count_by finds_full (lines_told given told me)) place.fulls (count_by-le-length finds_full (lines_told given told me)) ran.fulls;

@@ -19,7 +19,7 @@ use Rattle.cc_effects.specs.Moments.{IsIdle}
 use Rattle.cc_effects.proofs.Stretches.{idle-then}
 use Rattle.cc_effects.proofs.CallSteps.{left-after, left-before}
 use Rattle.cc_effects.proofs.OtherSteps.{append-after, log-flush-after}
-use Rattle.cc_pieces.specs.Checkpoints.{AskingStopped, CheckpointAnswered, CheckpointLeft, RecordFlushed, RecordLogged, RowsLogged, StateAsked, StatesAsked, StateRefused, SyncedLogged, first_object, has_log, record_of_rows, sync_call}
+use Rattle.cc_pieces.specs.Checkpoints.{AskingStopped, CheckpointAnswered, CheckpointLeft, RecordFlushed, RecordLogged, RowsLogged, StateAsked, StatesAsked, StateRefused, SyncedLogged, first_object, state_has_log, record_of_rows, sync_call}
 use Rattle.cc_pieces.proofs.ShimSteps.{calls-after}
 
 -- the streams that were found to have the log are among those that were asked
@@ -38,7 +38,7 @@ below-with n found false all = below-more n found all
 pub found-below : (u : Setup) (me handle n : ℕ) (found : List ℕ) (old new : List Entry) → StatesAsked u me handle n found old new → AllByRecursion (λ s. s < n) found
 found-below u me handle zero found old new left = subst (AllByRecursion (λ s. s < 0)) (sym left.0) tt
 found-below u me handle (suc n) found old new left =
-    subst (AllByRecursion (λ s. s < suc n)) (sym left.3) (below-with n left.0 (has_log handle left.1) (found-below u me handle n left.0 old left.2 left.4))
+    subst (AllByRecursion (λ s. s < suc n)) (sym left.3) (below-with n left.0 (state_has_log handle left.1) (found-below u me handle n left.0 old left.2 left.4))
 
 module _ (u : Setup) (me streams handle : ℕ) where
   -- what others placed before

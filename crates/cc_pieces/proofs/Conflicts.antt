@@ -21,7 +21,7 @@ use Rattle.cc_effects.specs.LogCalls.{AppendLeft}
 use Rattle.cc_effects.specs.Moments.{Between}
 use Rattle.cc_effects.specs.Noncached.{MisshapenLeft, PageReadsRefused, ShapedReadLeft, shape_refusal}
 use Rattle.cc_effects.specs.Refusals.{may_refuse}
-use Rattle.cc_pieces.specs.Locks.{AdmittedLeft, FoundLeft, LockedLeft, LockedReadAnswered, LockedUpdateAnswered, LockedWriteAnswered, TestLeft, read_refused, tested_range, update_refused, write_refused}
+use Rattle.cc_pieces.specs.Locks.{RangeTestedLeft, FoundLeft, LockedLeft, LockedReadAnswered, LockedUpdateAnswered, LockedWriteAnswered, TestLeft, read_refused, tested_range, update_refused, write_refused}
 use Rattle.cc_pieces.specs.Shim.{ReadTested, UpdateLeft, WriteTested, misaligned_for, too_long_for}
 use Rattle.cc_pieces.proofs.ShimLines.{Follows, IsCalm, calm-long, calm-misaligned, calm-read, calm-update, calm-write, follow-read, follow-update, follow-write, is_calm}
 
@@ -142,7 +142,7 @@ module _ {A : Type 0} (u : Setup) (me : ℕ) (file : File) (range : Range) (writ
   apart : (e : CcError) → IsOther e → ◌≡◌ {A = Result A CcError} (Err (error.LockConflict id)) (Err e) → ⊥
   apart e other is = subst IsOther (sym (same-error {A = A} (error.LockConflict id) e is)) other
 
-  admitted-tells : (old new : List Entry) → AdmittedLeft me file range write Left (Err (error.LockConflict id)) old new → Test old new
+  admitted-tells : (old new : List Entry) → RangeTestedLeft me file range write Left (Err (error.LockConflict id)) old new → Test old new
   admitted-tells old new (inl left) =
       subst (λ (e : CcError). TestLeft me file range write (Err e) old new) (sym (same-error {A = A} (error.LockConflict id) left.0 left.1)) left.2
   admitted-tells old new (inr left) = absurd (never left.0 new left.2)

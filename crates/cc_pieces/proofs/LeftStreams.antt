@@ -26,7 +26,7 @@ use Rattle.cc_model.specs.History.{history}
 use Rattle.cc_model.specs.Legal.{IsLegal}
 use Rattle.cc_model.specs.Settings.{log_of}
 use Rattle.cc_model.specs.Setup.{Setup}
-use Rattle.cc_effects.specs.Asked.{Work, Calls, Writes, brings_in, is_admitted, is_of, may_sync, reaches}
+use Rattle.cc_effects.specs.Asked.{Work, Calls, Writes, brings_in, is_admitted, is_file_of_page, may_sync, reaches}
 use Rattle.cc_effects.specs.Calls.{CallLeft}
 use Rattle.cc_effects.specs.Moments.{EachOwn, IsIdle}
 use Rattle.cc_effects.specs.Places.{MayPlace}
@@ -73,7 +73,7 @@ left-idle u n me old new idle = walked-idle (StaysBelow u n) me old new idle
 pub left-then : (u : Setup) (n me : ℕ) (old between new : List Entry) → IsLeft u n me old between → IsLeft u n me between new → IsLeft u n me old new
 left-then u n me old between new first second = walked-then (StaysBelow u n) me old between new first second
 
-of-file : (n : ℕ) (file : Option File) (page : Page) → is_of file page ≡ true → IsFileBelow n file → page.stream < n
+of-file : (n : ℕ) (file : Option File) (page : Page) → is_file_of_page file page ≡ true → IsFileBelow n file → page.stream < n
 of-file n None page is below = absurd (cc is)
 of-file n (Some file) page is below = subst (λ s. s < n) (eqb-true file.stream page.stream is) below
 
@@ -82,9 +82,9 @@ reached-of n it page past is below = of-file n (file_of it) page (and_parts _ _ 
 
 reached-below : (n logs : ℕ) (it : Call) (page : Page) (past : List Entry) → AllBelow n logs past → reaches it page past ≡ true → FitsBelow n it → page.stream < n
 reached-below n logs (call.AheadStep request) page past all is below =
-    sized-below n logs page.stream request.at request.len page.page past all (and_parts (is_of (Some request.file) page) _ is).1
+    sized-below n logs page.stream request.at request.len page.page past all (and_parts (is_file_of_page (Some request.file) page) _ is).1
 reached-below n logs (call.CopyRead file at len wait) page past all is below =
-    sized-below n logs page.stream at len page.page past all (and_parts (is_of (Some file) page) _ is).1
+    sized-below n logs page.stream at len page.page past all (and_parts (is_file_of_page (Some file) page) _ is).1
 reached-below n logs it page past all is below = reached-of n it page past is below
 
 synced-below : (n s : ℕ) (it : Call) → may_sync (Calls it) s ≡ true → FitsBelow n it → s < n

@@ -35,7 +35,7 @@ use Rattle.cc_pieces.specs.Bindings.{Binding, hold_named, OnHold}
 use Rattle.cc_pieces.specs.Answered.{CallAnswered, FlushAnswered, AppendAnswered, LevelsAnswered, LogFlushAnswered, NcReadAnswered, NcWriteAnswered, TickAnswered, AheadAnswered, StartAnswered, CompletionAnswered, bytes_outcome}
 use Rattle.cc_pieces.specs.HoldLines.{HoldLine, HeldReadBy, UnpinAnswered, UnpinEnded, UnrepinLine}
 use Rattle.cc_pieces.specs.Served.{Served, bindings_after}
-use Rattle.cc_pieces.specs.Rooms.{WasFull, HadNoRoom, ToldNoRoom}
+use Rattle.cc_pieces.specs.Rooms.{JournalWasFull, HadNoRoom, ToldNoRoom}
 use Rattle.cc_pieces.specs.Runs.{Explains, Ran, bindings_of, asked_of}
 use Rattle.cc_vacb.specs.Levels.{levels_of}
 use Rattle.cc_pieces.proofs.ThrottleSteps.{deferred-after, deferred-before, posted-after, posted-before}
@@ -361,11 +361,11 @@ served-after u me bindings action.Complete told old new newer left idle = comple
 served-after u me bindings action.Tick told old new newer left idle = ticked-after me told old new newer left idle
 served-after u me bindings other told old new newer left idle = absurd left
 
-full-before : (u : Setup) (limit entries me : ℕ) (older old new : List Entry) → IsIdle me older old → WasFull u limit entries old new → WasFull u limit entries older new
+full-before : (u : Setup) (limit entries me : ℕ) (older old new : List Entry) → IsIdle me older old → JournalWasFull u limit entries old new → JournalWasFull u limit entries older new
 full-before u limit entries me older old new idle was =
     some-before (λ moment. (entries ≡ length moment) × (room_in u moment 0 < limit)) older idle.during new (rw idle.grew at was)
 
-full-after : (u : Setup) (limit entries me : ℕ) (old new newer : List Entry) → WasFull u limit entries old new → IsIdle me new newer → WasFull u limit entries old newer
+full-after : (u : Setup) (limit entries me : ℕ) (old new newer : List Entry) → JournalWasFull u limit entries old new → IsIdle me new newer → JournalWasFull u limit entries old newer
 full-after u limit entries me old new newer was idle =
     rw idle.grew (some-after (λ moment. (entries ≡ length moment) × (room_in u moment 0 < limit)) old new idle.during was)
 

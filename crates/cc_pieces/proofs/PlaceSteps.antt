@@ -31,9 +31,9 @@ use Rattle.cc_effects.specs.Places.{MayPlace, Works}
 use Rattle.cc_effects.proofs.Stretches.{each-implies, grew-after, own-append, own-others}
 use Rattle.cc_pieces.specs.Answered.{AheadAnswered, CallAnswered}
 use Rattle.cc_pieces.specs.Bindings.{Binding}
-use Rattle.cc_pieces.specs.Explained.{Answered, Given}
+use Rattle.cc_pieces.specs.Explained.{Answered, GivenToRun}
 use Rattle.cc_pieces.specs.Phases.{read_ahead_worker}
-use Rattle.cc_pieces.specs.Queue.{AreAmong, AskPlaced, IsQueued, PlaceRan, QueuePlace, StepPlaced, answers_to, fulls_told, is_ask, is_none_stepped, is_queue_action, is_queue_call, is_queue_full, is_step, lines_told, nones, requests_asked, requests_served, risen_by, steps_told, with_asked, with_served}
+use Rattle.cc_pieces.specs.Queue.{AreAmong, AskPlaced, RequestsAreQueued, PlaceRan, AheadQueuePlace, AheadStepPlaced, answers_to, fulls_told, is_ask, is_none_stepped, is_queue_action, is_queue_call, is_queue_full, is_step, lines_told, nones, requests_asked, requests_served, risen_by, steps_told, with_asked, with_served}
 use Rattle.cc_pieces.specs.Served.{Served}
 use Rattle.cc_pieces.proofs.Walks.{IsActionOn, Keeps, Walked, walk-served}
 
@@ -168,7 +168,7 @@ calm-own me (e ∷ during) old each = by (is_mine me e) refl (calm-own me during
     by false mine rest = rest
 
 -- what a pass does at its place that has nothing to do with the queue
-place-calm : (me : ℕ) (lines : List (Action × Answer)) (place : QueuePlace) (old new : List Entry) → Walked IsCalm me old new → answers_to is_step lines ≡ [] → answers_to is_ask lines ≡ [] → PlaceRan me lines place place old new
+place-calm : (me : ℕ) (lines : List (Action × Answer)) (place : AheadQueuePlace) (old new : List Entry) → Walked IsCalm me old new → answers_to is_step lines ≡ [] → answers_to is_ask lines ≡ [] → PlaceRan me lines place place old new
 place-calm me lines place old new walked no_step no_ask =
     let none = calm-own me walked.during old walked.each in
     record {
@@ -184,7 +184,7 @@ place-calm me lines place old new walked no_step no_ask =
     }
 
 -- others went on
-pub place-idle : (me : ℕ) (place : QueuePlace) (old new : List Entry) → IsIdle me old new → PlaceRan me [] place place old new
+pub place-idle : (me : ℕ) (place : AheadQueuePlace) (old new : List Entry) → IsIdle me old new → PlaceRan me [] place place old new
 place-idle me place old new idle = record {
   during = idle.during;
   grew = idle.grew;
@@ -228,7 +228,7 @@ risen-sum first between last a b one two =
     two ∙ (ap (λ n. risen_by n b) one ∙ (risen-twice first a b ∙ ap (risen_by first) swapped))
 
 -- lines after lines
-pub place-then : (me : ℕ) (first rest : List (Action × Answer)) (before mid after : QueuePlace) (old between new : List Entry) → PlaceRan me first before mid old between → PlaceRan me rest mid after between new → PlaceRan me (first ++ rest) before after old new
+pub place-then : (me : ℕ) (first rest : List (Action × Answer)) (before mid after : AheadQueuePlace) (old between new : List Entry) → PlaceRan me first before mid old between → PlaceRan me rest mid after between new → PlaceRan me (first ++ rest) before after old new
 place-then me first rest before mid after old between new one two = record {
   during = two.during ++ one.during;
   grew = grew-after two.during one.during old between new two.grew one.grew;
@@ -263,7 +263,7 @@ place-then me first rest before mid after old between new one two = record {
         ∙ (ap reverse (served-append (own me two.during) (own me one.during)) ∙ reverse-append (requests_served (own me two.during)) (requests_served (own me one.during)))
 
 -- a line that is none of the queue leaves the place as it is
-pub place-other : (u : Setup) (me : ℕ) (bindings : List Binding) (asked : Action) (told : Answer) (place : QueuePlace) (old new : List Entry) → is_queue_action asked ≡ false → Served u me bindings asked told old new → PlaceRan me ((asked, told) ∷ []) place place old new
+pub place-other : (u : Setup) (me : ℕ) (bindings : List Binding) (asked : Action) (told : Answer) (place : AheadQueuePlace) (old new : List Entry) → is_queue_action asked ≡ false → Served u me bindings asked told old new → PlaceRan me ((asked, told) ∷ []) place place old new
 place-other u me bindings asked told place old new plain left =
     let tests = or_parts (is_ask asked) (is_step asked) plain in
     place-calm me ((asked, told) ∷ []) place old new
@@ -355,7 +355,7 @@ no-serves xs (inl none) = none
 no-serves xs (inr none) = none
 
 -- a line that asks for read-ahead
-module _ (u : Setup) (me : ℕ) (file : File) (at len : ℕ) (before after : QueuePlace) (old new : List Entry) where
+module _ (u : Setup) (me : ℕ) (file : File) (at len : ℕ) (before after : AheadQueuePlace) (old new : List Entry) where
   abbrev asked_line : Answer → List (Action × Answer)
   asked_line told = (action.AskAhead file at len, told) ∷ []
 
@@ -392,7 +392,7 @@ module _ (u : Setup) (me : ℕ) (file : File) (at len : ℕ) (before after : Que
   place-asked other left placed = absurd left
 
 -- a read-ahead step, of a caller's line or of the worker
-module _ (u : Setup) (me : ℕ) (before after : QueuePlace) (old new : List Entry) where
+module _ (u : Setup) (me : ℕ) (before after : AheadQueuePlace) (old new : List Entry) where
   abbrev step_line : Answer → List (Action × Answer)
   step_line told = (action.AheadStep, told) ∷ []
 
@@ -415,7 +415,7 @@ module _ (u : Setup) (me : ℕ) (before after : QueuePlace) (old new : List Entr
       by (inl one) = rw one (inl (refl, tt))
       by (inr none) = rw none tt
 
-  pub place-stepped : (taken : Option Request) (told : Answer) → AheadAnswered u me taken told old new → StepPlaced taken before after → PlaceRan me (step_line told) before after old new
+  pub place-stepped : (taken : Option Request) (told : Answer) → AheadAnswered u me taken told old new → AheadStepPlaced taken before after → PlaceRan me (step_line told) before after old new
   place-stepped None (answer.Stepped None) idle same = record {
     during = idle.during;
     grew = idle.grew;
@@ -443,11 +443,11 @@ risen-exact zero low = refl
 risen-exact (suc times) low = rw (risen-exact times (omega (arith, low))) (grind (arith, low))
 
 -- a place at which nothing was done
-abbrev pub untouched : QueuePlace
+abbrev pub untouched : AheadQueuePlace
 untouched = record { pushed = []; taken = []; empties = 0; fulls = 0 }
 
 -- what lines of a pass did at its place in a whole run, where they are those that the run was told of
-pub record PlaceTold (given : Given) (told : Answered) (me : ℕ) (place : QueuePlace) (past : List Entry) : Type 0 where
+pub record PlaceTold (given : GivenToRun) (told : Answered) (me : ℕ) (place : AheadQueuePlace) (past : List Entry) : Type 0 where
   pub lines : List (Action × Answer)
   pub ran : PlaceRan me lines untouched place [] past
   pub steps : answers_to is_step lines ≡ steps_told given told me
@@ -455,7 +455,7 @@ pub record PlaceTold (given : Given) (told : Answered) (me : ℕ) (place : Queue
   pub few_steps : length (answers_to is_step lines) ≤ 2 ^ 64 - 1
   pub few_asks : length (answers_to is_ask lines) ≤ 2 ^ 64 - 1
 
-module _ (given : Given) (told : Answered) (places : ℕ → QueuePlace) (past : List Entry) (each : (me : ℕ) → PlaceTold given told me (places me) past) where
+module _ (given : GivenToRun) (told : Answered) (places : ℕ → AheadQueuePlace) (past : List Entry) (each : (me : ℕ) → PlaceTold given told me (places me) past) where
   whole : (me : ℕ) → (each me).ran.during ≡ past
   whole me = sym ((each me).ran.grew ∙ append-nil (each me).ran.during)
 
@@ -481,7 +481,7 @@ module _ (given : Given) (told : Answered) (places : ℕ → QueuePlace) (past :
   same-least a b same = omega (arith, same)
 
   -- so the passes have at the queue what the journal and the answers say
-  pub queued : (taken : List Request) → (places read_ahead_worker).taken ≡ taken → IsQueued given told taken places past
+  pub queued : (taken : List Request) → (places read_ahead_worker).taken ≡ taken → RequestsAreQueued given told taken places past
   queued taken taken_is = record {
     pushed = pushed-told;
     fulls = λ me. same-least (places me).fulls (fulls_told (answers_to is_ask (lines_told given told me))) (fulls-exact me);

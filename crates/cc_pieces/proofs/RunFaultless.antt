@@ -25,7 +25,7 @@ use Rattle.cc_script.specs.declared.script.StreamLine.{StreamLine}
 use Rattle.cc_model.specs.Allowed.{is_fault}
 use Rattle.cc_model.specs.Setup.{Setup}
 use Rattle.cc_pieces.specs.Bindings.{Binding}
-use Rattle.cc_pieces.specs.Explained.{Answered, Given, IsExplained, answered_lines}
+use Rattle.cc_pieces.specs.Explained.{Answered, GivenToRun, IsExplained, answered_lines}
 use Rattle.cc_pieces.specs.Faultless.{tells_fault}
 use Rattle.cc_pieces.specs.Openings.{LoggedOpening, MigrationLeft, Opened, OpeningBehind, RecordedOpening, StreamOpening, first_object_of, opening_call, recorded_call}
 use Rattle.cc_pieces.specs.Phases.{PhasesRan, Plan, is_of_phase, lazy_writer, lines_in, read_ahead_worker}
@@ -169,7 +169,7 @@ module _ (u : Setup) (n : ℕ) (handles : HasHandles u) where
 
 -- Where the journal of a run shows no failure, and no restart told one, which has no entry, no answer tells one, of a line, of a
 -- tick or of a read-ahead step.
-pub explained-none : (u : Setup) (n : ℕ) (handles : HasHandles u) (given : Given) (told : Answered) (taken : List Request) (past : List Entry) → length given.streams ≤ n → AllByRecursion (λ line. IsActionBelow n line.action) given.lines → AllByRecursion (IsLineWithin given.streams given.phases) given.lines → IsExplained u given told taken past → ShowsNone past → TellNone (take (length given.restarts) told.replies) → TellNone (told.replies ++ told.ticked ++ told.stepped)
+pub explained-none : (u : Setup) (n : ℕ) (handles : HasHandles u) (given : GivenToRun) (told : Answered) (taken : List Request) (past : List Entry) → length given.streams ≤ n → AllByRecursion (λ line. IsActionBelow n line.action) given.lines → AllByRecursion (IsLineWithin given.streams given.phases) given.lines → IsExplained u given told taken past → ShowsNone past → TellNone (take (length given.restarts) told.replies) → TellNone (told.replies ++ told.ticked ++ told.stepped)
 explained-none u n handles given told taken past few below within is none calm =
     tell-append (told.replies ++ told.ticked) told.stepped
     (tell-append told.replies told.ticked

@@ -27,9 +27,9 @@ use Rattle.cc_model.specs.Passes.{is_pass, pass_of}
 use Rattle.cc_model.specs.Setup.{Setup}
 use Rattle.cc_effects.specs.Moments.{EachOwn, IsIdle}
 use Rattle.cc_pieces.specs.Bindings.{Binding}
-use Rattle.cc_pieces.specs.Explained.{Answered, Given, IsExplained}
+use Rattle.cc_pieces.specs.Explained.{Answered, GivenToRun, IsExplained}
 use Rattle.cc_pieces.specs.Openings.{LoggedOpening, MigrationLeft, Opened, OpeningBehind, RecordedOpening, StreamOpening, first_object_of, opening_call, recorded_call}
-use Rattle.cc_pieces.specs.Restarts.{Restarted, refused_for}
+use Rattle.cc_pieces.specs.Restarts.{RestartsInOrder, refused_for}
 use Rattle.cc_pieces.specs.Phases.{PhaseRan, PhasesRan, Plan, is_of_phase, lazy_writer, lines_in, read_ahead_worker}
 use Rattle.cc_pieces.specs.Runs.{Ran, asked_of}
 use Rattle.cc_pieces.specs.Served.{bindings_after}
@@ -127,7 +127,7 @@ module _ (u : Setup) (n : ℕ) (handles : HasHandles u) where
         (left-behind s stream (refused_for stream.log restarts ended) reply.answer old opened.0 (omega (arith, few)) opened.1.opened)
         (left-opened (suc s) streams replies opened.0 new (omega (arith, few)) opened.2)
 
-  left-restarted : (restarts : List RestartLine) (replies : List LineReply) (old new : List Entry) → Restarted u restarts replies old new → IsLeft u n 0 old new
+  left-restarted : (restarts : List RestartLine) (replies : List LineReply) (old new : List Entry) → RestartsInOrder u restarts replies old new → IsLeft u n 0 old new
   left-restarted [] [] old new ended = left-idle u n 0 old new ended
   left-restarted [] (reply ∷ replies) old new ended = absurd ended
   left-restarted (restart ∷ restarts) [] old new ended = absurd ended
@@ -135,7 +135,7 @@ module _ (u : Setup) (n : ℕ) (handles : HasHandles u) where
       left-then u n 0 old ended.0 new (left-restart u n handles restart.handle reply.answer old ended.0 ended.1.left) (left-restarted restarts replies ended.0 new ended.2)
 
   -- the restarts were ended and the streams opened, and nobody but pass 0 placed anything
-  pub opened-below : (restarts : List RestartLine) (ended : List LineReply) (streams : List StreamLine) (replies : List LineReply) (restarted begun : List Entry) → length streams ≤ n → Restarted u restarts ended [] restarted → Opened u restarts ended 0 streams replies restarted begun → ((me : ℕ) → me ≢ 0 → IsIdle me [] begun) → IsSound u begun → AllBelow n u.logs begun
+  pub opened-below : (restarts : List RestartLine) (ended : List LineReply) (streams : List StreamLine) (replies : List LineReply) (restarted begun : List Entry) → length streams ≤ n → RestartsInOrder u restarts ended [] restarted → Opened u restarts ended 0 streams replies restarted begun → ((me : ℕ) → me ≢ 0 → IsIdle me [] begun) → IsSound u begun → AllBelow n u.logs begun
   opened-below restarts ended streams replies restarted begun few done opened alone sound = every-left u n [] begun each sound tt
     where
       first : IsLeft u n 0 [] begun
@@ -180,7 +180,7 @@ module _ (u : Setup) (n : ℕ) (handles : HasHandles u) where
         (every-left u n old ran.0 (left-phase phase _ _ _ old ran.0 ran.3) (sound-front u more.0 ran.0 (subst (IsSound u) more.1 sound)) all)
 
 -- Each entry of the journal of a run is of a stream of its script, and each log that failed is one of the run.
-pub explained-below : (u : Setup) (n : ℕ) (handles : HasHandles u) (given : Given) (told : Answered) (taken : List Request) (past : List Entry) → length given.streams ≤ n → AllByRecursion (λ line. IsActionBelow n line.action) given.lines → IsSound u past → IsExplained u given told taken past → AllBelow n u.logs past
+pub explained-below : (u : Setup) (n : ℕ) (handles : HasHandles u) (given : GivenToRun) (told : Answered) (taken : List Request) (past : List Entry) → length given.streams ≤ n → AllByRecursion (λ line. IsActionBelow n line.action) given.lines → IsSound u past → IsExplained u given told taken past → AllBelow n u.logs past
 explained-below u n handles given told taken past few within sound is =
     phases-below u n handles plan within 1 given.phases told.ticked told.stepped taken is.begun past is.ran sound
     (opened-below u n handles given.restarts is.ended given.streams is.setup is.restarted is.begun few is.restarts_ended is.opened is.alone (sound-front u grown.0 is.begun (subst (IsSound u) grown.1 sound)))

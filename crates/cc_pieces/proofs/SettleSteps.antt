@@ -19,13 +19,13 @@ use Rattle.cc_model.specs.Setup.{Setup}
 use Rattle.cc_effects.specs.Moments.{IsIdle}
 use Rattle.cc_effects.proofs.Stretches.{idle-then, only-after}
 use Rattle.cc_effects.proofs.CallSteps.{left-after, left-before}
-use Rattle.cc_records.specs.Left.{HasFlushed, IsUnflushed, IsUnrecorded, RecordStopped, SettleLeft, SyncedRecord, SyncedSome, WroteRecord, WroteSome}
+use Rattle.cc_records.specs.Left.{StreamHasFlushed, IsUnflushed, IsUnrecorded, RecordStopped, SettleLeft, SyncedRecord, SyncedSome, WroteRecord, WroteSome}
 use Rattle.cc_pieces.specs.Answered.{SettleAnswered}
 
 -- ---- what others placed before
 
 module _ (u : Setup) (me : ℕ) (file : File) (older old : List Entry) (idle : IsIdle me older old) where
-  has-flushed-before : (told : FileState) (begun new : List Entry) → HasFlushed u me file told begun old new → HasFlushed u me file told begun older new
+  has-flushed-before : (told : FileState) (begun new : List Entry) → StreamHasFlushed u me file told begun old new → StreamHasFlushed u me file told begun older new
   has-flushed-before told begun new is = record {
     stated = is.stated;
     state = left-before u me (call.State file) (outcome.Done (reply.State told)) older old is.stated idle is.state;

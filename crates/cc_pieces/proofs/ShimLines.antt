@@ -28,8 +28,8 @@ use Rattle.cc_effects.specs.LogCalls.{AppendLeft}
 use Rattle.cc_effects.specs.Moments.{Between, IsIdle, PlacedOnly}
 use Rattle.cc_effects.specs.Noncached.{NcReadLeft}
 use Rattle.cc_model.specs.Reasons.{crosses_blocks, refuse_if}
-use Rattle.cc_pieces.specs.Locks.{AdmittedLeft, FoundLeft, LockedLeft, LockedReadAnswered, LockedReadLeft, LockedUpdateAnswered, LockedUpdateLeft, LockedWriteAnswered, LockedWriteLeft, TestLeft, read_refused, tested_range, update_refused, without_log, write_refused}
-use Rattle.cc_pieces.specs.Shim.{CallsLeft, HeldPartsLeft, HoldPath, LoggedLeft, PartRead, PartRefused, PartsLeft, PathReadLeft, PinnedUpdateLeft, ReadTested, RecordedLeft, RefusedSo, ShortWriteLeft, ToldUpdateLeft, ToldWriteLeft, UpdateLeft, WriteTested, descriptor_path, extensions, first_of, mapped_path, misaligned_for, parts_of, pinned_path, too_long_for, update_record, whole_part, write_calls, zeroings}
+use Rattle.cc_pieces.specs.Locks.{RangeTestedLeft, FoundLeft, LockedLeft, LockedReadAnswered, LockedReadLeft, LockedUpdateAnswered, LockedUpdateLeft, LockedWriteAnswered, LockedWriteLeft, TestLeft, read_refused, tested_range, update_refused, no_log_error, write_refused}
+use Rattle.cc_pieces.specs.Shim.{CallsLeft, HeldPartsLeft, HoldPath, LoggedLeft, PartRead, PartRefused, PartsLeft, PathReadLeft, PinnedUpdateLeft, ReadTested, RecordedLeft, RefusedSo, ShortWriteLeft, ToldUpdateLeft, ToldWriteLeft, UpdateLeft, WriteTested, descriptor_path, extensions, first_of_two, mapped_path, misaligned_for, parts_of, pinned_path, too_long_for, update_record_of_file, whole_part, write_calls, zeroings}
 
 -- a call of a list is on the file, or on the hold that the list made
 abbrev pub IsMadeOn : File → Option ℕ → Call → Type 0
@@ -118,7 +118,7 @@ pub calm-misaligned : (path : ReadPath) (at len : ℕ) → IsCalm (misaligned_fo
 calm-misaligned Noncached at len = calm-if _ error.Unaligned refl
 calm-misaligned other at len = tt
 
-calm-first : (a b : Option CcError) → IsCalm a → IsCalm b → IsCalm (first_of a b)
+calm-first : (a b : Option CcError) → IsCalm a → IsCalm b → IsCalm (first_of_two a b)
 calm-first (Some e) b one two = one
 calm-first None b one two = two
 
@@ -126,7 +126,7 @@ calm-refuse : (b : Bool) (e : CcError) → is_calm e ≡ true → IsCalm (refuse
 calm-refuse true e calm = calm
 calm-refuse false e calm = tt
 
-calm-log : (log : Option ℕ) → IsCalm (without_log log)
+calm-log : (log : Option ℕ) → IsCalm (no_log_error log)
 calm-log None = refl
 calm-log (Some handle) = tt
 
@@ -272,9 +272,9 @@ module _ (u : Setup) (me : ℕ) (file : File) (Done : Option ℕ → List Entry 
 
   follow-logged : (id at : ℕ) (bytes : List ℕ) (handle : ℕ) (answered : Result ℕ CcError) (old new : List Entry) → LoggedLeft u me file id at bytes handle answered old new → Ended (Some id) answered old new
   follow-logged id at bytes handle answered old new (inl left) =
-      ended-refused (Some id) left.0 answered old new left.1 (f.unappended (Some id) handle (update_record file at bytes) left.0 old new left.2)
+      ended-refused (Some id) left.0 answered old new left.1 (f.unappended (Some id) handle (update_record_of_file file at bytes) left.0 old new left.2)
   follow-logged id at bytes handle answered old new (inr left) =
-      ended-after (Some id) answered old left.0 new (f.appended (Some id) handle (update_record file at bytes) left.1 old left.0 left.2)
+      ended-after (Some id) answered old left.0 new (f.appended (Some id) handle (update_record_of_file file at bytes) left.1 old left.0 left.2)
       (follow-recorded id at bytes left.1 answered left.0 new left.3)
 
   follow-told_update : (id at : ℕ) (bytes : List ℕ) (log : Option ℕ) (valid : ℕ) (answered : Result ℕ CcError) (old new : List Entry) → ToldUpdateLeft u me file id at bytes log valid answered old new → Ended (Some id) answered old new
@@ -305,7 +305,7 @@ module _ (u : Setup) (me : ℕ) (file : File) (Done : Option ℕ → List Entry 
     follow-untested range write other old new left = absurd left
 
     module _ {A : Type 0} (range : Range) (write : Bool) (Left : Result A CcError → Between) (made : (answered : Result A CcError) (old new : List Entry) → Left answered old new → Ended None answered old new) where
-      follow-admitted : (answered : Result A CcError) (old new : List Entry) → AdmittedLeft me file range write Left answered old new → Ended None answered old new
+      follow-admitted : (answered : Result A CcError) (old new : List Entry) → RangeTestedLeft me file range write Left answered old new → Ended None answered old new
       follow-admitted answered old new (inl left) = ended-refused None left.0 answered old new left.1 (follow-untested range write left.0 old new left.2)
       follow-admitted answered old new (inr left) =
           ended-after None answered old left.0 new (t.noted range write old left.0 left.1) (made answered left.0 new left.2)

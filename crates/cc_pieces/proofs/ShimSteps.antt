@@ -22,7 +22,7 @@ use Rattle.cc_effects.specs.Moments.{Between, IsIdle}
 use Rattle.cc_effects.proofs.Stretches.{idle-then, only-after, only-before}
 use Rattle.cc_effects.proofs.CallSteps.{left-after, left-before}
 use Rattle.cc_effects.proofs.NoncachedSteps.{nc-read-after, nc-read-before}
-use Rattle.cc_pieces.specs.Locks.{AdmittedLeft, FoundLeft, LockAnswered, LockedLeft, LockedReadAnswered, LockedReadLeft, LockedUpdateAnswered, LockedUpdateLeft, LockedWriteAnswered, LockedWriteLeft, TestLeft, UnlockAnswered, read_refused, tested_range, update_refused, write_refused}
+use Rattle.cc_pieces.specs.Locks.{RangeTestedLeft, FoundLeft, LockAnswered, LockedLeft, LockedReadAnswered, LockedReadLeft, LockedUpdateAnswered, LockedUpdateLeft, LockedWriteAnswered, LockedWriteLeft, TestLeft, UnlockAnswered, read_refused, tested_range, update_refused, write_refused}
 use Rattle.cc_pieces.specs.Shim.{CallsLeft, HeldPartsLeft, HoldPath, PartRead, PartRefused, PartsLeft, PathReadLeft, ReadTested, StateLeft, ToldWriteLeft, UpdateLeft, WriteTested, descriptor_path, mapped_path, misaligned_for, parts_of, pinned_path, too_long_for, whole_part, write_calls}
 
 -- ---- what others placed before
@@ -188,7 +188,7 @@ module _ (u : Setup) (me : ℕ) (new newer : List Entry) (idle : IsIdle me new n
     untested-after range write other old left = absurd left
 
     module _ {A : Type 0} (range : Range) (write : Bool) (Left : Result A CcError → Between) (longer : (answered : Result A CcError) (old : List Entry) → Left answered old new → Left answered old newer) where
-      admitted-after : (answered : Result A CcError) (old : List Entry) → AdmittedLeft me file range write Left answered old new → AdmittedLeft me file range write Left answered old newer
+      admitted-after : (answered : Result A CcError) (old : List Entry) → RangeTestedLeft me file range write Left answered old new → RangeTestedLeft me file range write Left answered old newer
       admitted-after answered old (inl left) = inl (left.0, left.1, untested-after range write left.0 old left.2)
       admitted-after answered old (inr left) = inr (left.0, left.1, longer answered left.0 left.2)
 

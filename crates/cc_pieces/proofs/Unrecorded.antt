@@ -31,7 +31,7 @@ use Rattle.cc_effects.proofs.Stretches.{each-implies}
 use Rattle.cc_records.specs.Left.{LoadLeft}
 use Rattle.cc_pieces.specs.Answered.{CallAnswered}
 use Rattle.cc_pieces.specs.Openings.{LoggedOpening, MigrationLeft, Opened, OpeningBehind, RecordedOpening, StreamOpening, first_object_of, is_record_of, opening_call, recorded_call}
-use Rattle.cc_pieces.specs.Restarts.{Restarted, refused_for}
+use Rattle.cc_pieces.specs.Restarts.{RestartsInOrder, refused_for}
 use Rattle.cc_pieces.proofs.Walks.{Keeps, Walked, walk-answered, walk-call, walk-restart, walk-settle, walked-idle, walked-only, walked-then}
 
 -- an entry is no write of the record of a stream
@@ -112,7 +112,7 @@ module _ (u : Setup) (t : ℕ) where
         walked-then (IsUnrecorded t) 0 old is.loaded new (load-unwritten {A = Option StreamRecord} s (Ok is.read) old is.loaded is.load)
         (recorded-unwritten stream is.read told is.loaded new is.opened)
 
-  restarted-unwritten : (restarts : List RestartLine) (ended : List LineReply) (old new : List Entry) → Restarted u restarts ended old new → Unwritten old new
+  restarted-unwritten : (restarts : List RestartLine) (ended : List LineReply) (old new : List Entry) → RestartsInOrder u restarts ended old new → Unwritten old new
   restarted-unwritten [] [] old new done = walked-idle (IsUnrecorded t) 0 old new done
   restarted-unwritten [] (r ∷ ended) old new done = absurd done
   restarted-unwritten (restart ∷ restarts) [] old new done = absurd done
@@ -164,7 +164,7 @@ module _ (u : Setup) (t : ℕ) where
           by false is = others me (eqb-false me 0 is)
 
   -- Behind the lines of restarts no record was written that was not before.
-  pub restarts-unrecorded : (restarts : List RestartLine) (ended : List LineReply) (old new : List Entry) → Restarted u restarts ended old new → ((me : ℕ) → me ≢ 0 → IsIdle me old new) → list_any (is_record_of t) old ≡ false → list_any (is_record_of t) new ≡ false
+  pub restarts-unrecorded : (restarts : List RestartLine) (ended : List LineReply) (old new : List Entry) → RestartsInOrder u restarts ended old new → ((me : ℕ) → me ≢ 0 → IsIdle me old new) → list_any (is_record_of t) old ≡ false → list_any (is_record_of t) new ≡ false
   restarts-unrecorded restarts ended old new done alone none = alone-unrecorded old new (restarted-unwritten restarts ended old new done) alone none
 
   -- Behind the lines of streams, numbered from one on, no record of a later stream was written that was not before.

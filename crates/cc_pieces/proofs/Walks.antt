@@ -36,13 +36,13 @@ use Rattle.cc_effects.specs.Asked.{Calls, Writes}
 use Rattle.cc_effects.specs.Calls.{CallLeft, IsDone, IsOvertaken, IsPlaced, IsRefused}
 use Rattle.cc_effects.specs.LogCalls.{AppendRefused, FlushRefused, WasFlushed}
 use Rattle.cc_effects.specs.Moments.{EachOwn, IsIdle, Others, PlacedOnly}
-use Rattle.cc_effects.specs.Noncached.{AlignedReadLeft, AlignedWriteLeft, IsPageWritten, IsTransferred, IsUntold, MisshapenLeft, PageReadsRefused, PageRefused, PagesRead, PagesWritten, ShapedReadLeft, ShapedWriteLeft, TakesOut, TransferRefused, pages_from, shape_refusal}
+use Rattle.cc_effects.specs.Noncached.{AlignedReadLeft, AlignedWriteLeft, IsPageWritten, StoreIsTransferred, IsUntold, MisshapenLeft, PageReadsRefused, PageRefused, PagesRead, PagesWritten, ShapedReadLeft, ShapedWriteLeft, TakesOut, TransferRefused, pages_from, shape_refusal}
 use Rattle.cc_effects.specs.PageWrites.{HasScanned, TickCutOff}
 use Rattle.cc_effects.specs.Places.{Works}
 use Rattle.cc_effects.specs.Repins.{UnpinLeft}
 use Rattle.cc_effects.specs.Throttle.{PostLeft}
 use Rattle.cc_effects.proofs.Stretches.{each-append, each-implies, each-others, grew-after}
-use Rattle.cc_records.specs.Left.{HasFlushed, IsUnflushed, RecordStopped, SettleLeft, SyncedRecord, SyncedSome, WroteRecord, WroteSome}
+use Rattle.cc_records.specs.Left.{StreamHasFlushed, IsUnflushed, RecordStopped, SettleLeft, SyncedRecord, SyncedSome, WroteRecord, WroteSome}
 use Rattle.cc_pieces.specs.Answered.{AppendAnswered, CallAnswered, LevelsAnswered, LogFlushAnswered, DeferAnswered, PostsAnswered, PostsLeft, PostsRefused, NcReadAnswered, NcWriteAnswered, SettleAnswered, TickAnswered, StartAnswered, CompletionAnswered, bytes_outcome}
 use Rattle.cc_pieces.specs.Bindings.{Binding, OnHold, hold_named}
 use Rattle.cc_pieces.specs.HoldLines.{HeldReadBy, HoldLine, UnpinAnswered, UnrepinLine}
@@ -328,7 +328,7 @@ module _ (u : Setup) (Stays : List Entry → Entry → Type 0) (Fits : List Entr
     walk-nc-read me at len (answer.NcRefused done cause) old new left = walk-shaped-read me at len (shape_refusal at len) (Err (done, cause)) old new left
     walk-nc-read me at len other old new left = absurd left
 
-    walk-transferred : (me page : ℕ) (bytes : List ℕ) (end : End) (old new : List Entry) → IsTransferred me file page bytes end old new → Walked Stays me old new
+    walk-transferred : (me page : ℕ) (bytes : List ℕ) (end : End) (old new : List Entry) → StoreIsTransferred me file page bytes end old new → Walked Stays me old new
     walk-transferred me page bytes end old new is =
         subst (Walked Stays me old) (sym is.grew)
         (walked-then Stays me old _ _
@@ -492,7 +492,7 @@ module _ (u : Setup) (Stays : List Entry → Entry → Type 0) (Fits : List Entr
     walk-flush : (ended : Outcome) (old new : List Entry) → CallLeft u me (call.Flush file None) ended old new → Walked Stays me old new
     walk-flush ended old new left = walk-call me (call.Flush file None) ended old new ((keeps me).on_file (call.Flush file None) file old on refl refl) left
 
-    walk-flushed : (told : FileState) (begun old new : List Entry) → HasFlushed u me file told begun old new → Walked Stays me old new
+    walk-flushed : (told : FileState) (begun old new : List Entry) → StreamHasFlushed u me file told begun old new → Walked Stays me old new
     walk-flushed told begun old new is =
         walked-then Stays me old is.stated new (walk-state (outcome.Done (reply.State told)) old is.stated is.state)
         (walked-then Stays me is.stated begun new (walked-idle Stays me is.stated begun is.idle) (walk-flush (outcome.Done reply.Unit) begun new is.flush))

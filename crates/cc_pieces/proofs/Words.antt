@@ -10,7 +10,7 @@ use Rattle.cc_entry.specs.declared.answer.Answer.TheVariants as answer
 use Rattle.cc_entry.specs.declared.entry.Entry.{Entry}
 use Rattle.cc_model.specs.Setup.{Setup}
 use Rattle.cc_effects.specs.Moments.{IsIdle}
-use Rattle.cc_pieces.specs.Bindings.{bound, pinned, hold_named}
+use Rattle.cc_pieces.specs.Bindings.{bound, bindings_pinned, hold_named}
 use Rattle.cc_pieces.specs.HoldLines.{PinnedWriteLine}
 
 pub named : (word id : ℕ) → hold_named (bound word kind.Map (answer.Given (reply.Hold id)) []) word is_map ≡ Some id
@@ -19,7 +19,7 @@ named word id = rw (eq-eqb word word refl) refl
 pub of-its-kind : (word id : ℕ) → hold_named (bound word kind.Map (answer.Given (reply.Hold id)) []) word is_pin ≡ None
 of-its-kind word id = rw (eq-eqb word word refl) refl
 
-pub named-pin : (word id : ℕ) → hold_named (pinned word (answer.Given (reply.Hold id)) (bound word kind.Map (answer.Given (reply.Hold id)) [])) word is_pin ≡ Some id
+pub named-pin : (word id : ℕ) → hold_named (bindings_pinned word (answer.Given (reply.Hold id)) (bound word kind.Map (answer.Given (reply.Hold id)) [])) word is_pin ≡ Some id
 named-pin word id = rw (eq-eqb word word refl) (rw (eq-eqb word word refl) refl)
 
 pub no-pin-write : (u : Setup) (me word : ℕ) (bytes : List ℕ) (id at : ℕ) (told : Answer) (old new : List Entry) → PinnedWriteLine u me (bound word kind.Map (answer.Given (reply.Hold id)) []) word at bytes told old new → (told ≡ answer.NoHold) × IsIdle me old new

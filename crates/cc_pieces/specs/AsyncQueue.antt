@@ -11,7 +11,7 @@ use Rattle.cc_entry.specs.declared.answer.AsyncStart.TheVariants as start
 use Rattle.cc_entry.specs.declared.error.CcError.TheVariants as error
 use Rattle.cc_script.specs.declared.script.Action.{Action}
 use Rattle.cc_script.specs.declared.script.Action.TheVariants as action
-use Rattle.cc_pieces.specs.Explained.{Answered, Given}
+use Rattle.cc_pieces.specs.Explained.{Answered, GivenToRun}
 use Rattle.cc_pieces.specs.Queue.{lines_told, risen, risen_by}
 
 -- whether an action is one at the queue of copied reads
@@ -36,8 +36,8 @@ pub record AsyncPlace : Type 0 where
   pub fulls : ℕ
 
 -- the read that a step completed
-abbrev pub read_of : AsyncDone → Numbered
-read_of done = record { id = done.id; file = done.file; at = done.at; len = done.len }
+abbrev pub numbered_read : AsyncDone → Numbered
+numbered_read done = record { id = done.id; file = done.file; at = done.at; len = done.len }
 
 -- the read of a line that was queued, in front of others; and that of a line that completed one
 abbrev pub with_queued : Action → Answer → List Numbered → List Numbered
@@ -46,7 +46,7 @@ with_queued (action.AsyncRead file at len) (answer.Started (start.Queued id)) re
 with_queued asked told reads = reads
 
 abbrev pub with_done : Action → Answer → List Numbered → List Numbered
-with_done action.Complete (answer.Completed (Some done)) reads = read_of done ∷ reads
+with_done action.Complete (answer.Completed (Some done)) reads = numbered_read done ∷ reads
 with_done asked told reads = reads
 
 -- the reads of several lines that were queued, and those that several lines completed
@@ -69,9 +69,9 @@ finds_empty (action.Complete, answer.Completed None) = true
 finds_empty other = false
 
 -- reads have the numbers of one pass, one after the other behind this one
-abbrev pub AreNumbered : ℕ → ℕ → List Numbered → Type 0
-AreNumbered me n [] = Unit {0}
-AreNumbered me n (read ∷ reads) = (read.id ≡ record { pass = me; n = suc n }) × AreNumbered me (suc n) reads
+abbrev pub ReadsAreNumbered : ℕ → ℕ → List Numbered → Type 0
+ReadsAreNumbered me n [] = Unit {0}
+ReadsAreNumbered me n (read ∷ reads) = (read.id ≡ record { pass = me; n = suc n }) × ReadsAreNumbered me (suc n) reads
 
 -- a pass's place behind a read that may be queued: it was queued under the pass's next number, or the queue was full
 abbrev pub ReadPlaced : ℕ → File → ℕ → ℕ → Answer → AsyncPlace → AsyncPlace → Type 0
@@ -83,7 +83,7 @@ ReadPlaced me file at len other before after = after ≡ before
 
 -- and behind the completion of one: it was taken, or the queue was empty
 abbrev pub CompletionPlaced : Answer → AsyncPlace → AsyncPlace → Type 0
-CompletionPlaced (answer.Completed (Some done)) before after = after ≡ record before { done = before.done ++ read_of done ∷ [] }
+CompletionPlaced (answer.Completed (Some done)) before after = after ≡ record before { done = before.done ++ numbered_read done ∷ [] }
 CompletionPlaced (answer.Completed None) before after = after ≡ record before { empties = risen before.empties }
 CompletionPlaced other before after = after ≡ before
 
@@ -91,7 +91,7 @@ CompletionPlaced other before after = after ≡ before
 -- in their order; and the two counts rose as often as the answers say.
 pub record AsyncRan (me : ℕ) (lines : List (Action × Answer)) (before after : AsyncPlace) : Type 0 where
   pub queued : after.queued ≡ before.queued ++ reads_queued lines
-  pub numbered : AreNumbered me (length before.queued) (reads_queued lines)
+  pub numbered : ReadsAreNumbered me (length before.queued) (reads_queued lines)
   pub done : after.done ≡ before.done ++ reads_done lines
   pub empties : after.empties ≡ risen_by before.empties (count_by finds_empty lines)
   pub fulls : after.fulls ≡ risen_by before.fulls (count_by finds_full lines)
@@ -100,9 +100,9 @@ pub record AsyncRan (me : ℕ) (lines : List (Action × Answer)) (before after :
 -- number of its answer, and what its lines completed, in their order; it found the queue empty at least as often as a line of
 -- its own was answered that there was none, and full at least as often as one was answered that it is. Its reads have its own
 -- numbers, from 1 on.
-pub record HasQueued (given : Given) (told : Answered) (me : ℕ) (place : AsyncPlace) : Type 0 where
+pub record HasQueued (given : GivenToRun) (told : Answered) (me : ℕ) (place : AsyncPlace) : Type 0 where
   pub queued : place.queued ≡ reads_queued (lines_told given told me)
-  pub numbered : AreNumbered me 0 place.queued
+  pub numbered : ReadsAreNumbered me 0 place.queued
   pub done : place.done ≡ reads_done (lines_told given told me)
   pub empties : count_by finds_empty (lines_told given told me) ≤ place.empties
   pub fulls : count_by finds_full (lines_told given told me) ≤ place.fulls

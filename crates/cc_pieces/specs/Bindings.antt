@@ -27,9 +27,9 @@ abbrev pub pinned_if : ℕ → Binding → Binding
 pinned_if word b = if b.word == word then record b { kind = kind.Pin } else b
 
 -- after a line that makes a pin of the map that the word names, where it is done
-abbrev pub pinned : ℕ → Answer → List Binding → List Binding
-pinned word (answer.Given (reply.Hold id)) bindings = map (pinned_if word) bindings
-pinned word other bindings = bindings
+abbrev pub bindings_pinned : ℕ → Answer → List Binding → List Binding
+bindings_pinned word (answer.Given (reply.Hold id)) bindings = map (pinned_if word) bindings
+bindings_pinned word other bindings = bindings
 
 -- the id of a binding, where the hold is of such a kind
 abbrev pub id_if : (HoldKind → Bool) → Option Binding → Option ℕ

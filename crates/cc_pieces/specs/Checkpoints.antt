@@ -22,6 +22,7 @@ use Rattle.cc_effects.specs.Moments.{IsIdle, Between}
 use Rattle.cc_effects.specs.Calls.{CallLeft}
 use Rattle.cc_effects.specs.LogCalls.{AppendLeft, LogFlushLeft}
 use Rattle.cc_pieces.specs.Shim.{CallsLeft, StateLeft}
+use Rattle.cc_model.specs.Stamps.{is_log}
 
 -- the file object of a stream that its `stream` line opens
 abbrev pub first_object : ℕ → File
@@ -40,25 +41,20 @@ abbrev pub StateAsked : Setup → ℕ → ℕ → Option FileState → Between
 StateAsked u me stream (Some state) old new = StateLeft u me (first_object stream) state old new
 StateAsked u me stream None old new = CallLeft u me (call.State (first_object stream)) (outcome.Failed error.NotCached) old new
 
--- whether a stream with this state has the log
-abbrev pub is_log : ℕ → Option ℕ → Bool
-is_log handle None = false
-is_log handle (Some other) = other == handle
-
-abbrev pub has_log : ℕ → Option FileState → Bool
-has_log handle None = false
-has_log handle (Some state) = is_log handle state.log
+abbrev pub state_has_log : ℕ → Option FileState → Bool
+state_has_log handle None = false
+state_has_log handle (Some state) = is_log handle state.log
 
 -- a stream behind others, where it has the log
-abbrev pub with_stream : ℕ → ℕ → Option FileState → List ℕ → List ℕ
-with_stream handle stream state found = if has_log handle state then found ++ stream ∷ [] else found
+abbrev pub with_stream_of_log : ℕ → ℕ → Option FileState → List ℕ → List ℕ
+with_stream_of_log handle stream state found = if state_has_log handle state then found ++ stream ∷ [] else found
 
 -- the states of the first n streams were asked, and these of them have the log
 abbrev pub StatesAsked : Setup → ℕ → ℕ → ℕ → List ℕ → Between
 StatesAsked u me handle zero found old new = (found ≡ []) × IsIdle me old new
 StatesAsked u me handle (suc n) found old new =
     (earlier : List ℕ) × (state : Option FileState) × (between : List Entry)
-    × (found ≡ with_stream handle n state earlier)
+    × (found ≡ with_stream_of_log handle n state earlier)
     × StatesAsked u me handle n earlier old between
     × StateAsked u me n state between new
 

@@ -11,7 +11,7 @@ use Rattle.cc_model.specs.Setup.{Setup}
 use Rattle.cc_effects.specs.Moments.{IsIdle}
 use Rattle.cc_pieces.specs.Served.{posted_by}
 use Rattle.cc_pieces.specs.Runs.{asked_of}
-use Rattle.cc_pieces.specs.Restarts.{Restarted}
+use Rattle.cc_pieces.specs.Restarts.{RestartsInOrder}
 use Rattle.cc_pieces.specs.Openings.{Opened}
 use Rattle.cc_pieces.specs.Phases.{PhasesRan}
 
@@ -25,7 +25,7 @@ posted_in lines answers = flat_map (λ line. posted_by line.0 line.1) (asked_of 
 
 -- what a run was given: the lines of a script, how many phases they have, how many ticks a phase has, and how many
 -- read-ahead steps at most
-pub record Given : Type 0 where
+pub record GivenToRun : Type 0 where
   pub restarts : List RestartLine
   pub streams : List StreamLine
   pub lines : List ActionLine
@@ -44,7 +44,7 @@ pub record Answered : Type 0 where
 -- then the phases ran,
 -- each caller made the calls of its lines, and no other pass placed anything; a post is no pass's. No deferred
 -- write was posted in two answers. The read-ahead worker took these requests, of all phases.
-pub record IsExplained (u : Setup) (given : Given) (told : Answered) (taken : List Request) (past : List Entry) : Type 0 where
+pub record IsExplained (u : Setup) (given : GivenToRun) (told : Answered) (taken : List Request) (past : List Entry) : Type 0 where
   pub ended : List LineReply
   pub setup : List LineReply
   pub answers : List LineReply
@@ -54,7 +54,7 @@ pub record IsExplained (u : Setup) (given : Given) (told : Answered) (taken : Li
   pub restart_lines : answered_lines ended ≡ map (λ restart. restart.line) given.restarts
   pub setup_lines : answered_lines setup ≡ map (λ stream. stream.line) given.streams
   pub answer_lines : answered_lines answers ≡ map (λ line. line.line) given.lines
-  pub restarts_ended : Restarted u given.restarts ended [] restarted
+  pub restarts_ended : RestartsInOrder u given.restarts ended [] restarted
   pub opened : Opened u given.restarts ended 0 given.streams setup restarted begun
   pub alone : (me : ℕ) → me ≢ 0 → IsIdle me [] begun
   pub ran :

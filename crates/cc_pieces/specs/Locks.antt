@@ -19,7 +19,7 @@ use Rattle.cc_model.specs.Reasons.{crosses_blocks, past_size, past_valid, refuse
 use Rattle.cc_model.specs.Setup.{Setup}
 use Rattle.cc_effects.specs.Calls.{CallLeft}
 use Rattle.cc_effects.specs.Moments.{Between, IsIdle, PlacedOnly}
-use Rattle.cc_pieces.specs.Shim.{ReadTested, StateLeft, UpdateLeft, WriteTested, first_of, misaligned_for, too_long_for}
+use Rattle.cc_pieces.specs.Shim.{ReadTested, StateLeft, UpdateLeft, WriteTested, first_of_two, misaligned_for, too_long_for}
 
 -- ---- locks
 
@@ -64,8 +64,8 @@ TestLeft me file range write (Err error.NoMemory) old new = IsIdle me old new
 TestLeft me file range write (Err other) old new = ⊥
 
 -- a call behind the test of its range, which is made where no lock conflicts
-abbrev pub AdmittedLeft : {A : Type 0} → ℕ → File → Range → Bool → (Result A CcError → Between) → Result A CcError → Between
-AdmittedLeft me file range write Left answered old new =
+abbrev pub RangeTestedLeft : {A : Type 0} → ℕ → File → Range → Bool → (Result A CcError → Between) → Result A CcError → Between
+RangeTestedLeft me file range write Left answered old new =
     ((e : CcError) × (answered ≡ Err e) × TestLeft me file range write (Err e) old new)
     ⊎ ((between : List Entry) × TestLeft me file range write (Ok tt) old between × Left answered between new)
 
@@ -73,7 +73,7 @@ AdmittedLeft me file range write Left answered old new =
 abbrev pub FoundLeft :
     {A : Type 0} → ℕ → File → Range → Bool → Option CcError → (Result A CcError → Between) → Result A CcError → Between
 FoundLeft me file range write (Some e) Left answered old new = (answered ≡ Err e) × IsIdle me old new
-FoundLeft me file range write None Left answered old new = AdmittedLeft me file range write Left answered old new
+FoundLeft me file range write None Left answered old new = RangeTestedLeft me file range write Left answered old new
 
 -- A locked call: the state of the stream is asked; what refuses the call by that state is answered first; then its range is
 -- tested, and the call is made.
@@ -90,23 +90,23 @@ LockedLeft u me file range write refused Left answered old new =
 -- ---- what refuses by the state that was told, in this order
 
 abbrev pub read_refused : ReadPath → ℕ → ℕ → FileState → Option CcError
-read_refused path at len state = first_of (too_long_for path len) (misaligned_for path at len)
+read_refused path at len state = first_of_two (too_long_for path len) (misaligned_for path at len)
 
 abbrev pub write_refused : ℕ → ℕ → FileState → Option CcError
 write_refused at len state =
-    first_of
+    first_of_two
     (refuse_if (nat_lt 1048576 len) (error.TooLong 1048576))
     (refuse_if (nat_lt (state.sizes.valid + 67108864) at) (error.GapTooLong 67108864))
 
-abbrev pub without_log : Option ℕ → Option CcError
-without_log None = Some (error.NoLog 255)
-without_log (Some handle) = None
+abbrev pub no_log_error : Option ℕ → Option CcError
+no_log_error None = Some (error.NoLog 255)
+no_log_error (Some handle) = None
 
 abbrev pub update_refused : ℕ → ℕ → FileState → Option CcError
 update_refused at len state =
-    first_of
+    first_of_two
     (refuse_if (crosses_blocks at len) error.ViewBoundary)
-    (first_of (without_log state.log) (first_of (past_size state.sizes.size (at + len)) (past_valid state.sizes.valid at)))
+    (first_of_two (no_log_error state.log) (first_of_two (past_size state.sizes.size (at + len)) (past_valid state.sizes.valid at)))
 
 -- ---- the locked calls
 

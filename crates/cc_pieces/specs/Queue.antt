@@ -16,13 +16,13 @@ use Rattle.cc_entry.specs.declared.reply.Reply.TheVariants as reply
 use Rattle.cc_script.specs.declared.script.Action.{Action}
 use Rattle.cc_script.specs.declared.script.Action.TheVariants as action
 use Rattle.cc_effects.specs.Moments.{own}
-use Rattle.cc_pieces.specs.Explained.{Answered, Given}
+use Rattle.cc_pieces.specs.Explained.{Answered, GivenToRun}
 use Rattle.cc_pieces.specs.Phases.{read_ahead_worker}
 use Rattle.cc_pieces.specs.Runs.{asked_of}
 
 -- A pass's place at the queue: the requests that it pushed and those that it took, the oldest first, and at least how often
 -- it found the queue empty, and full.
-pub record QueuePlace : Type 0 where
+pub record AheadQueuePlace : Type 0 where
   pub pushed : List Request
   pub taken : List Request
   pub empties : ℕ
@@ -105,20 +105,20 @@ risen_by count zero = count
 risen_by count (suc times) = risen (risen_by count times)
 
 -- a pass's place behind a line that asks for read-ahead: the request that is answered was pushed, or the queue was full
-abbrev pub AskPlaced : Answer → QueuePlace → QueuePlace → Type 0
+abbrev pub AskPlaced : Answer → AheadQueuePlace → AheadQueuePlace → Type 0
 AskPlaced (answer.Given (reply.Ahead (Some request))) before after = after ≡ record before { pushed = before.pushed ++ request ∷ [] }
 AskPlaced (answer.Refused error.QueueFull) before after = after ≡ record before { fulls = risen before.fulls }
 AskPlaced other before after = after ≡ before
 
 -- and behind a step: the request was taken, or the queue was empty
-abbrev pub StepPlaced : Option Request → QueuePlace → QueuePlace → Type 0
-StepPlaced (Some request) before after = after ≡ record before { taken = before.taken ++ request ∷ [] }
-StepPlaced None before after = after ≡ record before { empties = risen before.empties }
+abbrev pub AheadStepPlaced : Option Request → AheadQueuePlace → AheadQueuePlace → Type 0
+AheadStepPlaced (Some request) before after = after ≡ record before { taken = before.taken ++ request ∷ [] }
+AheadStepPlaced None before after = after ≡ record before { empties = risen before.empties }
 
 -- What lines of a pass, each with its answer, did at its place, and left in the journal: what was pushed there is what its
 -- done calls for read-ahead answered, in their order; one request was taken for each step that does not say that there was
 -- none, among them those of its steps' entries in their order; and the two counts rose as often as the answers say.
-pub record PlaceRan (me : ℕ) (lines : List (Action × Answer)) (before after : QueuePlace) (old new : List Entry) : Type 0 where
+pub record PlaceRan (me : ℕ) (lines : List (Action × Answer)) (before after : AheadQueuePlace) (old new : List Entry) : Type 0 where
   pub during : List Entry
   pub grew : new ≡ during ++ old
   pub pushed : after.pushed ≡ before.pushed ++ reverse (requests_asked (own me during))
@@ -130,12 +130,12 @@ pub record PlaceRan (me : ℕ) (lines : List (Action × Answer)) (before after :
   pub fulls : after.fulls ≡ risen_by before.fulls (fulls_told (answers_to is_ask lines))
 
 -- the lines of a caller in a run, each with what it was answered: their replies are behind those of the restarts and the streams
-abbrev pub lines_told : Given → Answered → ℕ → List (Action × Answer)
+abbrev pub lines_told : GivenToRun → Answered → ℕ → List (Action × Answer)
 lines_told given told me =
     asked_of (λ line. line.caller == me) given.lines (drop (length given.streams) (drop (length given.restarts) told.replies))
 
 -- what the read-ahead steps of a pass were answered: the worker's steps are those that a run tells, a caller's its lines
-abbrev pub steps_told : Given → Answered → ℕ → List Answer
+abbrev pub steps_told : GivenToRun → Answered → ℕ → List Answer
 steps_told given told me =
     if me == read_ahead_worker then map (λ reply. reply.answer) told.stepped else answers_to is_step (lines_told given told me)
 
@@ -143,7 +143,7 @@ steps_told given told me =
 -- found the queue full at least as often as its lines were answered so; it took one request for each step that does not say
 -- that there was none, among them those of its steps' entries in their order, and found the queue empty at least as often as
 -- a step says so. The worker took these requests.
-pub record IsQueued (given : Given) (told : Answered) (taken : List Request) (places : ℕ → QueuePlace) (past : List Entry)
+pub record RequestsAreQueued (given : GivenToRun) (told : Answered) (taken : List Request) (places : ℕ → AheadQueuePlace) (past : List Entry)
     : Type 0 where
   pub pushed : (me : ℕ) → (places me).pushed ≡ reverse (requests_asked (own me past))
   pub fulls : (me : ℕ) → fulls_told (answers_to is_ask (lines_told given told me)) ≤ (places me).fulls

@@ -40,11 +40,11 @@ pub record Restarts (u : Setup) (handle : ℕ) (told : Answer) (old new : List E
   pub room : HadNoRoom u 4 told old new
 
 -- the lines of the restarts, each with its reply, left pieces that follow each other
-abbrev pub Restarted : Setup → List RestartLine → List LineReply → Between
-Restarted u [] [] old new = IsIdle 0 old new
-Restarted u (restart ∷ restarts) (reply ∷ replies) old new =
-    (between : List Entry) × Restarts u restart.handle reply.answer old between × Restarted u restarts replies between new
-Restarted u restarts replies old new = ⊥
+abbrev pub RestartsInOrder : Setup → List RestartLine → List LineReply → Between
+RestartsInOrder u [] [] old new = IsIdle 0 old new
+RestartsInOrder u (restart ∷ restarts) (reply ∷ replies) old new =
+    (between : List Entry) × Restarts u restart.handle reply.answer old between × RestartsInOrder u restarts replies between new
+RestartsInOrder u restarts replies old new = ⊥
 
 -- by what the restart of a log was refused
 abbrev pub refusal_told : Answer → Option CcError

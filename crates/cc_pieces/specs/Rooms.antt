@@ -12,18 +12,18 @@ use Rattle.cc_model.specs.Room.{room_in}
 use Rattle.cc_effects.specs.Moments.{AtSome, Between}
 
 -- at a moment of the line the journal had so many entries, and less room than this
-abbrev pub WasFull : Setup → ℕ → ℕ → Between
-WasFull u limit entries old new = AtSome (λ moment. (entries ≡ length moment) × (room_in u moment 0 < limit)) old new
+abbrev pub JournalWasFull : Setup → ℕ → ℕ → Between
+JournalWasFull u limit entries old new = AtSome (λ moment. (entries ≡ length moment) × (room_in u moment 0 < limit)) old new
 
 -- what a queued read was completed with says that the journal was full only where it was
 abbrev pub ToldNoRoom : {A : Type 0} → Setup → ℕ → Result A CcError → Between
-ToldNoRoom u limit (Err (error.JournalFull entries)) old new = WasFull u limit entries old new
+ToldNoRoom u limit (Err (error.JournalFull entries)) old new = JournalWasFull u limit entries old new
 ToldNoRoom u limit other old new = Unit {0}
 
 -- the answer says that the journal was full only where it was
 abbrev pub HadNoRoom : Setup → ℕ → Answer → Between
-HadNoRoom u limit (answer.Refused (error.JournalFull entries)) old new = WasFull u limit entries old new
-HadNoRoom u limit (answer.NcRefused done (error.JournalFull entries)) old new = WasFull u limit entries old new
+HadNoRoom u limit (answer.Refused (error.JournalFull entries)) old new = JournalWasFull u limit entries old new
+HadNoRoom u limit (answer.NcRefused done (error.JournalFull entries)) old new = JournalWasFull u limit entries old new
 HadNoRoom u limit (answer.Completed (Some done)) old new = ToldNoRoom u limit done.answer old new
 HadNoRoom u limit other old new = Unit {0}
 

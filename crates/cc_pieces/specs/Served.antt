@@ -8,7 +8,7 @@ use Rattle.cc_script.specs.declared.script.Action.TheVariants as action
 use Rattle.cc_model.specs.Setup.{Setup}
 use Rattle.cc_effects.specs.Moments.{Between}
 use Rattle.cc_entry.specs.declared.hold.HoldKind.TheVariants as kind
-use Rattle.cc_pieces.specs.Bindings.{Binding, bound, pinned}
+use Rattle.cc_pieces.specs.Bindings.{Binding, bound, bindings_pinned}
 use Rattle.cc_pieces.specs.HoldLines.{PinMappedLine, HeldReadLine, PinnedWriteLine, StampLine, UnpinLine, RepinLine, UnrepinLine}
 use Rattle.cc_pieces.specs.HoldLines.{ChainReadLine, ChainStoreLine, ChainDoneLine, ChainAbortLine}
 use Rattle.cc_pieces.specs.Answered.{CallAnswered, FlushAnswered, AppendAnswered, LogFlushAnswered, DeferAnswered, PostsAnswered, TickAnswered, StepAnswered, LevelsAnswered, SettleAnswered, NcReadAnswered, NcWriteAnswered, StartAnswered, CompletionAnswered}
@@ -83,7 +83,7 @@ Served u me bindings other told old new = ⊥
 abbrev pub bindings_after : Action → Answer → List Binding → List Binding
 bindings_after (action.Map file at len word) told bindings = bound word kind.Map told bindings
 bindings_after (action.PinRead file at len word exclusive) told bindings = bound word kind.Pin told bindings
-bindings_after (action.PinMapped word exclusive) told bindings = pinned word told bindings
+bindings_after (action.PinMapped word exclusive) told bindings = bindings_pinned word told bindings
 bindings_after (action.PreparePin file at len word zero exclusive) told bindings = bound word kind.Pin told bindings
 bindings_after (action.Repin word made) told bindings = bound made kind.Repin told bindings
 bindings_after (action.MdlRead file at len word) told bindings = bound word kind.ReadChain told bindings

@@ -149,9 +149,9 @@ misaligned_for Noncached at len = if nat_lt 0 (at % 4096) || nat_lt 0 (len % 409
 misaligned_for other at len = None
 
 -- the first of two refusals
-abbrev pub first_of : Option CcError → Option CcError → Option CcError
-first_of (Some e) other = Some e
-first_of None other = other
+abbrev pub first_of_two : Option CcError → Option CcError → Option CcError
+first_of_two (Some e) other = Some e
+first_of_two None other = other
 
 -- a test of the shim's own refuses so, or finds no memory
 abbrev pub RefusedSo : {T : Type 0} → CcError → Result T CcError → Type 0
@@ -200,8 +200,8 @@ WriteTested u me file at bytes true answered old new = RefusedSo (error.TooLong 
 WriteTested u me file at bytes false answered old new = ShortWriteLeft u me file at bytes answered old new
 
 -- the log's record of an update: the stream, the place, the length and the bytes
-abbrev pub update_record : File → ℕ → List ℕ → List ℕ
-update_record file at bytes = file.stream ∷ (little_endian 8 at ++ (little_endian 4 (length bytes) ++ bytes))
+abbrev pub update_record_of_file : File → ℕ → List ℕ → List ℕ
+update_record_of_file file at bytes = file.stream ∷ (little_endian 8 at ++ (little_endian 4 (length bytes) ++ bytes))
 
 -- room in the journal, or memory, was wanting, and nothing else
 abbrev pub IsForWant : CcError → Type 0
@@ -220,10 +220,10 @@ RecordedLeft u me id at bytes lsn (Err e) old new =
 -- an update, given the log that it was told: the record is appended first
 abbrev pub LoggedLeft : Setup → ℕ → File → ℕ → ℕ → List ℕ → ℕ → Result ℕ CcError → Between
 LoggedLeft u me file id at bytes handle answered old new =
-    ((e : CcError) × (answered ≡ Err e) × AppendLeft u me handle (update_record file at bytes) (Err e) old new)
+    ((e : CcError) × (answered ≡ Err e) × AppendLeft u me handle (update_record_of_file file at bytes) (Err e) old new)
     ⊎ ((between : List Entry)
     × (lsn : ℕ)
-    × AppendLeft u me handle (update_record file at bytes) (Ok lsn) old between
+    × AppendLeft u me handle (update_record_of_file file at bytes) (Ok lsn) old between
     × RecordedLeft u me id at bytes lsn answered between new)
 
 -- without a log, and past the valid data length, nothing is appended

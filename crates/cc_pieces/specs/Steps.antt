@@ -110,10 +110,10 @@ abbrev pub deferral_in : Answer → Option ℕ
 deferral_in (answer.Deferred id) = Some id
 deferral_in other = None
 
-abbrev pub deferrals_of : List ActionLine → List LineReply → List (Option ℕ)
-deferrals_of (line ∷ lines) (reply ∷ replies) =
-    if is_defer line.action then deferral_in reply.answer ∷ deferrals_of lines replies else deferrals_of lines replies
-deferrals_of lines replies = []
+abbrev pub deferrals_of_lines : List ActionLine → List LineReply → List (Option ℕ)
+deferrals_of_lines (line ∷ lines) (reply ∷ replies) =
+    if is_defer line.action then deferral_in reply.answer ∷ deferrals_of_lines lines replies else deferrals_of_lines lines replies
+deferrals_of_lines lines replies = []
 
 -- whether a deferred write was posted
 abbrev pub posts_it : ℕ → Entry → Bool
@@ -128,11 +128,11 @@ was_posted past (Some (Some id)) = list_any (posts_it id) past
 
 -- the deferrals of a script by its replies, of which those of the streams are the first
 abbrev pub deferrals_by : List StreamLine → List ActionLine → List LineReply → List (Option ℕ)
-deferrals_by streams lines replies = deferrals_of lines (drop (length streams) replies)
+deferrals_by streams lines replies = deferrals_of_lines lines (drop (length streams) replies)
 
 -- As many routines come back, in their order, and one is posted exactly where the deferral of its line was; one that was
 -- not is as it was handed in.
-pub record PostsLeft {Q : Type 0} (posted : Q → Bool) (deferrals : List (Option ℕ)) (past : List Entry) (old new : List Q)
+pub record RoutinesLeft {Q : Type 0} (posted : Q → Bool) (deferrals : List (Option ℕ)) (past : List Entry) (old new : List Q)
     : Type 0 where
   pub counted : length new ≡ length old
   pub each : (k : ℕ) (routine : Q) → slice_get new k ≡ Some routine →

@@ -30,10 +30,10 @@ ghost use Rattle.cc_model.specs.Touches.{is_mapped};
 ghost use Rattle.cc_model.specs.Good.{IsGood};
 ghost use Rattle.cc_effects.specs.Moments.{IsIdle};
 ghost use Rattle.cc_effects.specs.Noncached.{pages_from};
-ghost use Rattle.cc_pieces.specs.Bindings.{Binding, bound, pinned, hold_named, OnHold};
+ghost use Rattle.cc_pieces.specs.Bindings.{Binding, bound, bindings_pinned, hold_named, OnHold};
 ghost use Rattle.cc_pieces.specs.HoldLines.{HeldReadLine, PinnedWriteLine};
 ghost use Rattle.cc_pieces.specs.Openings.{Opened, is_record_of};
-ghost use Rattle.cc_pieces.specs.Restarts.{Restarted};
+ghost use Rattle.cc_pieces.specs.Restarts.{RestartsInOrder};
 ghost use Rattle.cc_pieces.specs.Locks.{TestLeft, tested_range};
 ghost use Rattle.cc_pieces.specs.PlainPages.{ArePlainPages};
 ghost use Rattle.cc_pieces.specs.PlainReads.{IsPlainRead};
@@ -138,7 +138,7 @@ pub fn words_name_holds()
     ensures made { (word id : ℕ) → hold_named (bound word kind.Map (answer.Given (reply.Hold id)) []) word is_map ≡ Some id }
     ensures of_its_kind { (word id : ℕ) → hold_named (bound word kind.Map (answer.Given (reply.Hold id)) []) word is_pin ≡ None }
     ensures pinned { (word id : ℕ) →
-        hold_named (pinned word (answer.Given (reply.Hold id)) (bound word kind.Map (answer.Given (reply.Hold id)) [])) word is_pin
+        hold_named (bindings_pinned word (answer.Given (reply.Hold id)) (bound word kind.Map (answer.Given (reply.Hold id)) [])) word is_pin
         ≡ Some id }
     ensures refused { (word : ℕ) (e : CcError) → hold_named (bound word kind.Map (answer.Refused e) []) word is_map ≡ None }
 {}
@@ -158,7 +158,7 @@ pub fn lines_without_hold_leave_nothing()
 /// spells, where the disk told its pages.
 pub fn no_record_is_written_before_its_line()
     ensures restarts { (u : Setup) (t : ℕ) (restarts : List RestartLine) (ended : List LineReply) (old new : List Entry) →
-        Restarted u restarts ended old new → ((me : ℕ) → me ≢ 0 → IsIdle me old new) →
+        RestartsInOrder u restarts ended old new → ((me : ℕ) → me ≢ 0 → IsIdle me old new) →
         list_any (is_record_of t) old ≡ false → list_any (is_record_of t) new ≡ false }
     ensures streams { (u : Setup) (t : ℕ) (restarts : List RestartLine) (ended : List LineReply) (s : ℕ)
         (streams : List StreamLine) (replies : List LineReply) (old new : List Entry) →

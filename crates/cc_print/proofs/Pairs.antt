@@ -5,7 +5,7 @@ use Rattle.std.specs.Str.{IsAscii}
 use Rattle.std.proofs.lemmas.Bool.{and_parts, eqb-true}
 use Rattle.std.proofs.lemmas.Bool.Decides.{nat_tests}
 use Rattle.std.proofs.lemmas.Str.Ascii.{IsAscii-nil, IsAscii-cons}
-use Rattle.cc_entry.specs.Runs.{alone}
+use Rattle.cc_entry.specs.Runs.{byte_alone}
 use Rattle.cc_print.specs.Words.{hex_pair, more_runs}
 use Rattle.cc_print.specs.declared.words.TheConstants.{PAIRS}
 
@@ -55,9 +55,9 @@ pub pair_ascii : (byte : ℕ) → byte < 256 → IsAscii (hex_pair byte)
 pair_ascii byte lt = pair_before byte [] lt IsAscii-nil
 
 -- bytes, each behind a comma
-pub each_ascii : (bytes : List ℕ) → ((k : ℕ) → slice_index bytes k < 256) → IsAscii (more_runs (map alone bytes))
+pub each_ascii : (bytes : List ℕ) → ((k : ℕ) → slice_index bytes k < 256) → IsAscii (more_runs (map byte_alone bytes))
 each_ascii [] fits = IsAscii-nil
 each_ascii (byte ∷ bytes) fits =
     let lt : byte < 256 = fits 0 in
-    let behind = more_runs (map alone bytes) in
+    let behind = more_runs (map byte_alone bytes) in
     IsAscii-cons 44 (hex_pair byte ++ behind) (omega arith) (pair_before byte behind lt (each_ascii bytes (λ k. fits (suc k))))

@@ -11,5 +11,5 @@ reply_at replies (Some place) = slice_get replies place
 reply_at replies None = None
 
 -- the places lead from each line to its first reply
-abbrev pub IsIndex : List LineReply → BTreeMap ℕ ℕ → Type 0
-IsIndex replies places = (line : ℕ) → reply_at replies (get nat_cmp places line) ≡ find (λ reply. reply.line == line) replies
+abbrev pub IsReplyIndex : List LineReply → BTreeMap ℕ ℕ → Type 0
+IsReplyIndex replies places = (line : ℕ) → reply_at replies (get nat_cmp places line) ≡ find (λ reply. reply.line == line) replies

@@ -11,7 +11,7 @@ use Rattle.cc_script.specs.declared.script.StreamLine.{StreamLine}
 use Rattle.cc_script.specs.declared.script.Script.{Script}
 use Rattle.cc_print.specs.Append.{◌&◌}
 use Rattle.cc_print.specs.declared.table.TableRow.{TableRow}
-use Rattle.cc_print.specs.declared.summary.Counts.{Counts}
+use Rattle.cc_print.specs.declared.summary.AnswerCounts.{AnswerCounts}
 use Rattle.cc_print.specs.declared.summary.Kind.{Kind}
 use Rattle.cc_print.specs.declared.summary.Kind.TheVariants as kind
 use Rattle.cc_print.specs.Answers.{answer_text}
@@ -43,37 +43,37 @@ is_ok answer.NoHold = false
 is_ok other = true
 
 -- an answer is of a kind
-abbrev pub is_of : Kind → Answer → Bool
-is_of kind.Ok told = is_ok told
-is_of kind.Refused told = is_refused told
-is_of kind.NotNow told = is_not_now told
-is_of kind.Faulted told = is_faulted told
+abbrev pub is_answer_of_kind : Kind → Answer → Bool
+is_answer_of_kind kind.Ok told = is_ok told
+is_answer_of_kind kind.Refused told = is_refused told
+is_answer_of_kind kind.NotNow told = is_not_now told
+is_answer_of_kind kind.Faulted told = is_faulted told
 
 -- a reply of a kind
-abbrev pub is_told : Kind → Option LineReply → Bool
-is_told k (Some reply) = is_of k reply.answer
-is_told k None = false
+abbrev pub is_reply_of_kind : Kind → Option LineReply → Bool
+is_reply_of_kind k (Some reply) = is_answer_of_kind k reply.answer
+is_reply_of_kind k None = false
 
 -- a line was answered in this way, as the text has it
 unfoldable pub was_told : Kind → List LineReply → ℕ → Bool
-was_told k replies line = is_told k (find (λ reply. reply.line == line) replies)
+was_told k replies line = is_reply_of_kind k (find (λ reply. reply.line == line) replies)
 
 -- how many actions were answered in this way
-abbrev pub count_of : Kind → List LineReply → List ActionLine → ℕ
-count_of k replies [] = 0
-count_of k replies (action ∷ lines) =
-    if was_told k replies action.line then suc (count_of k replies lines) else count_of k replies lines
+abbrev pub count_of_kind : Kind → List LineReply → List ActionLine → ℕ
+count_of_kind k replies [] = 0
+count_of_kind k replies (action ∷ lines) =
+    if was_told k replies action.line then suc (count_of_kind k replies lines) else count_of_kind k replies lines
 
 -- how many in each way
-unfoldable pub counts_of : List LineReply → List ActionLine → Counts
+unfoldable pub counts_of : List LineReply → List ActionLine → AnswerCounts
 counts_of replies lines = record {
-  ok = count_of kind.Ok replies lines;
-  refused = count_of kind.Refused replies lines;
-  not_now = count_of kind.NotNow replies lines;
-  faulted = count_of kind.Faulted replies lines;
+  ok = count_of_kind kind.Ok replies lines;
+  refused = count_of_kind kind.Refused replies lines;
+  not_now = count_of_kind kind.NotNow replies lines;
+  faulted = count_of_kind kind.Faulted replies lines;
 }
 
-abbrev pub counts_text : Counts → List ℕ
+abbrev pub counts_text : AnswerCounts → List ℕ
 counts_text counts =
     codes "ok " & decimal counts.ok
     & codes " refused " & decimal counts.refused
@@ -81,7 +81,7 @@ counts_text counts =
     & codes " faulted " & decimal counts.faulted
 
 -- the line of these numbers
-abbrev pub summary_line : ℕ → Counts → ℕ → ℕ → List ℕ
+abbrev pub summary_line : ℕ → AnswerCounts → ℕ → ℕ → List ℕ
 summary_line n counts entries dirty =
     codes "gen " & decimal n & codes ": " & counts_text counts
     & codes " entries " & decimal entries & codes " dirty " & decimal dirty & newline

@@ -2,7 +2,7 @@
 
 ghost use Rattle.std.specs.Prelude.{◌≡◌, ◌==◌, IfOk, option_copied};
 ghost use Rattle.std.specs.List.{find};
-ghost use Rattle.cc_print.specs.Replies.{IsIndex};
+ghost use Rattle.cc_print.specs.Replies.{IsReplyIndex};
 
 use cc_entry::LineReply;
 use std::alloc::{AllocError, Global};
@@ -12,7 +12,7 @@ use std::marker::Model;
 /// The place of the first reply of each line, in one pass from the last reply on: a reply takes the
 /// place of the later ones of its line.
 fn first_places(alloc: Global, replies: &[LineReply]) -> Result<BTreeMap<u32, usize>, AllocError>
-    ensures { IfOk result (λ places. IsIndex replies.now places) }
+    ensures { IfOk result (λ places. IsReplyIndex replies.now places) }
 {
     let mut places = BTreeMap::new(alloc);
     for i in (0..replies.len()).rev() {
@@ -31,13 +31,13 @@ pub(crate) struct Replies<'a> {
 impl<'a> Model for Replies<'a> {
     ghost use Rattle.std.specs.Prelude.{List};
     ghost use Rattle.cc_entry.specs.declared.answer.LineReply.{LineReply};
-    ghost use Rattle.cc_print.specs.Replies.{IsIndex};
+    ghost use Rattle.cc_print.specs.Replies.{IsReplyIndex};
 
     ghost Value = { List LineReply };
 
     ghost view = { λ r. r.items.now };
 
-    ghost invariant = { λ r. IsIndex r.items.now r.places };
+    ghost invariant = { λ r. IsReplyIndex r.items.now r.places };
 }
 
 impl<'a> Replies<'a> {

@@ -1,7 +1,7 @@
 //! The summary of a generated script's run: one line of numbers.
 
 ghost use Rattle.std.specs.Prelude.{◌≡◌, ◌++◌, IfOk, OnOk, string_bytes};
-ghost use Rattle.cc_print.specs.Summary.{is_of, was_told, count_of, counts_of, counts_text, summary_line, summary_of};
+ghost use Rattle.cc_print.specs.Summary.{is_answer_of_kind, was_told, count_of_kind, counts_of, counts_text, summary_line, summary_of};
 
 use crate::replies::Replies;
 use crate::table::TableRow;
@@ -21,7 +21,7 @@ pub(crate) enum Kind {
 impl Kind {
     // Whether an answer is of the kind; `no hold` is of none.
     fn is_of(self, answer: &Answer) -> bool
-        ensures { result ≡ is_of self answer.now }
+        ensures { result ≡ is_answer_of_kind self answer.now }
     {
         match self {
             Kind::Ok => !matches!(
@@ -51,7 +51,7 @@ impl Kind {
 
     // How many lines were answered so.
     fn count(self, lines: &[ActionLine], replies: &Replies) -> usize
-        ensures { result ≡ count_of self replies.now lines.now }
+        ensures { result ≡ count_of_kind self replies.now lines.now }
     {
         let mut count = 0;
         for action in lines {
@@ -65,7 +65,7 @@ impl Kind {
 
 /// How many lines were answered in each way.
 #[derive(Clone, Copy)]
-pub(crate) struct Counts {
+pub(crate) struct AnswerCounts {
     pub(crate) ok: usize,
     pub(crate) refused: usize,
     pub(crate) not_now: usize,
@@ -73,10 +73,10 @@ pub(crate) struct Counts {
 }
 
 #[tactic(auto, unfolding(crate::specs::Summary::counts_of))]
-fn counts_of(lines: &[ActionLine], replies: &Replies) -> Counts
+fn counts_of(lines: &[ActionLine], replies: &Replies) -> AnswerCounts
     ensures { result ≡ counts_of replies.now lines.now }
 {
-    Counts {
+    AnswerCounts {
         ok: Kind::Ok.count(lines, replies),
         refused: Kind::Refused.count(lines, replies),
         not_now: Kind::NotNow.count(lines, replies),
@@ -84,10 +84,10 @@ fn counts_of(lines: &[ActionLine], replies: &Replies) -> Counts
     }
 }
 
-fn push_counts(text: &mut String, counts: Counts) -> Result<(), AllocError>
+fn push_counts(text: &mut String, counts: AnswerCounts) -> Result<(), AllocError>
     ensures { OnOk result (string_bytes text.new ≡ string_bytes text.old ++ counts_text counts) }
 {
-    let Counts {
+    let AnswerCounts {
         ok,
         refused,
         not_now,
@@ -102,7 +102,7 @@ fn push_counts(text: &mut String, counts: Counts) -> Result<(), AllocError>
 fn push_summary(
     text: &mut String,
     n: u64,
-    counts: Counts,
+    counts: AnswerCounts,
     entries: usize,
     dirty: usize,
 ) -> Result<(), AllocError>

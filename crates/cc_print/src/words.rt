@@ -1,7 +1,7 @@
 //! The words that lines are made of: names, files, pages, numbers that may be absent, bytes.
 
 ghost use Rattle.std.specs.Prelude.{◌≡◌, ◌≤◌, ◌+◌, ◌*◌, ◌++◌, OnOk, IsAscii, codes, decimal, string_bytes, length, map, take};
-ghost use Rattle.cc_entry.specs.Runs.{alone};
+ghost use Rattle.cc_entry.specs.Runs.{byte_alone};
 ghost use Rattle.cc_print.specs.Words.{name_at, file_text, page_text, word_if, number_if, span_if, hex_pair, run_text, more_runs, bytes_text};
 
 use cc_entry::{Bytes, FileId, PageId, Run, Runs, Span, StreamId};
@@ -156,7 +156,7 @@ fn put_each(out: &mut [u8], bytes: &[u8]) -> usize
     requires { 3 * length bytes.now ≤ length out.old }
     ensures end { result ≡ 3 * length bytes.now }
     ensures len { length out.new ≡ length out.old }
-    ensures front { take result out.new ≡ more_runs (map alone bytes.now) }
+    ensures front { take result out.new ≡ more_runs (map byte_alone bytes.now) }
 {
     let mut end = 0;
     for &byte in bytes {
@@ -170,7 +170,7 @@ fn put_each(out: &mut [u8], bytes: &[u8]) -> usize
 fn push_few(text: &mut String, bytes: &[u8]) -> Result<(), AllocError>
     requires { length bytes.now ≤ 128 }
     ensures { OnOk result
-        (string_bytes text.new ≡ string_bytes text.old ++ more_runs (map alone bytes.now)) }
+        (string_bytes text.new ≡ string_bytes text.old ++ more_runs (map byte_alone bytes.now)) }
 {
     let mut digits = [0; 3 * FEW];
     let end = put_each(&mut digits, bytes);
@@ -180,7 +180,7 @@ fn push_few(text: &mut String, bytes: &[u8]) -> Result<(), AllocError>
 // Bytes, each behind a comma.
 fn push_each(text: &mut String, bytes: &[u8]) -> Result<(), AllocError>
     ensures { OnOk result
-        (string_bytes text.new ≡ string_bytes text.old ++ more_runs (map alone bytes.now)) }
+        (string_bytes text.new ≡ string_bytes text.old ++ more_runs (map byte_alone bytes.now)) }
 {
     let mut left = bytes;
     while !left.is_empty() {

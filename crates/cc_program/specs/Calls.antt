@@ -10,7 +10,7 @@ use Rattle.cc_pieces.specs.Explained.{Answered}
 use Rattle.cc_script.specs.declared.script.Script.{Script}
 use Rattle.cc_traits.specs.Disk.{Disk}
 use Rattle.cc_traits.specs.Log.{Log}
-use Rattle.cc_program.specs.Begun.{IsBegun}
+use Rattle.cc_program.specs.Begun.{RunIsBegun}
 use Rattle.cc_program.specs.Disks.{DisksLeft}
 use Rattle.cc_program.specs.Ends.{Input, IsAsked}
 use Rattle.cc_program.specs.Logs.{LogsLeft}
@@ -37,7 +37,7 @@ pub record ProgramCall (D L : Type 0) : Type 0 where
 -- the one that the words ask for.
 pub record HasClauses {D L : Type 0} (told : D → Option Disk) (faults : D → ℕ) (log_told : L → Option Log) (log_faults : L → ℕ)
     (call : ProgramCall D L) : Type 0 where
-  pub restarted : IsBegun told faults log_told log_faults call.input call.script call.told.replies call.past call.status
+  pub restarted : RunIsBegun told faults log_told log_faults call.input call.script call.told.replies call.past call.status
       call.disks call.disks_begun call.logs call.logs_begun
   pub good : (u : Setup) → IsSetupOf told faults call.script call.disks_begun call.logs_begun u → IsGood u call.past
   pub explained : IfSome call.script (λ script. IsExplainedBy (mode_in call.input.words)

@@ -7,7 +7,7 @@ use Rattle.cc_script.specs.declared.script.Script.{Script}
 use Rattle.cc_script.specs.Grammar.{script_of}
 use Rattle.cc_command.specs.Words.{mode_in, reads_source}
 use Rattle.cc_program.specs.Disks.{Pairwise}
-use Rattle.cc_program.specs.Ends.{Input, Output, GaveAll, IsGenerated, TookMany, has_devices}
+use Rattle.cc_program.specs.Ends.{Input, ProgramOutput, GaveAll, IsGenerated, TookMany, has_devices}
 use Rattle.cc_program.specs.Setups.{run_disks, run_logs}
 
 -- The words ask for the source's script, and these bytes, no more than a script may have, come from it without a fault: it
@@ -57,7 +57,7 @@ TooFewAlways i status =
 
 -- A script of the grammar, or of a number, with a disk for each stream, each log that a stream names and a routine for each
 -- deferral, over a sink that does not fail and takes something wherever there are bytes, is 0.
-abbrev pub Completes : Input → Output → ℕ → Type 0
+abbrev pub Completes : Input → ProgramOutput → ℕ → Type 0
 Completes i o status =
     (script : Script) → IsFound i script → has_devices i.disks i.logs i.posts script ≡ true →
     o.faults_after ≡ o.faults → o.stalls_after ≡ o.stalls → EndsWith status 0

@@ -18,8 +18,8 @@ abbrev pub Pairwise : {D : Type 0} → (ℕ → D → D → Type 0) → List D �
 Pairwise {D} R old new = (s : ℕ) (before after : D) → slice_get old s ≡ Some before → slice_get new s ≡ Some after → R s before after
 
 -- a disk that tells its pages has gone with its stream: it holds each page's image, where that is known
-abbrev pub WentWith : {D : Type 0} → (D → Option Disk) → List Entry → ℕ → D → D → Type 0
-WentWith told past s before after = Both (told before) (told after) (HasGone (history past s))
+abbrev pub DiskWentWith : {D : Type 0} → (D → Option Disk) → List Entry → ℕ → D → D → Type 0
+DiskWentWith told past s before after = Both (told before) (told after) (HasGone (history past s))
 
 -- its record page has gone with the journal: it holds what the last write of the stream's record spelled, where that ended
 -- well, and its opening content where there was none
@@ -30,7 +30,7 @@ RecordWentWith told past s before after = Both (told before) (told after) (Recor
 -- others are as they were.
 pub record DisksAre {D : Type 0} (told : D → Option Disk) (past : List Entry) (old new : List D) : Type 0 where
   pub count : length new ≡ length old
-  pub went : Pairwise (WentWith told past) (run_disks old) (run_disks new)
+  pub went : Pairwise (DiskWentWith told past) (run_disks old) (run_disks new)
   pub records : Pairwise (RecordWentWith told past) (run_disks old) (run_disks new)
   pub rest : drop 16 new ≡ drop 16 old
 

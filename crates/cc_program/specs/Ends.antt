@@ -3,7 +3,7 @@ use Rattle.std.specs.Prelude.{◌≡◌, ℕ, ◌+◌, ◌<◌, ◌≤◌, nat_l
 use Rattle.std.specs.List.{list_all}
 use Rattle.cc_entry.specs.declared.answer.LineReply.{LineReply}
 use Rattle.cc_entry.specs.declared.entry.Entry.{Entry}
-use Rattle.cc_traits.specs.Told.{Both, IfTold, Took}
+use Rattle.cc_traits.specs.Told.{Both, IfTold, SinkTook}
 use Rattle.cc_command.specs.NoRun.{fault_text, status_of}
 use Rattle.cc_command.specs.Taken.{TookPart}
 use Rattle.cc_script.specs.declared.script.Script.{Script}
@@ -55,7 +55,7 @@ input told faults given ended words old new disks logs posts =
 
 -- What came out of it: what the sink told of the bytes that it took, before and after, and its counts of
 -- faults and of calls that took nothing where there were bytes.
-pub record Output : Type 0 where
+pub record ProgramOutput : Type 0 where
   pub printed : Option (List ℕ)
   pub printed_after : Option (List ℕ)
   pub faults : ℕ
@@ -64,7 +64,7 @@ pub record Output : Type 0 where
   pub stalls_after : ℕ
 
 -- the output to a sink that tells so
-abbrev pub output : {K : Type 0} → (K → Option (List ℕ)) → (K → ℕ) → (K → ℕ) → K → K → Output
+abbrev pub output : {K : Type 0} → (K → Option (List ℕ)) → (K → ℕ) → (K → ℕ) → K → K → ProgramOutput
 output told faults stalls old new =
     record {
       printed = told old;
@@ -82,7 +82,7 @@ pub record GaveAll (i : Input) (bytes : List ℕ) : Type 0 where
   pub all : IfTold i.left (λ told. bytes ≡ told)
 
 -- all of the source's bytes spell the script in the mode of the words
-pub record Spells (i : Input) (script : Script) : Type 0 where
+pub record SpellsScript (i : Input) (script : Script) : Type 0 where
   pub bytes : List ℕ
   pub given : GaveAll i bytes
   pub spelled : script_of (mode_in i.words) bytes ≡ Ok script
@@ -106,20 +106,20 @@ abbrev pub TookNoMore : Input → Type 0
 TookNoMore i = length i.given_after ≤ length i.given + 16777217
 
 -- whether a log is one of so many, where one is named
-abbrev pub has_log : ℕ → Option ℕ → Bool
-has_log logs None = true
-has_log logs (Some handle) = nat_lt handle logs
+abbrev pub is_log_given : ℕ → Option ℕ → Bool
+is_log_given logs None = true
+is_log_given logs (Some handle) = nat_lt handle logs
 
 -- whether so many disks, logs and post routines are enough for a script: there is a disk for each stream, each log that a
 -- stream or a restart names, and a routine for each line that defers a write
 abbrev pub has_devices : ℕ → ℕ → ℕ → Script → Bool
 has_devices disks logs posts script =
     nat_le (length script.streams) disks
-    && (list_all (λ stream. has_log logs stream.log) script.streams
+    && (list_all (λ stream. is_log_given logs stream.log) script.streams
     && (list_all (λ restart. nat_lt restart.handle logs) script.restarts && nat_le (defer_lines script.lines) posts))
 
 -- the words ask for the source's script, which was taken to its end without a fault
-pub record IsRead (i : Input) : Type 0 where
+pub record SourceIsRead (i : Input) : Type 0 where
   pub words : reads_source i.words ≡ true
   pub end : IfTold i.left_after (λ rest. rest ≡ [])
   pub few : TookFew i
@@ -133,7 +133,7 @@ pub record IsGenerated (i : Input) (script : Script) : Type 0 where
 
 -- the script is the one that the words ask for: all of the source's bytes spell it, or it is generated
 abbrev pub IsAsked : Input → Script → Type 0
-IsAsked i script = (IsRead i × Spells i script) ⊎ IsGenerated i script
+IsAsked i script = (SourceIsRead i × SpellsScript i script) ⊎ IsGenerated i script
 
 -- the script that the words ask for has more streams than there are disks, names a log that there is not, or defers more
 -- writes than there are routines
@@ -145,32 +145,32 @@ pub record HasTooFewDevices (i : Input) : Type 0 where
 -- why no run was made; want of memory may come at any point
 abbrev pub IsCause : Input → NoRun → Type 0
 IsCause i no_run.Usage = is_command i.words ≡ false
-IsCause i (no_run.Syntax line) = IsRead i × IsWrong i line
+IsCause i (no_run.Syntax line) = SourceIsRead i × IsWrong i line
 IsCause i no_run.ReadFault = (reads_source i.words ≡ true) × (i.faults < i.faults_after) × TookFew i
 IsCause i no_run.TooLong = (reads_source i.words ≡ true) × TookMany i
 IsCause i no_run.NoMemory = Unit {0}
 IsCause i no_run.TooFewDevices = HasTooFewDevices i
 
 -- the sink failed, or took nothing where there were bytes
-abbrev pub HasFailed : Output → Type 0
-HasFailed o = (o.faults < o.faults_after) ⊎ (o.stalls < o.stalls_after)
+abbrev pub SinkHasFailed : ProgramOutput → Type 0
+SinkHasFailed o = (o.faults < o.faults_after) ⊎ (o.stalls < o.stalls_after)
 
 -- the sink took a text whole
-abbrev pub IsPut : Output → List ℕ → Type 0
-IsPut o text = Both o.printed o.printed_after (Took text)
+abbrev pub IsTextPut : ProgramOutput → List ℕ → Type 0
+IsTextPut o text = Both o.printed o.printed_after (SinkTook text)
 
 -- the sink took the front of a text
-abbrev pub IsPartPut : Output → List ℕ → Type 0
+abbrev pub IsPartPut : ProgramOutput → List ℕ → Type 0
 IsPartPut o text = Both o.printed o.printed_after (TookPart text)
 
 -- The text of the fault was taken whole, or its front where the sink failed. Where memory was wanting,
 -- the front of some text was.
-abbrev pub IsFaultPut : Output → NoRun → Type 0
+abbrev pub IsFaultPut : ProgramOutput → NoRun → Type 0
 IsFaultPut o no_run.NoMemory = (other : NoRun) × IsPartPut o (fault_text other)
-IsFaultPut o why = IsPut o (fault_text why) ⊎ (HasFailed o × IsPartPut o (fault_text why))
+IsFaultPut o why = IsTextPut o (fault_text why) ⊎ (SinkHasFailed o × IsPartPut o (fault_text why))
 
 -- no run was made
-pub record IsRefused (i : Input) (o : Output) (status : ℕ) : Type 0 where
+pub record ProgramIsRefused (i : Input) (o : ProgramOutput) (status : ℕ) : Type 0 where
   pub why : NoRun
   pub status_is : status ≡ status_of why
   pub cause : IsCause i why
@@ -178,11 +178,11 @@ pub record IsRefused (i : Input) (o : Output) (status : ℕ) : Type 0 where
 
 -- A run was made, and its text printed: whole at status 0; at 4 a part of it, as the sink failed; at 6 a
 -- part of it, for want of memory.
-pub record IsPrinted (o : Output) (text : List ℕ) (status : ℕ) : Type 0 where
+pub record IsPrinted (o : ProgramOutput) (text : List ℕ) (status : ℕ) : Type 0 where
   pub status_is : (status ≡ 0) ⊎ ((status ≡ 4) ⊎ (status ≡ 6))
-  pub whole : status ≡ 0 → IsPut o text
+  pub whole : status ≡ 0 → IsTextPut o text
   pub part : IsPartPut o text
-  pub failed : status ≡ 4 → HasFailed o
+  pub failed : status ≡ 4 → SinkHasFailed o
 
 -- what a run prints: its text, and of a generated script its summary
 abbrev pub printed_by : Option Command → Script → List LineReply → List Entry → List ℕ
@@ -191,19 +191,19 @@ printed_by (Some (command.Generate number)) script replies journal =
 printed_by other script replies journal = text_of script replies journal (table_of (reverse journal))
 
 -- a run was made of the script that the words ask for
-pub record IsRun (i : Input) (o : Output) (script : Script) (replies : List LineReply) (journal : List Entry) (status : ℕ) : Type 0 where
+pub record IsProgramRun (i : Input) (o : ProgramOutput) (script : Script) (replies : List LineReply) (journal : List Entry) (status : ℕ) : Type 0 where
   pub asked : IsAsked i script
   pub enough : has_devices i.disks i.logs i.posts script ≡ true
   pub printed : IsPrinted o (printed_by (command_of i.words) script replies journal) status
 
 -- How the program ended: without a run it gives back no script, reply or entry; with one, the script.
-abbrev pub IsEnded : Input → Output → Option Script → List LineReply → List Entry → ℕ → Type 0
-IsEnded i o None replies journal status = (replies ≡ []) × (journal ≡ []) × IsRefused i o status
-IsEnded i o (Some script) replies journal status = IsRun i o script replies journal status
+abbrev pub ProgramIsEnded : Input → ProgramOutput → Option Script → List LineReply → List Entry → ℕ → Type 0
+ProgramIsEnded i o None replies journal status = (replies ≡ []) × (journal ≡ []) × ProgramIsRefused i o status
+ProgramIsEnded i o (Some script) replies journal status = IsProgramRun i o script replies journal status
 
 -- some run of the program ended so
-pub record HasEnded (i : Input) (o : Output) (status : ℕ) : Type 0 where
+pub record ProgramHasEnded (i : Input) (o : ProgramOutput) (status : ℕ) : Type 0 where
   pub script : Option Script
   pub replies : List LineReply
   pub journal : List Entry
-  pub ended : IsEnded i o script replies journal status
+  pub ended : ProgramIsEnded i o script replies journal status

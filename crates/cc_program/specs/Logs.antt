@@ -6,7 +6,7 @@ use Rattle.cc_entry.specs.declared.entry.Entry.{Entry}
 use Rattle.cc_traits.specs.Log.{Log}
 use Rattle.cc_traits.specs.Told.{Both}
 use Rattle.cc_model.specs.Logs.{flushed_to}
-use Rattle.cc_log.specs.Turn.{Holds, appended}
+use Rattle.cc_log.specs.Turn.{HoldsLogEntries, appended}
 use Rattle.cc_turns.specs.Log.{FileStands, log_failures}
 use Rattle.cc_turns.specs.Standing.{LogAtFirst}
 use Rattle.cc_program.specs.Disks.{Pairwise, HaveRisen}
@@ -14,14 +14,14 @@ use Rattle.cc_program.specs.Setups.{run_logs}
 
 -- A log that tells its entries has, behind those that it was handed in with, what the run appended to it, in order, and
 -- is durable up to where the run flushed it.
-abbrev pub LogWent : {L : Type 0} → (L → Option Log) → List Entry → ℕ → L → L → Type 0
-LogWent told past handle before after = Both (told before) (told after) (Holds (appended past handle) (flushed_to past handle))
+abbrev pub LogWentWith : {L : Type 0} → (L → Option Log) → List Entry → ℕ → L → L → Type 0
+LogWentWith told past handle before after = Both (told before) (told after) (HoldsLogEntries (appended past handle) (flushed_to past handle))
 
 -- As many logs come back, in their order. Those of the run have gone so with their handles, and the others are as they
 -- were.
 pub record LogsAre {L : Type 0} (told : L → Option Log) (past : List Entry) (old new : List L) : Type 0 where
   pub count : length new ≡ length old
-  pub went : Pairwise (LogWent told past) (run_logs old) (run_logs new)
+  pub went : Pairwise (LogWentWith told past) (run_logs old) (run_logs new)
   pub rest : drop 4 new ≡ drop 4 old
 
 -- the count of faults of each log of the run rose by just the failures of it that the past shows

@@ -6,14 +6,14 @@ use Rattle.cc_entry.specs.declared.entry.Entry.{Entry}
 use Rattle.cc_script.specs.declared.script.Script.{Script}
 use Rattle.cc_command.specs.Words.{is_command}
 use Rattle.cc_command.specs.Taken.{WasTaken}
-use Rattle.cc_program.specs.Ends.{Input, Output, IsEnded, TookNoMore}
+use Rattle.cc_program.specs.Ends.{Input, ProgramOutput, ProgramIsEnded, TookNoMore}
 use Rattle.cc_program.specs.Complete.{EndsWith, SyntaxAlways, TooLongAlways, TooLongTold, TooFewAlways, Completes}
 
 -- The program came to its end, with this status, over what went into it and came out of it.
-pub record HasMain (i : Input) (o : Output) (script : Option Script) (replies : List LineReply) (journal : List Entry)
+pub record HasMain (i : Input) (o : ProgramOutput) (script : Option Script) (replies : List LineReply) (journal : List Entry)
     (status : ℕ) : Type 0 where
   -- with a run, or without one: what is given back, what was printed, and the cause of the status
-  pub ended : IsEnded i o script replies journal status
+  pub ended : ProgramIsEnded i o script replies journal status
   -- the statuses that are sure to come, but for want of memory
   pub usage : is_command i.words ≡ false → EndsWith status 1
   pub syntax : SyntaxAlways i status

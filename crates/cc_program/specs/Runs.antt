@@ -4,14 +4,14 @@ use Rattle.cc_entry.specs.declared.answer.LineReply.{LineReply}
 use Rattle.cc_entry.specs.declared.entry.Entry.{Entry}
 use Rattle.cc_entry.specs.declared.place.Request.{Request}
 use Rattle.cc_model.specs.Setup.{Setup}
-use Rattle.cc_pieces.specs.Explained.{Answered, Given, IsExplained}
+use Rattle.cc_pieces.specs.Explained.{Answered, GivenToRun, IsExplained}
 use Rattle.cc_pieces.specs.Steps.{IsSteppedThrough}
 use Rattle.cc_script.specs.declared.script.Mode.{Mode}
 use Rattle.cc_script.specs.declared.script.Mode.TheVariants as mode
 use Rattle.cc_script.specs.declared.script.Script.{Script}
 
 -- what a script gives a run
-abbrev pub given_of : Script → Given
+abbrev pub given_of : Script → GivenToRun
 given_of script = record {
   restarts = script.restarts;
   streams = script.streams;

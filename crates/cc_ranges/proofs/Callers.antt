@@ -5,7 +5,7 @@ use Rattle.std.proofs.lemmas.Bool.{ltb-false}
 use Rattle.cc_entry.specs.declared.error.CcError.{CcError}
 use Rattle.cc_entry.specs.declared.error.CcError.TheVariants as error
 use Rattle.cc_effects.specs.Noncached.{shape_refusal}
-use Rattle.cc_turns.specs.Standing.{Held, Standing, nothing}
+use Rattle.cc_turns.specs.Standing.{TurnsHeld, Standing, nothing}
 use Rattle.cc_turns.specs.Takes.{Takes, with_book, with_device, without_book, without_device}
 use Rattle.cc_writes.specs.Hands.{Went}
 use Rattle.cc_writes.specs.Fetch.{CanCall, WentOn}
@@ -26,8 +26,8 @@ went-both w v x y z s free first second went given = record {
         ∙ (ap (λ (a : Standing). without_device (without_book a)) went.same
         ∙ (ap (λ (a : Standing). without_device (without_book (record a { seen = y.seen; others = y.others; in_flight = a.in_flight }))) second.same
         ∙ (ap (λ (a : Standing). without_device (without_book (record (with_book s a) { seen = y.seen; others = y.others }))) first.same
-        ∙ (ap (λ (h : Held). record w { held = record h { device = None; book = None }; seen = y.seen; others = y.others; device_turns = turns }) free
-        ∙ ap (λ (h : Held). record w { held = h; seen = y.seen; others = y.others; device_turns = turns }) (sym free)))))
+        ∙ (ap (λ (h : TurnsHeld). record w { held = record h { device = None; book = None }; seen = y.seen; others = y.others; device_turns = turns }) free
+        ∙ ap (λ (h : TurnsHeld). record w { held = h; seen = y.seen; others = y.others; device_turns = turns }) (sym free)))))
 
 pub went-then : (w v x : Standing) → WentOn w v → WentOn v x → WentOn w x
 went-then w v x first second = record {

@@ -19,7 +19,7 @@ use Rattle.cc_model.specs.Ranges.{span_has}
 use Rattle.cc_model.specs.Residency.{residents, is_resident}
 use Rattle.cc_model.specs.Touches.{touched, is_dirty, dirty_pages}
 use Rattle.cc_ranges.specs.Dirty.{IsCleanFrom}
-use Rattle.cc_ranges.specs.Residents.{IsOut, IsLeast}
+use Rattle.cc_ranges.specs.Residents.{SpanIsOut, IsLeastResident}
 
 all-fail : (test : ℕ → Bool) (ns : List ℕ) → ((n : ℕ) → is_among n ns ≡ true → test n ≡ false) → list_all (λ n. not (test n)) ns ≡ true
 all-fail test [] none = refl
@@ -27,7 +27,7 @@ all-fail test (n ∷ ns) none = and_from _ _ (ap not (none n (or_left _ _ (eq-eq
 
 module _ (h : List Effect) (span : Option Range) where
   -- none of its pages is among those that are resident
-  pub all-out : IsOut h span → list_any (span_has span) (residents h) ≡ false
+  pub all-out : SpanIsOut h span → list_any (span_has span) (residents h) ≡ false
   all-out out = go (list_any (span_has span) (residents h)) refl
     where
       go : (b : Bool) → list_any (span_has span) (residents h) ≡ b → list_any (span_has span) (residents h) ≡ false
@@ -36,7 +36,7 @@ module _ (h : List Effect) (span : Option Range) where
           absurd (cc (out found.at found.passes, found.among))
       go false none = none
 
-  module _ (page : ℕ) (clean : IsCleanFrom h span 0) (least : IsLeast h span page) where
+  module _ (page : ℕ) (clean : IsCleanFrom h span 0) (least : IsLeastResident h span page) where
     from-first : (q : ℕ) → 0 ≤ q
     from-first q = omega arith
 
@@ -70,7 +70,7 @@ module _ (h : List Effect) (span : Option Range) where
     }
 
 -- and is what a purge asks for that nothing refuses
-pub asked-out : (past : List Entry) (me s : ℕ) (file : File) (span : Option Range) (page : ℕ) → is_admitted (call.Purge file span) s past ≡ true → s ≡ file.stream → IsCleanFrom (history past s) span 0 → IsLeast (history past s) span page → asks_out me (call.Purge file span) (record { stream = s; page = page }) past ≡ true
+pub asked-out : (past : List Entry) (me s : ℕ) (file : File) (span : Option Range) (page : ℕ) → is_admitted (call.Purge file span) s past ≡ true → s ≡ file.stream → IsCleanFrom (history past s) span 0 → IsLeastResident (history past s) span page → asks_out me (call.Purge file span) (record { stream = s; page = page }) past ≡ true
 asked-out past me s file span page admitted here clean least =
     and_from (is_admitted (call.Purge file span) s past) _ admitted
     (and_from _ _ (and_from (file.stream == s) (span_has span page) (eq-eqb file.stream s (sym here)) least.in_span) (next-out (history past s) span page clean least))

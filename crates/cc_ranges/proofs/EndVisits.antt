@@ -30,7 +30,7 @@ use Rattle.cc_step.specs.Step.{StandUnder, is_answered}
 use Rattle.cc_step.proofs.Reserved.{reserved-done, reserved-failed}
 use Rattle.cc_turns.specs.Standing.{Standing, holds}
 use Rattle.cc_turns.specs.Journal.{JournalStands}
-use Rattle.cc_turns.specs.Takes.{Adds, IsOneEvent, without_journal, may_be_of}
+use Rattle.cc_turns.specs.Takes.{AddsEvent, IsOneEvent, without_journal, may_be_of}
 use Rattle.cc_writes.specs.Hands.{HasBook, IsAtRest, WentWith}
 use Rattle.cc_writes.proofs.Owing.{reserved-page_out}
 use Rattle.cc_writes.proofs.Placing.{unneeded-call}
@@ -39,7 +39,7 @@ use Rattle.cc_writes.proofs.Quiet.{history-kept, stands-same, book-after}
 use Rattle.cc_writes.proofs.Placed.{quiet-page}
 use Rattle.cc_dirty.specs.declared.row.Row.{Row}
 use Rattle.cc_ranges.specs.Stores.{places_kept}
-use Rattle.cc_ranges.specs.Ends.{MayFinishHere, IsOut, IsTidied, IsEnded, HasTidied, HasEndedWrite, HasFailedSince, HasFailedWrite, MayFailHere, write_done, write_failed}
+use Rattle.cc_ranges.specs.Ends.{MayFinishHere, PageOutAtMost, IsTidied, WriteIsEnded, HasTidied, HasEndedWrite, HasFailedSince, HasFailedWrite, MayFailHere, write_done, write_failed}
 use Rattle.cc_ranges.proofs.WriteFinishing.{good-unwritten, stored-owes, finish-others, fails-others}
 
 -- the next call of a pass that owes the end of a write gives that place back
@@ -56,18 +56,18 @@ after-failure : (past : List Entry) (pass nth stream : ℕ) (it : Call) (e : CcE
 after-failure past pass nth stream it e here owes = one-less _ _ _ (owes-one past pass owes) (reserved-failed past pass nth stream it e here)
 
 -- a page that goes out leaves what is reserved
-out-reserved : (pass : ℕ) (page : Page) (tidied past : List Entry) → IsOut pass page tidied → reserved_in (tidied ++ past) ≡ reserved_in past
+out-reserved : (pass : ℕ) (page : Page) (tidied past : List Entry) → PageOutAtMost pass page tidied → reserved_in (tidied ++ past) ≡ reserved_in past
 out-reserved pass page [] past only = refl
 out-reserved pass page (e ∷ []) past only = ap (λ (x : Entry). reserved_in (x ∷ past)) only ∙ reserved-page_out pass page past
 out-reserved pass page (e ∷ (other ∷ more)) past only = absurd only
 
 -- it is one event
-out-event : (pass : ℕ) (page : Page) (tidied : List Entry) → IsOut pass page tidied → IsOneEvent tidied
+out-event : (pass : ℕ) (page : Page) (tidied : List Entry) → PageOutAtMost pass page tidied → IsOneEvent tidied
 out-event pass page [] only = tt
 out-event pass page (e ∷ []) only = tt
 out-event pass page (e ∷ (other ∷ more)) only = absurd only
 
-out-own : (pass : ℕ) (page : Page) (tidied : List Entry) (me : ℕ) → pass ≡ me → IsOut pass page tidied → AllByRecursion (λ e. may_be_of me e ≡ true) tidied
+out-own : (pass : ℕ) (page : Page) (tidied : List Entry) (me : ℕ) → pass ≡ me → PageOutAtMost pass page tidied → AllByRecursion (λ e. may_be_of me e ≡ true) tidied
 out-own pass page [] me same only = tt
 out-own pass page (e ∷ []) me same only = (subst (λ (x : Entry). may_be_of me x ≡ true) (sym only) (eq-eqb pass me same), tt)
 out-own pass page (e ∷ (other ∷ more)) me same only = absurd only
@@ -83,7 +83,7 @@ kept-most false = omega arith
 
 -- What the pass gives after the end, and how it goes on.
 pub record EndVisit {Q : Type 0} (posted : Q → Bool) (w v : Standing) (file : File) (page : Page) (flight : ℕ) (c : BookState) (k : JournalState Q) (Left : Type 0) : Type 0 where
-  pub adds : Adds v k.entries
+  pub adds : AddsEvent v k.entries
   pub journal : JournalStands posted (without_journal k v) k
   pub book : HasBook (without_journal k v) page.stream c
   pub rest : IsAtRest (without_journal k v) page.stream
@@ -146,7 +146,7 @@ module _ {Q : Type 0} (posted : Q → Bool) (w v : Standing) (file : File) (page
             (after-store j.entries pass (suc (calls_of j.entries pass)) page.stream its reply.Unit refl refl owes);
       }
 
-      out-quiet : (tidied : List Entry) → IsOut pass page tidied → (t : Turn) → holds (record w.held { journal = true }) t ≡ false → is_quiet t tidied ≡ true
+      out-quiet : (tidied : List Entry) → PageOutAtMost pass page tidied → (t : Turn) → holds (record w.held { journal = true }) t ≡ false → is_quiet t tidied ≡ true
       out-quiet [] only t free = is_quiet-none t
       out-quiet (e ∷ []) only t free =
           subst (λ (x : Entry). is_quiet t (x ∷ []) ≡ true) (sym only)
@@ -195,7 +195,7 @@ module _ {Q : Type 0} (posted : Q → Bool) (w v : Standing) (file : File) (page
               front = j.entries;
               grows = vis.grows;
               tidied = is.tidied;
-              only = subst (λ (n : ℕ). IsOut n page is.tidied) me is.only;
+              only = subst (λ (n : ℕ). PageOutAtMost n page is.tidied) me is.only;
               out = λ one idle. subst (λ (n : ℕ). is.tidied ≡ entry.PageOut n page ∷ []) me (is.out (kept-one kept (sym flight ∙ one)) idle);
               placed = entries-tidied;
             },
@@ -204,7 +204,7 @@ module _ {Q : Type 0} (posted : Q → Bool) (w v : Standing) (file : File) (page
         }
 
       -- and it was done
-      module _ (c : BookState) (k : JournalState Q) (stream : c.stream ≡ b.stream) (is : IsEnded w.setup pass file page c j k) where
+      module _ (c : BookState) (k : JournalState Q) (stream : c.stream ≡ b.stream) (is : WriteIsEnded w.setup pass file page c j k) where
         abbrev last : Entry
         last = write_done pass file page j.entries
 

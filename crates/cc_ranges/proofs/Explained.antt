@@ -16,7 +16,7 @@ use Rattle.cc_entry.specs.declared.reply.Reply.TheVariants as reply
 use Rattle.cc_book.specs.Stored.{store_done}
 use Rattle.cc_effects.specs.Asked.{Calls, makes_way, may_take_out}
 use Rattle.cc_effects.specs.Moments.{own, IsIdle, Others, EachOwn}
-use Rattle.cc_effects.specs.Noncached.{IsTransferred, IsPageWritten, TakesOut, TransferRefused, bytes_stored}
+use Rattle.cc_effects.specs.Noncached.{StoreIsTransferred, IsPageWritten, TakesOut, TransferRefused, bytes_stored}
 use Rattle.cc_effects.proofs.Stretches.{each-append, each-others, own-append, own-others}
 use Rattle.cc_model.specs.Conditions.{MayFinish}
 use Rattle.cc_model.specs.History.{history}
@@ -29,8 +29,8 @@ use Rattle.cc_writes.specs.Ways.{IsAtWork}
 use Rattle.cc_writes.specs.Transfers.{IsFinished}
 use Rattle.cc_writes.proofs.OneVisit.{went-number}
 use Rattle.cc_writes.proofs.Works.{work-grown}
-use Rattle.cc_ranges.specs.Ends.{IsOut, HasTidied, HasFinished, write_done, write_failed}
-use Rattle.cc_ranges.specs.Pages.{FinishedLeft, PutLeft, IsGivenUp, IsUnwritten}
+use Rattle.cc_ranges.specs.Ends.{PageOutAtMost, HasTidied, HasFinished, write_done, write_failed}
+use Rattle.cc_ranges.specs.Pages.{FinishedLeft, ReadyWriteLeft, IsGivenUp, IsUnwritten}
 use Rattle.cc_ranges.specs.Stores.{HasStored}
 use Rattle.cc_ranges.proofs.WriteFinishing.{finish-others}
 use Rattle.cc_ranges.proofs.Goods.{stored-end}
@@ -72,7 +72,7 @@ module _ (n : ℕ) (w x : Standing) (file : File) (page : Page) (bytes : List �
       ∙ (ap (λ (s : ℕ). entry.WriteBegin me its ∷ entry.Call me number (Some s) it (outcome.Done reply.Unit) ∷ stored.front) (sym here)
       ∙ ap (λ (past : List Entry). entry.WriteBegin me its ∷ entry.Call me number (Some file.stream) it (outcome.Done reply.Unit) ∷ past) at.grew))
 
-  pub transferred-so : (end : End) (seen : List Entry) → IsFinished x page end false seen → IsTransferred me file page.page bytes end begun seen
+  pub transferred-so : (end : End) (seen : List Entry) → IsFinished x page end false seen → StoreIsTransferred me file page.page bytes end begun seen
   transferred-so end seen is = record {
     nth = number;
     earlier = at.during;
@@ -107,7 +107,7 @@ module _ (n : ℕ) (w x : Standing) (file : File) (page : Page) (bytes : List �
         or-right true is = refl
         or-right false is = is
 
-    out-each : (tidied later : List Entry) → IsOut me page tidied → Others me later → EachOwn me (TakesOut me file page.page z.seen) (tidied ++ later) z.seen
+    out-each : (tidied later : List Entry) → PageOutAtMost me page tidied → Others me later → EachOwn me (TakesOut me file page.page z.seen) (tidied ++ later) z.seen
     out-each [] later only others = each-others me (TakesOut me file page.page z.seen) later z.seen others
     out-each (e ∷ []) later only others = (
       (λ mine. (
@@ -118,7 +118,7 @@ module _ (n : ℕ) (w x : Standing) (file : File) (page : Page) (bytes : List �
     )
     out-each (e ∷ (other ∷ more)) later only others = absurd only
 
-    out-once : (tidied later : List Entry) → IsOut me page tidied → Others me later → length (own me (tidied ++ later)) ≤ 1
+    out-once : (tidied later : List Entry) → PageOutAtMost me page tidied → Others me later → length (own me (tidied ++ later)) ≤ 1
     out-once [] later only others = rw (own-others me later others) (omega arith)
     out-once (e ∷ []) later only others = rw (only, eq-eqb me me refl, own-others me later others) (omega arith)
     out-once (e ∷ (other ∷ more)) later only others = absurd only
@@ -150,8 +150,8 @@ module _ (n : ℕ) (w x : Standing) (file : File) (page : Page) (bytes : List �
         out : HasTidied z page ended.then_was.seen
         out = ended.tidied
 
-        only : IsOut me page out.tidied
-        only = subst (λ (k : ℕ). IsOut k page out.tidied) number-is out.only
+        only : PageOutAtMost me page out.tidied
+        only = subst (λ (k : ℕ). PageOutAtMost k page out.tidied) number-is out.only
 
         others : Others me out.grows.later
         others = subst (λ (k : ℕ). Others k out.grows.later) number-is out.grows.others
@@ -191,7 +191,7 @@ module _ (n : ℕ) (w x : Standing) (file : File) (page : Page) (bytes : List �
   page-wanted seen is = (is.then_was.seen, transferred-so how.NoMemory is.then_was.seen is.finished, subst (λ (m : ℕ). IsIdle m is.then_was.seen seen) (went-number n w x went) is.idle)
 
   -- what follows the store leaves what the writing of the page does
-  pub put-left : (size : ℕ) → is_the_page page (store_of x.seen x.number) ≡ true → size ≡ size_of (history stored.front page.stream) → 4096 * page.page < size → (answer : Result ℕ CcError) (seen : List Entry) → FinishedLeft x file page (min (size - 4096 * page.page) 4096) answer seen → PutLeft w file page.page bytes answer begun seen
+  pub put-left : (size : ℕ) → is_the_page page (store_of x.seen x.number) ≡ true → size ≡ size_of (history stored.front page.stream) → 4096 * page.page < size → (answer : Result ℕ CcError) (seen : List Entry) → FinishedLeft x file page (min (size - 4096 * page.page) 4096) answer seen → ReadyWriteLeft w file page.page bytes answer begun seen
   put-left size stored-is sized below (Ok count) seen left =
       page-written stored-is x.in_flight left.1.then_was left.1.went left.1.finished count seen
       (left.0 ∙ (bytes-counted size page.page below ∙ ap (λ (k : ℕ). (stored_range page.page k).to - 4096 * page.page) sized)) left.1.ended

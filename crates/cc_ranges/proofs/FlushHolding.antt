@@ -31,7 +31,7 @@ use Rattle.cc_model.specs.Setup.{Setup}
 use Rattle.cc_model.specs.Turns.{Device, is_quiet}
 use Rattle.cc_turns.specs.Transfers.{synced}
 use Rattle.cc_turns.specs.Disk.{DiskStands, opening_of}
-use Rattle.cc_turns.specs.Standing.{Standing, Held, DiskAtFirst, nothing}
+use Rattle.cc_turns.specs.Standing.{Standing, TurnsHeld, DiskAtFirst, nothing}
 use Rattle.cc_turns.specs.Takes.{Takes, with_book, without_book}
 use Rattle.cc_turns.proofs.DiskGrows.{open_of-quiet}
 use Rattle.cc_turns.proofs.Taking.{disk_kept, transfer_kept}
@@ -42,11 +42,11 @@ use Rattle.cc_writes.specs.Ways.{WasAdmitted}
 use Rattle.cc_effects.proofs.Begun.{ascend-none, ascend-then, none-behind, none-idle, none-then}
 use Rattle.cc_writes.proofs.Others.{under_way-on, some-on}
 use Rattle.cc_writes.proofs.Resting.{is-held}
-use Rattle.cc_writes.specs.Calls.{IsFullWriting, MayFaultInWriting, PageLeft}
-use Rattle.cc_writes.specs.Writes.{HasBoth, HasTransferred, WantedMemory}
+use Rattle.cc_writes.specs.Calls.{IsFullWriting, MayFaultInWriting, PageStepLeft}
+use Rattle.cc_writes.specs.Writes.{HasBoth, HasTransferred, WorkWantedMemory}
 use Rattle.cc_writes.proofs.Halting.{given-up}
 use Rattle.cc_writes.proofs.OneVisit.{went-then}
-use Rattle.cc_ranges.specs.Flush.{IsFlushing, IsAtPage, IsAtSync, IsAtEnd, IsSyncTold, IsFullRound, RoundBegins, RoundLeft, round_of}
+use Rattle.cc_ranges.specs.Flush.{IsFlushing, FlushIsAtPage, IsAtSync, IsAtEnd, IsSyncTold, IsFullFlushRound, RoundBegins, FlushRoundLeft, flush_round_of}
 use Rattle.cc_ranges.specs.declared.flush.Round.{Round}
 use Rattle.cc_ranges.specs.declared.flush.Round.TheVariants as round
 use Rattle.cc_ranges.specs.Settled.{IsSettledAll}
@@ -64,7 +64,7 @@ asks-page file span s page past admitted here has =
     and_from (is_admitted (call.Flush file span) s past) _ admitted (and_from (file.stream == s) (span_has span page) (eq-eqb file.stream s (sym here)) has)
 
 -- a page was written for it, or it failed
-pub round-left : (u : Setup) (w : Standing) (file : File) (span : Option Range) (page : ℕ) (written : Result Call CcError) (begun new : List Entry) → IsAtPage u w.number file span page begun w.seen → PageLeft u w.number (call.Flush file span) written begun new → IfOk written (λ again. HasTransferred w (record { stream = file.stream; page = page }) how.Good false new) → RoundLeft u w.number file span (round_of written page) begun new
+pub round-left : (u : Setup) (w : Standing) (file : File) (span : Option Range) (page : ℕ) (written : Result Call CcError) (begun new : List Entry) → FlushIsAtPage u w.number file span page begun w.seen → PageStepLeft u w.number (call.Flush file span) written begun new → IfOk written (λ again. HasTransferred w (record { stream = file.stream; page = page }) how.Good false new) → FlushRoundLeft u w.number file span (flush_round_of written page) begun new
 round-left u w file span page (Ok again) begun new at left shown =
     subst (λ (n : ℕ). IsFlushing w.number file span n begun new) (one page) (page-written u w file span page begun new at left.1 shown)
   where
@@ -73,23 +73,23 @@ round-left u w file span page (Ok again) begun new at left shown =
 round-left u w file span page (Err e) begun new at left shown = left
 
 -- a round that wrote a page found no room as that did
-pub full-round : (it : Call) (w : Standing) (page : ℕ) (written : Result Call CcError) → IsFullWriting it w written → IsFullRound it w (round_of written page)
+pub full-round : (it : Call) (w : Standing) (page : ℕ) (written : Result Call CcError) → IsFullWriting it w written → IsFullFlushRound it w (flush_round_of written page)
 full-round it w page (Ok again) full = tt
 full-round it w page (Err e) full = full
 
 -- the same where the pass is said to stand as it did before the step
-pub round-wrote : (w v : Standing) (flight n : ℕ) (file : File) (span : Option Range) (page : ℕ) (written : Result Call CcError) (new : List Entry) → WentWith flight w v → n ≡ file.stream → ((begun : List Entry) → IsUnderWay v.number (call.Flush file span) begun v.seen → PageLeft v.setup v.number (call.Flush file span) written begun new) → IfOk written (λ again. HasTransferred v (record { stream = n; page = page }) how.Good false new) → (begun : List Entry) → IsAtPage w.setup w.number file span page begun v.seen → RoundLeft w.setup w.number file span (round_of written page) begun new
+pub round-wrote : (w v : Standing) (flight n : ℕ) (file : File) (span : Option Range) (page : ℕ) (written : Result Call CcError) (new : List Entry) → WentWith flight w v → n ≡ file.stream → ((begun : List Entry) → IsUnderWay v.number (call.Flush file span) begun v.seen → PageStepLeft v.setup v.number (call.Flush file span) written begun new) → IfOk written (λ again. HasTransferred v (record { stream = n; page = page }) how.Good false new) → (begun : List Entry) → FlushIsAtPage w.setup w.number file span page begun v.seen → FlushRoundLeft w.setup w.number file span (flush_round_of written page) begun new
 round-wrote w v flight n file span page written new went here left shown begun at =
-    subst (λ (m : ℕ). RoundLeft w.setup m file span (round_of written page) begun new) number
+    subst (λ (m : ℕ). FlushRoundLeft w.setup m file span (flush_round_of written page) begun new) number
     (round-left w.setup v file span page written begun new at_v
-    (subst (λ (u : Setup). PageLeft u v.number (call.Flush file span) written begun new) (ap (λ (x : Standing). x.setup) went.same) (left begun at_v.flushing.way))
+    (subst (λ (u : Setup). PageStepLeft u v.number (call.Flush file span) written begun new) (ap (λ (x : Standing). x.setup) went.same) (left begun at_v.flushing.way))
     (subst (λ (m : ℕ). IfOk written (λ again. HasTransferred v (record { stream = m; page = page }) how.Good false new)) here shown))
   where
     number : v.number ≡ w.number
     number = ap (λ (x : Standing). x.number) went.same
 
-    at_v : IsAtPage w.setup v.number file span page begun v.seen
-    at_v = subst (λ (m : ℕ). IsAtPage w.setup m file span page begun v.seen) (sym number) at
+    at_v : FlushIsAtPage w.setup v.number file span page begun v.seen
+    at_v = subst (λ (m : ℕ). FlushIsAtPage w.setup m file span page begun v.seen) (sym number) at
 
 -- The sync: the book is given, the entry of the sync is placed, and the book is taken again.
 module _ {D : Type 0} (told : D → Option Disk) (faults : D → ℕ) (w x v : Standing) (s : ℕ) (b : BookState) (disk now : D) (end : End)
@@ -102,13 +102,13 @@ module _ {D : Type 0} (told : D → Option Disk) (faults : D → ℕ) (w x v : S
   device = both.rest.device
 
   book_again : record w.held { book = Some s } ≡ w.held
-  book_again = subst (λ (h : Held). record h { book = Some s } ≡ h) (sym both.book.held) refl
+  book_again = subst (λ (h : TurnsHeld). record h { book = Some s } ≡ h) (sym both.book.held) refl
 
   pub went-synced : WentWith 0 w v
   went-synced = record {
     same = took.same
         ∙ (ap (λ (y : Standing). record y { held = record y.held { book = Some s }; seen = v.seen; others = v.others }) went.same
-        ∙ ap (λ (h : Held). record w { held = h; seen = v.seen; others = v.others; in_flight = 0 }) book_again);
+        ∙ ap (λ (h : TurnsHeld). record w { held = h; seen = v.seen; others = v.others; in_flight = 0 }) book_again);
   }
 
   before : IsIdle w.number w.seen placed.front
@@ -154,13 +154,13 @@ module _ {D : Type 0} (told : D → Option Disk) (faults : D → ℕ) (w x v : S
     pub both-synced : (c : BookState) → c.stream ≡ s → BookStands (v.setup.opening s) v.seen c → HasBoth told faults v s c now
     both-synced c is stands = record {
       book = record {
-        held = subst (λ (h : Held). h ≡ record nothing { device = h.device; book = Some s }) (sym v_held) both.book.held;
+        held = subst (λ (h : TurnsHeld). h ≡ record nothing { device = h.device; book = Some s }) (sym v_held) both.book.held;
         stream = is;
         stands = stands;
         good = took.good;
       };
       rest = record {
-        device = ap (λ (h : Held). h.device) v_held ∙ device;
+        device = ap (λ (h : TurnsHeld). h.device) v_held ∙ device;
         no_transfer = transfer_kept (with_book s) x v s took x_device ∙ rest_front;
       };
       disk = disk_kept told faults (with_book s) x v s now took refl x_device disk_synced;
@@ -199,11 +199,11 @@ ended-of w v file span ended begun new went left =
     (subst (λ (u : Setup). CallLeft u v.number (call.Flush file span) ended begun new) (ap (λ (x : Standing). x.setup) went.same) left)
 
 -- its sync found no memory
-pub memoryless-left : (u : Setup) (me : ℕ) (file : File) (span : Option Range) (begun new : List Entry) → WantedMemory me (Calls (call.Flush file span)) begun new → CallLeft u me (call.Flush file span) (outcome.Failed error.NoMemory) begun new
+pub memoryless-left : (u : Setup) (me : ℕ) (file : File) (span : Option Range) (begun new : List Entry) → WorkWantedMemory me (Calls (call.Flush file span)) begun new → CallLeft u me (call.Flush file span) (outcome.Failed error.NoMemory) begun new
 memoryless-left u me file span begun new wanted = given-up u me (call.Flush file span) (record { stream = 0; page = 0 }) error.NoMemory begun new refl refl (inr wanted)
 
 -- a step, which begins no transfer, and then the writing of a page begin that page's alone
-pub begun-round : (flight from page : ℕ) (w v : Standing) (written : Result Call CcError) (new : List Entry) → WentWith flight w v → from ≤ page → page < 2 ^ 51 → BeginsNone w.number w.seen v.seen → BeginsAscending v.number page (page + 1) v.seen new → RoundBegins w.number (round_of written page) from w.seen new
+pub begun-round : (flight from page : ℕ) (w v : Standing) (written : Result Call CcError) (new : List Entry) → WentWith flight w v → from ≤ page → page < 2 ^ 51 → BeginsNone w.number w.seen v.seen → BeginsAscending v.number page (page + 1) v.seen new → RoundBegins w.number (flush_round_of written page) from w.seen new
 begun-round flight from page w v written new went first below none begun = by written
   where
     to : (high : ℕ) → BeginsAscending w.number page high v.seen new → BeginsAscending w.number from high w.seen new
@@ -212,7 +212,7 @@ begun-round flight from page w v written new went first below none begun = by wr
     here : BeginsAscending w.number page (page + 1) v.seen new
     here = subst (λ (n : ℕ). BeginsAscending n page (page + 1) v.seen new) (ap (λ (x : Standing). x.number) went.same) begun
 
-    by : (r : Result Call CcError) → RoundBegins w.number (round_of r page) from w.seen new
+    by : (r : Result Call CcError) → RoundBegins w.number (flush_round_of r page) from w.seen new
     by (Ok again) = to (page + 1) here
     by (Err e) =
         to (2 ^ 51) (ascend-then w.number page (page + 1) (2 ^ 51) v.seen new new here (ascend-none w.number (page + 1) (2 ^ 51) new new (omega (arith, below)) (none-idle w.number new new (idle-none w.number new))))
@@ -274,17 +274,17 @@ module _ {D : Type 0} (told : D → Option Disk) (faults : D → ℕ) (w v x : S
   some-flushing = (w.seen, flushing_on w.seen (begins w.number (call.Flush file span) w.seen))
 
   -- what a round left of it
-  pub round-on : (came : Round) → ((begun : List Entry) → IsFlushing v.number file span from begun v.seen → RoundLeft v.setup v.number file span came begun x.seen) → (begun : List Entry) → IsUnderWay w.number (call.Flush file span) begun w.seen → RoundLeft w.setup w.number file span came begun x.seen
+  pub round-on : (came : Round) → ((begun : List Entry) → IsFlushing v.number file span from begun v.seen → FlushRoundLeft v.setup v.number file span came begun x.seen) → (begun : List Entry) → IsUnderWay w.number (call.Flush file span) begun w.seen → FlushRoundLeft w.setup w.number file span came begun x.seen
   round-on came left begun way =
-      subst (λ (n : ℕ). RoundLeft w.setup n file span came begun x.seen) number_on
-      (subst (λ (u : Setup). RoundLeft u v.number file span came begun x.seen) setup_on (left begun (flushing_on begun way)))
+      subst (λ (n : ℕ). FlushRoundLeft w.setup n file span came begun x.seen) number_on
+      (subst (λ (u : Setup). FlushRoundLeft u v.number file span came begun x.seen) setup_on (left begun (flushing_on begun way)))
 
   -- what it began to write since the rounds began ascends
   pub begun-on : (to : ℕ) → BeginsAscending v.number from to v.seen x.seen → BeginsAscending w.number 0 to w.seen x.seen
   begun-on to more = ascend-then w.number 0 from to w.seen v.seen x.seen on.begun (subst (λ (n : ℕ). BeginsAscending n from to v.seen x.seen) number_on more)
 
   -- it has come to another page
-  pub comes-on : (to : ℕ) → HasBoth told faults x b.stream c now → WentWith v.in_flight v x → to ≤ 2 ^ 51 → RoundBegins v.number (round.CameTo to) from v.seen x.seen → ((begun : List Entry) → IsFlushing v.number file span from begun v.seen → RoundLeft v.setup v.number file span (round.CameTo to) begun x.seen) → ComesOn told faults w x file span to c now
+  pub comes-on : (to : ℕ) → HasBoth told faults x b.stream c now → WentWith v.in_flight v x → to ≤ 2 ^ 51 → RoundBegins v.number (round.CameTo to) from v.seen x.seen → ((begun : List Entry) → IsFlushing v.number file span from begun v.seen → FlushRoundLeft v.setup v.number file span (round.CameTo to) begun x.seen) → ComesOn told faults w x file span to c now
   comes-on to both went within more left = record {
     stream = both.book.stream ∙ on.stream;
     known = subst (λ (n : ℕ). n < x.streams) (sym both.book.stream) (subst (λ (n : ℕ). b.stream < n) (sym (ap (λ (y : Standing). y.streams) went.same)) on.known);
@@ -307,7 +307,7 @@ module _ {D : Type 0} (told : D → Option Disk) (faults : D → ℕ) (w v x : S
     setup_after : x.setup ≡ v.setup
     setup_after = ap (λ (y : Standing). y.setup) went.same
 
-    pub at-sync-on : ((begun : List Entry) → IsFlushing v.number file span from begun v.seen → RoundLeft v.setup v.number file span round.Syncs begun x.seen) → (begun : List Entry) → IsUnderWay w.number (call.Flush file span) begun w.seen → IsAtSync x.setup x.number file span begun x.seen
+    pub at-sync-on : ((begun : List Entry) → IsFlushing v.number file span from begun v.seen → FlushRoundLeft v.setup v.number file span round.Syncs begun x.seen) → (begun : List Entry) → IsUnderWay w.number (call.Flush file span) begun w.seen → IsAtSync x.setup x.number file span begun x.seen
     at-sync-on left begun way =
         subst (λ (n : ℕ). IsAtSync x.setup n file span begun x.seen) (sym number_after)
         (subst (λ (u : Setup). IsAtSync u v.number file span begun x.seen) (sym setup_after) (left begun (flushing_on begun way)))

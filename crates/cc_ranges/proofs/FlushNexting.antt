@@ -18,7 +18,7 @@ use Rattle.cc_turns.specs.Standing.{Standing}
 use Rattle.cc_turns.specs.Takes.{without_journal}
 use Rattle.cc_effects.specs.Begins.{BeginsNone}
 use Rattle.cc_writes.specs.Hands.{HasBook, IsAtRest, SameDisk, WentWith}
-use Rattle.cc_writes.specs.Visits.{IsFiledNow, IsOf}
+use Rattle.cc_writes.specs.Visits.{IsFiledNow, CallIsOfStream}
 use Rattle.cc_writes.proofs.Attempting.{number-is, may-as, visited-refused, visited-same, left-refused, left-stopped, full-refused, full-stop}
 use Rattle.cc_effects.proofs.Begun.{none-behind, none-idle}
 use Rattle.cc_writes.proofs.VisitDisks.{disk-same, disk-call}
@@ -27,14 +27,14 @@ use Rattle.cc_writes.proofs.Refusals.{stops-free}
 use Rattle.cc_writes.proofs.VisitStepping.{disk-grew}
 use Rattle.cc_writes.proofs.Visiting.{Visiting, Visited, visited}
 use Rattle.cc_ranges.specs.Dirty.{IsNext, IsCleanFrom}
-use Rattle.cc_ranges.specs.Flush.{IsFlushing, IsAtPage, IsAtSync, StepLeft, StepWent, IsFullStep, IsAscending, step_of}
-use Rattle.cc_ranges.specs.FlushSteps.{NextLeft, HasToWrite, HasToSync, IsNumbered}
-use Rattle.cc_ranges.specs.declared.flush_steps.Next.{Next}
-use Rattle.cc_ranges.specs.declared.flush_steps.Next.TheVariants as next
+use Rattle.cc_ranges.specs.Flush.{IsFlushing, FlushIsAtPage, IsAtSync, FlushStepLeft, FlushStepWent, IsFullFlushStep, FlushStepAscends, flush_step_of}
+use Rattle.cc_ranges.specs.FlushSteps.{FlushNextLeft, FlushHasToWrite, HasToSync, FlushPageIsNumbered}
+use Rattle.cc_ranges.specs.declared.flush_steps.FlushNext.{FlushNext}
+use Rattle.cc_ranges.specs.declared.flush_steps.FlushNext.TheVariants as next
 use Rattle.cc_ranges.proofs.Going.{flushing-on, at-page, at-sync}
 
 -- a flush is filed under the stream of its file
-pub flush-filed : (file : File) (span : Option Range) (s : ℕ) → s ≡ file.stream → IsOf (call.Flush file span) s
+pub flush-filed : (file : File) (span : Option Range) (s : ℕ) → s ≡ file.stream → CallIsOfStream (call.Flush file span) s
 flush-filed file span s here holds pass = ap Some here
 
 module _ {Q : Type 0} (posted : Q → Bool) (w v : Standing) (file : File) (span : Option Range) (from : ℕ) (b c : BookState) (j k : JournalState Q)
@@ -48,16 +48,16 @@ module _ {Q : Type 0} (posted : Q → Bool) (w v : Standing) (file : File) (span
   pub may-next : (pass : ℕ) → pass ≡ v.number → MayStep w.setup pass it b j
   may-next pass me = may-as posted w v it b c j k has vis refl filed pass me
 
-  pub gone-on : (pass : ℕ) (ended : Next) → pass ≡ v.number → ((u : Setup) → MayStep u pass it b j → NextLeft u pass file span from ended b c j k) → NextLeft w.setup w.number file span from ended b c j k
+  pub gone-on : (pass : ℕ) (ended : FlushNext) → pass ≡ v.number → ((u : Setup) → MayStep u pass it b j → FlushNextLeft u pass file span from ended b c j k) → FlushNextLeft w.setup w.number file span from ended b c j k
   gone-on pass ended me left =
-      subst (λ (n : ℕ). NextLeft w.setup n file span from ended b c j k) (number-is posted w v it b c j k has vis refl filed pass me) (left w.setup (may-next pass me))
+      subst (λ (n : ℕ). FlushNextLeft w.setup n file span from ended b c j k) (number-is posted w v it b c j k has vis refl filed pass me) (left w.setup (may-next pass me))
 
   -- so many places are under way after it
-  abbrev pub flight_after : Next → ℕ
+  abbrev pub flight_after : FlushNext → ℕ
   flight_after next.Syncs = suc w.in_flight
   flight_after other = w.in_flight
 
-  pub few-after : w.in_flight ≡ 0 → (ended : Next) → flight_after ended ≤ 1
+  pub few-after : w.in_flight ≡ 0 → (ended : FlushNext) → flight_after ended ≤ 1
   few-after none next.Syncs = omega (arith, none)
   few-after none (next.Refused e) = omega (arith, none)
   few-after none (next.Writes page) = omega (arith, none)
@@ -82,14 +82,14 @@ module _ {Q : Type 0} (posted : Q → Bool) (w v : Standing) (file : File) (span
       count : (now was flight : ℕ) → now ≡ was + 1 → now + flight ≡ was + suc flight
       count now was flight more = omega (arith, more)
 
-  pub visited-next : (ended : Next) → NextLeft w.setup w.number file span from ended b c j k → Visited posted w v b.stream (flight_after ended) c k
+  pub visited-next : (ended : FlushNext) → FlushNextLeft w.setup w.number file span from ended b c j k → Visited posted w v b.stream (flight_after ended) c k
   visited-next (next.Refused e) left = visited-refused posted w v it b c j k has vis refl filed e left
   visited-next (next.Writes page) left =
       visited-same posted w v it b c j k has vis refl filed left.same_journal (stand-same left.same_book left.same_journal) (ap (λ (x : BookState). x.stream) left.same_book)
   visited-next next.Syncs left = visited-sync left
   visited-next (next.Stopped e) left = visited-same posted w v it b c j k has vis refl filed left.1.same_journal left.1.stand left.1.stream
 
-  pub disk-next : (ended : Next) → NextLeft w.setup w.number file span from ended b c j k → SameDisk w.seen k.entries b.stream
+  pub disk-next : (ended : FlushNext) → FlushNextLeft w.setup w.number file span from ended b c j k → SameDisk w.seen k.entries b.stream
   disk-next (next.Refused e) left =
       disk-grew posted w v it b c j k has vis refl filed rest _ (disk-call w.number (suc (calls_of j.entries w.number)) (Some b.stream) it (outcome.Failed e) j.entries b.stream) (ap (λ (x : JournalState Q). x.entries) left.placed)
   disk-next (next.Writes page) left = disk-grew posted w v it b c j k has vis refl filed rest j.entries (disk-same j.entries b.stream) (ap (λ (x : JournalState Q). x.entries) left.same_journal)
@@ -100,7 +100,7 @@ module _ {Q : Type 0} (posted : Q → Bool) (w v : Standing) (file : File) (span
   begun-same : k.entries ≡ j.entries → BeginsNone w.number w.seen k.entries
   begun-same same = subst (λ (past : List Entry). BeginsNone w.number w.seen past) (sym same) (none-idle w.number w.seen j.entries vis.idle)
 
-  pub begun-next : (ended : Next) → NextLeft w.setup w.number file span from ended b c j k → BeginsNone w.number w.seen k.entries
+  pub begun-next : (ended : FlushNext) → FlushNextLeft w.setup w.number file span from ended b c j k → BeginsNone w.number w.seen k.entries
   begun-next (next.Refused e) left =
       subst (λ (past : List Entry). BeginsNone w.number w.seen past) (sym (ap (λ (x : JournalState Q). x.entries) left.placed))
       (none-behind w.number (failed w.number j.entries b.stream it e) w.seen j.entries refl (none-idle w.number w.seen j.entries vis.idle))
@@ -109,7 +109,7 @@ module _ {Q : Type 0} (posted : Q → Bool) (w v : Standing) (file : File) (span
   begun-next (next.Stopped e) left = begun-same (ap (λ (x : JournalState Q). x.entries) left.1.same_journal)
 
   -- how the pass goes on
-  pub went-next : w.in_flight ≡ 0 → (ended : Next) → NextLeft w.setup w.number file span from ended b c j k → StepWent (step_of ended) w (without_journal k v)
+  pub went-next : w.in_flight ≡ 0 → (ended : FlushNext) → FlushNextLeft w.setup w.number file span from ended b c j k → FlushStepWent (flush_step_of ended) w (without_journal k v)
   went-next none (next.Refused e) left = (visited-next (next.Refused e) left).went
   went-next none (next.Writes page) left = (visited-next (next.Writes page) left).went
   went-next none next.Syncs left = subst (λ (n : ℕ). WentWith (suc n) w (without_journal k v)) none (visited-next next.Syncs left).went
@@ -120,9 +120,9 @@ module _ {Q : Type 0} (posted : Q → Bool) (w v : Standing) (file : File) (span
     on : IsFlushing w.number file span from begun j.entries
     on = flushing-on w.number file span begun from w.seen j.entries is vis.idle
 
-    left-write : (page : ℕ) → HasToWrite w.setup file span from page b c j k → IsAtPage w.setup w.number file span page begun k.entries
+    left-write : (page : ℕ) → FlushHasToWrite w.setup file span from page b c j k → FlushIsAtPage w.setup w.number file span page begun k.entries
     left-write page left =
-        subst (λ (x : JournalState Q). IsAtPage w.setup w.number file span page begun x.entries) (sym left.same_journal)
+        subst (λ (x : JournalState Q). FlushIsAtPage w.setup w.number file span page begun x.entries) (sym left.same_journal)
         (at-page w.number file span begun w.setup from page j.entries on
         (rw here at left.admitted)
         (subst (λ (n : ℕ). IsNext (history j.entries n) span from page) here left.next)
@@ -135,19 +135,19 @@ module _ {Q : Type 0} (posted : Q → Bool) (w v : Standing) (file : File) (span
         (rw here at left.admitted)
         (subst (λ (n : ℕ). IsCleanFrom (history j.entries n) span from) here left.clean))
 
-    pub left-next : (ended : Next) → NextLeft w.setup w.number file span from ended b c j k → StepLeft w.setup w.number file span (step_of ended) begun k.entries
+    pub left-next : (ended : FlushNext) → FlushNextLeft w.setup w.number file span from ended b c j k → FlushStepLeft w.setup w.number file span (flush_step_of ended) begun k.entries
     left-next (next.Refused e) left = left-refused posted w v it b c j k has vis refl filed begun is.way e left
     left-next (next.Writes page) left = left-write page left
     left-next next.Syncs left = left-sync left
     left-next (next.Stopped e) left = left-stopped posted w v it b c j k has vis refl filed begun is.way 1 e (stops-free it j.entries refl refl) left.0 left.1.same_journal
 
-  pub ascending : (ended : Next) → IsNumbered ended → NextLeft w.setup w.number file span from ended b c j k → IsAscending (step_of ended) from
+  pub ascending : (ended : FlushNext) → FlushPageIsNumbered ended → FlushNextLeft w.setup w.number file span from ended b c j k → FlushStepAscends (flush_step_of ended) from
   ascending (next.Refused e) numbered left = tt
   ascending (next.Writes page) numbered left = (left.next.from_is, numbered)
   ascending next.Syncs numbered left = tt
   ascending (next.Stopped e) numbered left = tt
 
-  pub full-next : (ended : Next) → NextLeft w.setup w.number file span from ended b c j k → IsFullStep (without_journal k v) (step_of ended)
+  pub full-next : (ended : FlushNext) → FlushNextLeft w.setup w.number file span from ended b c j k → IsFullFlushStep (without_journal k v) (flush_step_of ended)
   full-next (next.Refused e) left = full-refused posted w v it b c j k has vis refl filed (Unit {0}) 1 e left
   full-next (next.Writes page) left = tt
   full-next next.Syncs left = tt

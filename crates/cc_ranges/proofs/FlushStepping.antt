@@ -8,7 +8,7 @@ use Rattle.cc_entry.specs.declared.call.Call.TheVariants as call
 use Rattle.cc_entry.specs.declared.entry.Entry.{Entry}
 use Rattle.cc_entry.specs.declared.error.CcError.{CcError}
 use Rattle.cc_entry.specs.declared.reply.Reply.TheVariants as reply
-use Rattle.cc_book.specs.Book.{BookState, BookStands, Gains, GoesOn, MayDo, MayPlace, done, failed}
+use Rattle.cc_book.specs.Book.{BookState, BookStands, Gains, GoesOn, MayDoOnBook, MayPlaceOnBook, done, failed}
 use Rattle.cc_journal.specs.Calls.{owed_end}
 use Rattle.cc_journal.specs.Journal.{JournalState}
 use Rattle.cc_model.specs.Acts.{file_of}
@@ -30,11 +30,11 @@ use Rattle.cc_step.proofs.Ended.{refused-placed}
 use Rattle.cc_step.proofs.Placed.{good-failed, so-far}
 use Rattle.cc_step.proofs.Reserved.{reserved-done}
 use Rattle.cc_ranges.specs.Dirty.{IsNext, IsCleanFrom}
-use Rattle.cc_ranges.specs.FlushSteps.{HasToWrite, HasToSync, NextLeft, GoneOn, MayFinish, FinishLeft, HasEnded, without_one}
-use Rattle.cc_ranges.specs.declared.flush_steps.Finished.{Finished}
-use Rattle.cc_ranges.specs.declared.flush_steps.Finished.TheVariants as finished
-use Rattle.cc_ranges.specs.declared.flush_steps.Next.{Next}
-use Rattle.cc_ranges.specs.declared.flush_steps.Next.TheVariants as next
+use Rattle.cc_ranges.specs.FlushSteps.{FlushHasToWrite, HasToSync, FlushNextLeft, FlushGoneOn, FlushMayFinish, FlushFinishLeft, FlushHasEnded, without_one}
+use Rattle.cc_ranges.specs.declared.flush_steps.FlushEnd.{FlushEnd}
+use Rattle.cc_ranges.specs.declared.flush_steps.FlushEnd.TheVariants as finished
+use Rattle.cc_ranges.specs.declared.flush_steps.FlushNext.{FlushNext}
+use Rattle.cc_ranges.specs.declared.flush_steps.FlushNext.TheVariants as next
 use Rattle.cc_ranges.proofs.Owing.{stamped-page}
 
 -- where nothing is owed, any entry may follow
@@ -69,7 +69,7 @@ module _ {Q : Type 0} (u : Setup) (pass : ℕ) (file : File) (span : Option Rang
   back = ap (λ (n : ℕ). record j { reserved = n }) (less-more j.reserved some)
 
   -- others have brought a refusal about
-  pub may-fail : (e : CcError) → refusal u j.entries (history j.entries b.stream) it ≡ Some e → MayPlace j.entries (failed pass j.entries b.stream it e) b
+  pub may-fail : (e : CcError) → refusal u j.entries (history j.entries b.stream) it ≡ Some e → MayPlaceOnBook j.entries (failed pass j.entries b.stream it e) b
   may-fail e reason = (u, so-far u _ (good-failed u j.entries pass b.stream it e refl may.stand.good may.filed reason), may.stand.stands)
 
   pub refused-here : (e : CcError) (c : BookState) (k : JournalState Q) → refusal u j.entries (history j.entries b.stream) it ≡ Some e → Gains (failed pass j.entries b.stream it e) j k → GoesOn j.entries k.entries b c → c ≡ b → AttemptRefused u pass it e b c (without_one j) (forgoing j pass k)
@@ -96,7 +96,7 @@ module _ {Q : Type 0} (u : Setup) (pass : ℕ) (file : File) (span : Option Rang
   }
 
   module _ (admitted : refusal u j.entries (history j.entries b.stream) it ≡ None) where
-    pub to-write : (from page : ℕ) (k : JournalState Q) → IsNext (history j.entries b.stream) span from page → k ≡ record j { reserved = j.reserved - 1 } → HasToWrite u file span from page b b (without_one j) k
+    pub to-write : (from page : ℕ) (k : JournalState Q) → IsNext (history j.entries b.stream) span from page → k ≡ record j { reserved = j.reserved - 1 } → FlushHasToWrite u file span from page b b (without_one j) k
     to-write from page k next released = record {
       admitted = admitted;
       next = next;
@@ -113,7 +113,7 @@ module _ {Q : Type 0} (u : Setup) (pass : ℕ) (file : File) (span : Option Rang
       good-here : IsGood u (done pass j.entries b.stream it reply.Unit ∷ j.entries)
       good-here = good-flushed u j.entries pass b.stream file span may.stand.good may.filed admitted flushed
 
-      pub may-do : MayDo u j.entries pass it reply.Unit b
+      pub may-do : MayDoOnBook u j.entries pass it reply.Unit b
       may-do = record { good = so-far u _ good-here; stands = may.stand.stands }
 
       pub done-here : (c : BookState) (k : JournalState Q) → Gains (done pass j.entries b.stream it reply.Unit) j k → BookStands (u.opening b.stream) k.entries c → c.stream ≡ b.stream → AttemptDone u pass it reply.Unit b c (without_one j) (forgoing j pass k)
@@ -144,16 +144,16 @@ module _ {Q : Type 0} (u : Setup) (pass : ℕ) (file : File) (span : Option Rang
   pub may-again : MayStep u pass (call.Flush file span) b j → MayStep u pass (call.Flush file span) b (without_one (reserving j))
   may-again may = subst (λ (x : JournalState Q). MayStep u pass (call.Flush file span) b x) (sym again) may
 
-  pub finish-again : MayFinish u pass file span b j → MayFinish u pass file span b (without_one (reserving j))
-  finish-again may = subst (λ (x : JournalState Q). MayFinish u pass file span b x) (sym again) may
+  pub finish-again : FlushMayFinish u pass file span b j → FlushMayFinish u pass file span b (without_one (reserving j))
+  finish-again may = subst (λ (x : JournalState Q). FlushMayFinish u pass file span b x) (sym again) may
 
-  pub next-left : (from : ℕ) (ended : Next) → GoneOn u pass file span from ended b c (reserving j) k → NextLeft u pass file span from ended b c j k
-  next-left from (next.Refused e) left = subst (λ (x : JournalState Q). NextLeft u pass file span from (next.Refused e) b c x k) again left
-  next-left from (next.Writes page) left = subst (λ (x : JournalState Q). NextLeft u pass file span from (next.Writes page) b c x k) again left
-  next-left from next.Syncs left = subst (λ (x : JournalState Q). NextLeft u pass file span from next.Syncs b c x k) again left
+  pub next-left : (from : ℕ) (ended : FlushNext) → FlushGoneOn u pass file span from ended b c (reserving j) k → FlushNextLeft u pass file span from ended b c j k
+  next-left from (next.Refused e) left = subst (λ (x : JournalState Q). FlushNextLeft u pass file span from (next.Refused e) b c x k) again left
+  next-left from (next.Writes page) left = subst (λ (x : JournalState Q). FlushNextLeft u pass file span from (next.Writes page) b c x k) again left
+  next-left from next.Syncs left = subst (λ (x : JournalState Q). FlushNextLeft u pass file span from next.Syncs b c x k) again left
   next-left from (next.Stopped e) left = (inr (left.0, one_asked), subst (λ (x : JournalState Q). FoundNone u b c x k) again left.1)
 
-  pub finish-left : (ended : Finished) → HasEnded u pass file span ended b c (reserving j) k → FinishLeft u pass file span ended b c j k
-  finish-left finished.Done left = subst (λ (x : JournalState Q). FinishLeft u pass file span finished.Done b c x k) again left
-  finish-left (finished.Refused e) left = subst (λ (x : JournalState Q). FinishLeft u pass file span (finished.Refused e) b c x k) again left
+  pub finish-left : (ended : FlushEnd) → FlushHasEnded u pass file span ended b c (reserving j) k → FlushFinishLeft u pass file span ended b c j k
+  finish-left finished.Done left = subst (λ (x : JournalState Q). FlushFinishLeft u pass file span finished.Done b c x k) again left
+  finish-left (finished.Refused e) left = subst (λ (x : JournalState Q). FlushFinishLeft u pass file span (finished.Refused e) b c x k) again left
   finish-left (finished.Stopped e) left = (inr (left.0, one_asked), subst (λ (x : JournalState Q). FoundNone u b c x k) again left.1)

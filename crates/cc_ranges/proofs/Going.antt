@@ -16,7 +16,7 @@ use Rattle.cc_turns.specs.Standing.{Standing}
 use Rattle.cc_writes.proofs.Others.{under_way-on}
 use Rattle.cc_writes.specs.Writes.{HasTransferred}
 use Rattle.cc_ranges.specs.Dirty.{IsNext, IsCleanFrom}
-use Rattle.cc_ranges.specs.Flush.{IsFlushing, IsAtPage, IsAtSync}
+use Rattle.cc_ranges.specs.Flush.{IsFlushing, FlushIsAtPage, IsAtSync}
 use Rattle.cc_ranges.specs.Settled.{IsSettledTo}
 use Rattle.cc_ranges.proofs.Settling.{history-longer, settled_to-later, settled_to-clean, settled_all-clean, settled_to-transferred}
 
@@ -39,7 +39,7 @@ module _ (me : ℕ) (file : File) (span : Option Range) (begun : List Entry) whe
   }
 
   -- the next page of the span is to be written, or none is left
-  pub at-page : (u : Setup) (from page : ℕ) (new : List Entry) → IsFlushing me file span from begun new → refusal u new (history new file.stream) (call.Flush file span) ≡ None → IsNext (history new file.stream) span from page → is_unstamped (history new file.stream) page ≡ false → IsAtPage u me file span page begun new
+  pub at-page : (u : Setup) (from page : ℕ) (new : List Entry) → IsFlushing me file span from begun new → refusal u new (history new file.stream) (call.Flush file span) ≡ None → IsNext (history new file.stream) span from page → is_unstamped (history new file.stream) page ≡ false → FlushIsAtPage u me file span page begun new
   at-page u from page new is admitted next stamped = record {
     flushing = record {
       way = is.way;
@@ -58,7 +58,7 @@ module _ (me : ℕ) (file : File) (span : Option Range) (begun : List Entry) whe
   }
 
 -- the page was written well
-pub page-written : (u : Setup) (w : Standing) (file : File) (span : Option Range) (page : ℕ) (begun new : List Entry) → IsAtPage u w.number file span page begun w.seen → IsUnderWay w.number (call.Flush file span) begun new → HasTransferred w (record { stream = file.stream; page = page }) how.Good false new → IsFlushing w.number file span (suc page) begun new
+pub page-written : (u : Setup) (w : Standing) (file : File) (span : Option Range) (page : ℕ) (begun new : List Entry) → FlushIsAtPage u w.number file span page begun w.seen → IsUnderWay w.number (call.Flush file span) begun new → HasTransferred w (record { stream = file.stream; page = page }) how.Good false new → IsFlushing w.number file span (suc page) begun new
 page-written u w file span page begun new at way written = record {
   way = way;
   settled = subst (λ (past : List Entry). IsSettledTo (suc page) seen (history past s) span) (sym written.placed)

@@ -10,7 +10,7 @@ use Rattle.cc_entry.specs.declared.entry.Entry.{Entry}
 use Rattle.cc_entry.specs.declared.error.CcError.{CcError}
 use Rattle.cc_entry.specs.declared.error.CcError.TheVariants as error
 use Rattle.cc_entry.specs.declared.reply.Outcome.TheVariants as outcome
-use Rattle.cc_book.specs.Book.{BookState, BookStands, Gains, GoesOn, MayPlace, failed}
+use Rattle.cc_book.specs.Book.{BookState, BookStands, Gains, GoesOn, MayPlaceOnBook, failed}
 use Rattle.cc_effects.specs.Noncached.{is_of_shape}
 use Rattle.cc_journal.specs.Calls.{owed_end}
 use Rattle.cc_journal.specs.Journal.{JournalState}
@@ -30,19 +30,19 @@ use Rattle.cc_step.specs.Step.{MayStep, Adds, IsStop, is_answered}
 use Rattle.cc_step.proofs.Attempts.{reserving, adds-reserving, forgoing, forgone-within, failed-owing, stand-forgoing}
 use Rattle.cc_step.proofs.Placed.{so-far}
 use Rattle.cc_step.proofs.Reasons.{IsNoncached, never-long, refusal-listed}
-use Rattle.cc_writes.specs.Ways.{IsReason, is_met}
-use Rattle.cc_writes.specs.Visits.{IsOf}
+use Rattle.cc_writes.specs.Ways.{IsCallReason, is_met}
+use Rattle.cc_writes.specs.Visits.{CallIsOfStream}
 use Rattle.cc_ranges.specs.Shapes.{IsPageOf, IsShape, RefuseLeft, refusal_first}
 
 -- What a page of a noncached call is refused comes from the list, or from outside: it is for no place or length.
-pub unshaped : (u : Setup) (s : ℕ) (it : Call) (e : CcError) → IsNoncached it → IsReason u s it e → is_of_shape e ≡ false
+pub unshaped : (u : Setup) (s : ℕ) (it : Call) (e : CcError) → IsNoncached it → IsCallReason u s it e → is_of_shape e ≡ false
 unshaped u s it (error.TooLong limit) is (inl met) = absurd (cc)
 unshaped u s it (error.TooLong limit) is (inr reason) = absurd (never-long u reason.0 (history reason.0 s) it limit is reason.1)
 unshaped u s it error.Unaligned is (inl met) = absurd (cc)
 unshaped u s it error.Unaligned is (inr reason) = absurd (cc (refusal-listed u reason.0 (history reason.0 s) it error.Unaligned reason.1))
 unshaped u s it other is reason = refl
 
-pub read-unshaped : (u : Setup) (s : ℕ) (file : File) (page : ℕ) (e : CcError) → IsReason u s (call.NcRead file page) e → is_of_shape e ≡ false
+pub read-unshaped : (u : Setup) (s : ℕ) (file : File) (page : ℕ) (e : CcError) → IsCallReason u s (call.NcRead file page) e → is_of_shape e ≡ false
 read-unshaped u s file page e reason = unshaped u s (call.NcRead file page) e tt reason
 
 pub stop-met : {Q : Type 0} (asked : ℕ) (e : CcError) (j : JournalState Q) → IsStop asked e j → is_met e ≡ true
@@ -50,7 +50,7 @@ stop-met asked e j (inl full) = ap is_met full.0
 stop-met asked e j (inr none) = ap is_met none.0
 
 -- a page of a noncached call of a file is filed under its stream, and its entry may stand with the book
-pub page-filed : (file : File) (it : Call) → IsPageOf file it → IsOf it file.stream
+pub page-filed : (file : File) (it : Call) → IsPageOf file it → CallIsOfStream it file.stream
 page-filed file (call.NcRead named page) is holds pass = ap (λ (f : File). Some f.stream) (sym is)
 page-filed file (call.NcWrite named page) is holds pass = ap (λ (f : File). Some f.stream) (sym is)
 page-filed file other is holds pass = absurd is
@@ -131,7 +131,7 @@ module _ {Q : Type 0} (u : Setup) (pass : ℕ) (file : File) (it : Call) (shape 
   pub good-refused : IsGood u (failed pass j.entries b.stream it (refusal_first h file shape) ∷ j.entries)
   good-refused = good-first (is_open h file) refl
 
-  pub may-refuse : MayPlace j.entries (failed pass j.entries b.stream it (refusal_first h file shape)) b
+  pub may-refuse : MayPlaceOnBook j.entries (failed pass j.entries b.stream it (refusal_first h file shape)) b
   may-refuse = (u, so-far u _ good-refused, may.stand.stands)
 
   -- what the pass owed is still reserved

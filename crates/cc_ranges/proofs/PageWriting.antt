@@ -16,7 +16,7 @@ use Rattle.cc_entry.specs.declared.reply.Reply.TheVariants as reply
 use Rattle.cc_traits.specs.Disk.{Disk}
 use Rattle.cc_book.specs.Book.{BookState}
 use Rattle.cc_book.specs.Stored.{store_done}
-use Rattle.cc_content.specs.Contents.{IsByteOf}
+use Rattle.cc_content.specs.Contents.{IsByteOfContents}
 use Rattle.cc_content.specs.Filling.{IsClearedFrom}
 use Rattle.cc_effects.specs.Moments.{Others}
 use Rattle.cc_laws.proofs.FaultSteps.{faults_since-write_failed, is_written_since-write_end, store_of-store}
@@ -35,13 +35,13 @@ use Rattle.cc_turns.specs.Standing.{Standing, DiskAtFirst}
 use Rattle.cc_turns.specs.Takes.{Grows}
 use Rattle.cc_writes.specs.Hands.{HasBook, IsAtRest, SameDisk, WentWith}
 use Rattle.cc_writes.proofs.VisitDisks.{disk-call, disk-page_out, disk-same, disk_still}
-use Rattle.cc_writes.specs.Transfers.{IsUnderWay, IsFinished}
+use Rattle.cc_writes.specs.Transfers.{OwnTransferIsUnderWay, IsFinished}
 use Rattle.cc_writes.specs.Writes.{HasBoth}
 use Rattle.cc_writes.proofs.Flushing.{disk-grown}
 use Rattle.cc_writes.proofs.Quiet.{history-kept, flushed_to-grows, logged-kept}
 use Rattle.cc_writes.proofs.OneVisit.{went-number, went-held}
 use Rattle.cc_writes.proofs.Writing.{opening-kept, disks-kept}
-use Rattle.cc_ranges.specs.Ends.{IsOut, HasTidied, HasFinished, HasFailedSince, HasFailedWrite, write_done, write_failed}
+use Rattle.cc_ranges.specs.Ends.{PageOutAtMost, HasTidied, HasFinished, HasFailedSince, HasFailedWrite, write_done, write_failed}
 use Rattle.cc_ranges.specs.Stores.{IsReadyToStore, HasStored, stored_byte}
 use Rattle.cc_ranges.proofs.WriteFinishing.{store-others}
 use Rattle.cc_ranges.proofs.Goods.{below-size, open-stored, bytes-with_store}
@@ -77,7 +77,7 @@ fails me page later seen others stored = record {
     first false b is = absurd (cc)
 
 -- a page that goes out leaves the disk
-pub out-disk : (pass : ℕ) (page : Page) (tidied past : List Entry) (s : ℕ) → IsOut pass page tidied → SameDisk past (tidied ++ past) s
+pub out-disk : (pass : ℕ) (page : Page) (tidied past : List Entry) (s : ℕ) → PageOutAtMost pass page tidied → SameDisk past (tidied ++ past) s
 out-disk pass page [] past s only = disk-same past s
 out-disk pass page (e ∷ []) past s only = subst (λ (x : Entry). SameDisk past (x ∷ past) s) (sym only) (disk-page_out pass page past s)
 out-disk pass page (e ∷ (other ∷ more)) past s only = absurd only
@@ -157,7 +157,7 @@ module _ {D : Type 0} (told : D → Option Disk) (faults : D → ℕ) (n : ℕ) 
       ∙ (ap (is_the_page page) (store_of-store w.number (suc (calls_of is.front w.number)) page.stream file page.page bytes reply.Unit is.front w.number (eq-eqb w.number w.number refl))
       ∙ page-same page)))
 
-  pub begun-there : (cut : List ℕ) → length cut ≡ 4096 → ((i : ℕ) → slice_index cut i ≡ stored_byte (size_of (history w.seen page.stream)) page.page bytes i) → IsUnderWay told faults x page cut c disk
+  pub begun-there : (cut : List ℕ) → length cut ≡ 4096 → ((i : ℕ) → slice_index cut i ≡ stored_byte (size_of (history w.seen page.stream)) page.page bytes i) → OwnTransferIsUnderWay told faults x page cut c disk
   begun-there cut long as_cut = record {
     book = has;
     device = ap (λ h. h.device) (went-held n w x went) ∙ both.rest.device;
@@ -175,9 +175,9 @@ module _ {D : Type 0} (told : D → Option Disk) (faults : D → ℕ) (n : ℕ) 
       at_rest = open-stored w.setup is.front w.number file page bytes is.good ready-there may-there;
       whole = long;
       bytes_are = λ i within.
-          subst (λ (opening : Option (ℕ → List ℕ)). IsByteOf opening (history (store ∷ is.front) page.stream) (4096 * page.page + i) (slice_index cut i))
+          subst (λ (opening : Option (ℕ → List ℕ)). IsByteOfContents opening (history (store ∷ is.front) page.stream) (4096 * page.page + i) (slice_index cut i))
           (both.opening ∙ ap (λ (first : DiskAtFirst). opening_of first.told) (sym (disks-kept n w x page.stream went)))
-          (subst (λ (byte : ℕ). IsByteOf (w.setup.opening page.stream) (history (store ∷ is.front) page.stream) (4096 * page.page + i) byte)
+          (subst (λ (byte : ℕ). IsByteOfContents (w.setup.opening page.stream) (history (store ∷ is.front) page.stream) (4096 * page.page + i) byte)
           (ap (λ h. stored_byte (size_of h) page.page bytes i) same ∙ sym (as_cut i))
           (bytes-with_store w.setup is.front w.number file page bytes is.good ready-there may-there i within));
     };

@@ -25,7 +25,7 @@ use Rattle.cc_model.specs.Room.{owed_by_stream, stores_unfinished, reserved_in}
 use Rattle.cc_model.specs.Setup.{Setup}
 use Rattle.cc_model.specs.Turns.{Turn, Device, Book, Log, Journal, needs, is_quiet}
 use Rattle.cc_step.proofs.Placed.{so-far}
-use Rattle.cc_turns.specs.Standing.{Standing, Held, holds, nothing}
+use Rattle.cc_turns.specs.Standing.{Standing, TurnsHeld, holds, nothing}
 use Rattle.cc_writes.specs.Visits.{HasPlaced}
 use Rattle.cc_writes.proofs.Resting.{disk-held, rest-same}
 use Rattle.cc_writes.proofs.OneVisit.{Visiting, Visited, visited}
@@ -61,7 +61,7 @@ reserved-synced pass stream how past =
 clash : true ≡ false → ⊥
 clash e = absurd (cc)
 
-quiet-sync : (h : Held) (pass s : ℕ) (how : End) → h.device ≡ Some s → h.journal ≡ true → (t : Turn) → holds h t ≡ false → is_quiet t (entry.Sync pass s how ∷ []) ≡ true
+quiet-sync : (h : TurnsHeld) (pass s : ℕ) (how : End) → h.device ≡ Some s → h.journal ≡ true → (t : Turn) → holds h t ≡ false → is_quiet t (entry.Sync pass s how ∷ []) ≡ true
 quiet-sync h pass s how device journal t free = is_quiet-unneeded t (entry.Sync pass s how) [] (unneeded t free) ∙ is_quiet-none t
   where
     unneeded : (x : Turn) → holds h x ≡ false → needs (entry.Sync pass s how) x ≡ false
@@ -74,7 +74,7 @@ module _ {Q : Type 0} (posted : Q → Bool) (w v : Standing) (s : ℕ) (how : En
     (held : w.held ≡ record nothing { device = Some s }) (rest : open_of (history w.seen s) ≡ None) (reserved : w.in_flight ≡ 1)
     (vis : Visiting posted w v j) (pass : ℕ) (me : pass ≡ w.number) where
   device : w.held.device ≡ Some s
-  device = ap (λ (h : Held). h.device) held
+  device = ap (λ (h : TurnsHeld). h.device) held
 
   good : IsGood w.setup (entry.Sync pass s how ∷ j.entries)
   good = good-synced w.setup j.entries pass s how vis.good (rest-same w.seen j.entries s (disk-held w s j.entries device vis.grows) rest)
@@ -97,7 +97,7 @@ module _ {Q : Type 0} (posted : Q → Bool) (w v : Standing) (s : ℕ) (how : En
     }
 
     pub sync-given : Visited posted w v 0 k
-    sync-given = visited posted w v 0 (entry.Sync pass s how ∷ []) j k (ap (λ (h : Held). h.journal) held) vis (record {
+    sync-given = visited posted w v 0 (entry.Sync pass s how ∷ []) j k (ap (λ (h : TurnsHeld). h.journal) held) vis (record {
       kept = placed ∙ ap (λ (n : ℕ). record j { entries = entry.Sync pass s how ∷ j.entries; reserved = n; rows = k.rows }) (sym (ap (λ (x : JournalState Q). x.reserved) placed));
       good = subst (λ (past : List Entry). IsGood w.setup past) (sym (ap (λ (x : JournalState Q). x.entries) placed)) good;
       event = tt;

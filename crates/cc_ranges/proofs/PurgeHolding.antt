@@ -17,12 +17,12 @@ use Rattle.cc_model.specs.Ranges.{span_has}
 use Rattle.cc_model.specs.Setup.{Setup}
 use Rattle.cc_turns.specs.Standing.{Standing}
 use Rattle.cc_writes.specs.Hands.{Went, WentWith}
-use Rattle.cc_writes.specs.Calls.{IsFullWriting, MayFaultInWriting, PageLeft}
+use Rattle.cc_writes.specs.Calls.{IsFullWriting, MayFaultInWriting, PageStepLeft}
 use Rattle.cc_writes.specs.Writes.{HasBoth}
 use Rattle.cc_writes.proofs.OneVisit.{went-then}
 use Rattle.cc_ranges.specs.Flush.{outcome_of}
 use Rattle.cc_writes.specs.Alone.{NobodyElseChanged}
-use Rattle.cc_ranges.specs.Purge.{RoundLeft, RoundPlaced, IsFullRound, WentUpOnce, ended_of, round_of}
+use Rattle.cc_ranges.specs.Purge.{PurgeRoundLeft, RoundPlaced, IsFullPurgeRound, WentUpOnce, ended_of, purge_round_of}
 use Rattle.cc_ranges.specs.declared.purge.Round.{Round}
 use Rattle.cc_ranges.specs.declared.purge.Round.TheVariants as round
 
@@ -36,34 +36,34 @@ asks-page file span s page past admitted here has =
     and_from (is_admitted (call.Purge file span) s past) _ admitted (and_from (file.stream == s) (span_has span page) (eq-eqb file.stream s (sym here)) has)
 
 -- a page was written for it, or it failed
-round-left : (u : Setup) (me : ℕ) (file : File) (span : Option Range) (page : ℕ) (written : Result Call CcError) (begun new : List Entry) → PageLeft u me (call.Purge file span) written begun new → RoundLeft u me file span (round_of written page) begun new
+round-left : (u : Setup) (me : ℕ) (file : File) (span : Option Range) (page : ℕ) (written : Result Call CcError) (begun new : List Entry) → PageStepLeft u me (call.Purge file span) written begun new → PurgeRoundLeft u me file span (purge_round_of written page) begun new
 round-left u me file span page (Ok again) begun new left = left.1
 round-left u me file span page (Err e) begun new left = left
 
 -- a round that wrote a page found no room as that did
-pub full-round : (it : Call) (w : Standing) (page : ℕ) (written : Result Call CcError) → IsFullWriting it w written → IsFullRound it w (round_of written page)
+pub full-round : (it : Call) (w : Standing) (page : ℕ) (written : Result Call CcError) → IsFullWriting it w written → IsFullPurgeRound it w (purge_round_of written page)
 full-round it w page (Ok again) full = tt
 full-round it w page (Err e) full = full
 
 -- the same where the pass is said to stand as it did before the step
-pub round-wrote : (w v : Standing) (file : File) (span : Option Range) (page : ℕ) (written : Result Call CcError) (new : List Entry) → Went w v → ((begun : List Entry) → IsUnderWay v.number (call.Purge file span) begun v.seen → PageLeft v.setup v.number (call.Purge file span) written begun new) → (begun : List Entry) → IsUnderWay w.number (call.Purge file span) begun v.seen → RoundLeft w.setup w.number file span (round_of written page) begun new
+pub round-wrote : (w v : Standing) (file : File) (span : Option Range) (page : ℕ) (written : Result Call CcError) (new : List Entry) → Went w v → ((begun : List Entry) → IsUnderWay v.number (call.Purge file span) begun v.seen → PageStepLeft v.setup v.number (call.Purge file span) written begun new) → (begun : List Entry) → IsUnderWay w.number (call.Purge file span) begun v.seen → PurgeRoundLeft w.setup w.number file span (purge_round_of written page) begun new
 round-wrote w v file span page written new went left begun way =
     round-left w.setup w.number file span page written begun new
-    (subst (λ (m : ℕ). PageLeft w.setup m (call.Purge file span) written begun new) number
-    (subst (λ (u : Setup). PageLeft u v.number (call.Purge file span) written begun new) (ap (λ (x : Standing). x.setup) went.same)
+    (subst (λ (m : ℕ). PageStepLeft w.setup m (call.Purge file span) written begun new) number
+    (subst (λ (u : Setup). PageStepLeft u v.number (call.Purge file span) written begun new) (ap (λ (x : Standing). x.setup) went.same)
     (left begun (subst (λ (m : ℕ). IsUnderWay m (call.Purge file span) begun v.seen) (sym number) way))))
   where
     number : v.number ≡ w.number
     number = ap (λ (x : Standing). x.number) went.same
 
 -- a round that did not end the purge left it under way
-pub still-left : (u : Setup) (me : ℕ) (file : File) (span : Option Range) (came : Round) (begun new : List Entry) → ended_of came ≡ None → RoundLeft u me file span came begun new → IsUnderWay me (call.Purge file span) begun new
+pub still-left : (u : Setup) (me : ℕ) (file : File) (span : Option Range) (came : Round) (begun new : List Entry) → ended_of came ≡ None → PurgeRoundLeft u me file span came begun new → IsUnderWay me (call.Purge file span) begun new
 still-left u me file span (round.Ended answer) begun new none left = absurd (cc)
 still-left u me file span (round.CameTo to) begun new none left = left
 still-left u me file span round.GoesOn begun new none left = left
 
 -- one that ended it left what it answers
-pub ended-left : (u : Setup) (me : ℕ) (file : File) (span : Option Range) (came : Round) (answer : Result (Unit {0}) CcError) (begun new : List Entry) → ended_of came ≡ Some answer → RoundLeft u me file span came begun new → CallLeft u me (call.Purge file span) (outcome_of answer) begun new
+pub ended-left : (u : Setup) (me : ℕ) (file : File) (span : Option Range) (came : Round) (answer : Result (Unit {0}) CcError) (begun new : List Entry) → ended_of came ≡ Some answer → PurgeRoundLeft u me file span came begun new → CallLeft u me (call.Purge file span) (outcome_of answer) begun new
 ended-left u me file span (round.Ended other) answer begun new is left = subst (λ (a : Option (Result (Unit {0}) CcError)). Left a) is left
   where
     Left : Option (Result (Unit {0}) CcError) → Type 0
@@ -72,7 +72,7 @@ ended-left u me file span (round.Ended other) answer begun new is left = subst (
 ended-left u me file span (round.CameTo to) answer begun new is left = absurd (cc)
 ended-left u me file span round.GoesOn answer begun new is left = absurd (cc)
 
-pub ended-full : (it : Call) (w : Standing) (came : Round) (answer : Result (Unit {0}) CcError) → ended_of came ≡ Some answer → IsFullRound it w came → IsFullWriting it w answer
+pub ended-full : (it : Call) (w : Standing) (came : Round) (answer : Result (Unit {0}) CcError) → ended_of came ≡ Some answer → IsFullPurgeRound it w came → IsFullWriting it w answer
 ended-full it w (round.Ended other) answer is full = subst (λ (a : Option (Result (Unit {0}) CcError)). Full a) is full
   where
     Full : Option (Result (Unit {0}) CcError) → Type 0
@@ -128,10 +128,10 @@ module _ {D : Type 0} (told : D → Option Disk) (faults : D → ℕ) (w v x : S
   way_on begun way = subst (λ (n : ℕ). IsUnderWay n (call.Purge file span) begun v.seen) (sym number_on) (on.left begun way)
 
   -- what a round left of it
-  pub round-on : (came : Round) → ((begun : List Entry) → IsUnderWay v.number (call.Purge file span) begun v.seen → RoundLeft v.setup v.number file span came begun x.seen) → (begun : List Entry) → IsUnderWay w.number (call.Purge file span) begun w.seen → RoundLeft w.setup w.number file span came begun x.seen
+  pub round-on : (came : Round) → ((begun : List Entry) → IsUnderWay v.number (call.Purge file span) begun v.seen → PurgeRoundLeft v.setup v.number file span came begun x.seen) → (begun : List Entry) → IsUnderWay w.number (call.Purge file span) begun w.seen → PurgeRoundLeft w.setup w.number file span came begun x.seen
   round-on came left begun way =
-      subst (λ (n : ℕ). RoundLeft w.setup n file span came begun x.seen) number_on
-      (subst (λ (u : Setup). RoundLeft u v.number file span came begun x.seen) setup_on (left begun (way_on begun way)))
+      subst (λ (n : ℕ). PurgeRoundLeft w.setup n file span came begun x.seen) number_on
+      (subst (λ (u : Setup). PurgeRoundLeft u v.number file span came begun x.seen) setup_on (left begun (way_on begun way)))
 
   -- what it placed
   pub placed-on : (at : ℕ) (keeps : Bool) (came : Round) → RoundPlaced v.number b.stream at keeps came v.seen x.seen → RoundPlaced w.number file.stream at keeps came v.seen x.seen

@@ -35,9 +35,9 @@ use Rattle.cc_writes.specs.Work.{work_left}
 use Rattle.cc_writes.specs.Writes.{HasTransferred}
 use Rattle.cc_writes.proofs.Landing.{history-held}
 use Rattle.cc_writes.proofs.Work.{goes-less, writes-less}
-use Rattle.cc_ranges.specs.Purge.{HasGone, HasLess, IsAtPage, StepPlaced, left_to_empty, round_of}
+use Rattle.cc_ranges.specs.Purge.{PurgedPageHasGone, PurgeHasLess, PurgeIsAtPage, PurgeStepPlaced, left_to_empty, purge_round_of}
 use Rattle.cc_ranges.specs.declared.purge.Round.TheVariants as round
-use Rattle.cc_ranges.specs.declared.purge_visits.Step.TheVariants as step
+use Rattle.cc_ranges.specs.declared.purge_visits.PurgeStep.TheVariants as step
 
 -- no page is to stay
 abbrev none_stays : Range
@@ -65,7 +65,7 @@ module _ (w : Standing) (s : ℕ) (b : BookState) (has : HasBook w s b) (device 
   left-held seen grows = ap (λ (g : List Effect). work_left g (Some none_stays)) (history-held w s seen book device grows)
 
   -- a page went out
-  pub gone-less : (seen : List Entry) → HasGone w s seen → left_to_empty s seen < left_to_empty s w.seen
+  pub gone-less : (seen : List Entry) → PurgedPageHasGone w s seen → left_to_empty s seen < left_to_empty s w.seen
   gone-less seen gone =
       let front : history gone.placed.front s ≡ h = history-held w s gone.placed.front book device gone.placed.grows in
       let resident : is_resident h gone.page ≡ true = ap (λ (g : List Effect). is_resident g gone.page) (sym front) ∙ gone.resident in
@@ -93,12 +93,12 @@ module _ (w : Standing) (s : ℕ) (b : BookState) (has : HasBook w s b) (device 
       (resident-below w.setup w.seen s page good (dirty_resident-good w.setup w.seen s good page dirty)))
 
 -- a round that took its step from the stream's first page, and went on
-pub less-on : (w : Standing) (file : File) (span : Option Range) (b : BookState) (from : ℕ) (seen : List Entry) → HasBook w file.stream b → w.held.device ≡ Some file.stream → from ≡ 0 → StepPlaced w file span from step.GoesOn seen → HasLess file.stream round.GoesOn w.seen seen
+pub less-on : (w : Standing) (file : File) (span : Option Range) (b : BookState) (from : ℕ) (seen : List Entry) → HasBook w file.stream b → w.held.device ≡ Some file.stream → from ≡ 0 → PurgeStepPlaced w file span from step.GoesOn seen → PurgeHasLess file.stream round.GoesOn w.seen seen
 less-on w file span b from seen has device first (inl gone) = gone-less w file.stream b has device seen gone
 less-on w file span b from seen has device first (inr (later, grows)) = absurd (omega (arith, first, later))
 
 -- one whose step asked for a page, which was written
-pub less-wrote : (w v : Standing) (file : File) (span : Option Range) (b c : BookState) (s from page : ℕ) (keeps : Bool) (written : Result Call CcError) (seen : List Entry) → HasBook w file.stream b → w.held.device ≡ Some file.stream → HasBook v file.stream c → v.held.device ≡ Some file.stream → v.setup ≡ w.setup → s ≡ file.stream → keeps ≡ true → Grows w v.seen → IsAtPage w.setup file span from page v.seen → IfOk written (λ again. HasTransferred v (record { stream = s; page = page }) how.Good keeps seen) → HasLess file.stream (round_of written page) w.seen seen
+pub less-wrote : (w v : Standing) (file : File) (span : Option Range) (b c : BookState) (s from page : ℕ) (keeps : Bool) (written : Result Call CcError) (seen : List Entry) → HasBook w file.stream b → w.held.device ≡ Some file.stream → HasBook v file.stream c → v.held.device ≡ Some file.stream → v.setup ≡ w.setup → s ≡ file.stream → keeps ≡ true → Grows w v.seen → PurgeIsAtPage w.setup file span from page v.seen → IfOk written (λ again. HasTransferred v (record { stream = s; page = page }) how.Good keeps seen) → PurgeHasLess file.stream (purge_round_of written page) w.seen seen
 less-wrote w v file span b c s from page keeps (Err e) seen has device has_then device_then setup here kept grows asking done = tt
 less-wrote w v file span b c s from page keeps (Ok again) seen has device has_then device_then setup here kept grows asking done =
     subst (λ (n : ℕ). left_to_empty file.stream seen < n) (left-held w file.stream b has device v.seen grows)

@@ -10,8 +10,8 @@ use Rattle.cc_entry.specs.declared.entry.Entry.{Entry}
 use Rattle.cc_entry.specs.declared.entry.Entry.TheVariants as entry
 use Rattle.cc_entry.specs.declared.error.CcError.{CcError}
 use Rattle.cc_entry.specs.declared.reply.Reply.TheVariants as reply
-use Rattle.cc_book.specs.Book.{BookState, BookStands, Gains, GoesOn, MayDo, MayPlace, done, failed}
-use Rattle.cc_step.specs.Fill.{MayFill, page_of}
+use Rattle.cc_book.specs.Book.{BookState, BookStands, Gains, GoesOn, MayDoOnBook, MayPlaceOnBook, done, failed}
+use Rattle.cc_step.specs.Fill.{MayFill, book_page}
 use Rattle.cc_step.proofs.Admitted.{admitted as admitted-steps}
 use Rattle.cc_step.proofs.Below.{resident-numbered}
 use Rattle.cc_step.proofs.Owed.{unheld-stamped}
@@ -38,10 +38,10 @@ use Rattle.cc_step.proofs.Placed.{good-failed, so-far}
 use Rattle.cc_step.proofs.Reserved.{reserved-done}
 use Rattle.cc_ranges.specs.Dirty.{IsNext, IsCleanFrom}
 use Rattle.cc_ranges.specs.FlushSteps.{without_one}
-use Rattle.cc_ranges.specs.Residents.{IsLeast}
-use Rattle.cc_ranges.specs.PurgeSteps.{HasToWrite, HasCleaned, HasTakenOut, NextLeft, GoneOn}
-use Rattle.cc_ranges.specs.declared.purge_steps.Next.{Next}
-use Rattle.cc_ranges.specs.declared.purge_steps.Next.TheVariants as next
+use Rattle.cc_ranges.specs.Residents.{IsLeastResident}
+use Rattle.cc_ranges.specs.PurgeSteps.{PurgeHasToWrite, HasCleaned, HasTakenOut, PurgeNextLeft, PurgeGoneOn}
+use Rattle.cc_ranges.specs.declared.purge_steps.PurgeNext.{PurgeNext}
+use Rattle.cc_ranges.specs.declared.purge_steps.PurgeNext.TheVariants as next
 use Rattle.cc_ranges.proofs.FlushStepping.{nothing_owed, less-more, more-less, one_asked}
 use Rattle.cc_ranges.proofs.Unheld.{unheld}
 use Rattle.cc_ranges.proofs.Emptying.{may-go, asked-out}
@@ -67,7 +67,7 @@ module _ {Q : Type 0} (u : Setup) (pass : ℕ) (file : File) (span : Option Rang
   back = ap (λ (n : ℕ). record j { reserved = n }) (less-more j.reserved some)
 
   -- a hold has a page of the span, or another refusal came about
-  pub may-fail : (e : CcError) → refusal u j.entries (history j.entries b.stream) it ≡ Some e → MayPlace j.entries (failed pass j.entries b.stream it e) b
+  pub may-fail : (e : CcError) → refusal u j.entries (history j.entries b.stream) it ≡ Some e → MayPlaceOnBook j.entries (failed pass j.entries b.stream it e) b
   may-fail e reason = (u, so-far u _ (good-failed u j.entries pass b.stream it e refl may.may.stand.good may.may.filed reason), may.may.stand.stands)
 
   pub refused-here : (e : CcError) (c : BookState) (k : JournalState Q) → refusal u j.entries (history j.entries b.stream) it ≡ Some e → Gains (failed pass j.entries b.stream it e) j k → GoesOn j.entries k.entries b c → c ≡ b → AttemptRefused u pass it e b c (without_one j) (forgoing j pass k)
@@ -97,7 +97,7 @@ module _ {Q : Type 0} (u : Setup) (pass : ℕ) (file : File) (span : Option Rang
   cleaned from k later clean released = record { later = later; clean = clean; same_book = refl; same_journal = released }
 
   module _ (admitted : refusal u j.entries (history j.entries b.stream) it ≡ None) where
-    pub to-write : (from page : ℕ) (k : JournalState Q) → IsNext (history j.entries b.stream) span from page → k ≡ record j { reserved = j.reserved - 1 } → HasToWrite u file span from page b b (without_one j) k
+    pub to-write : (from page : ℕ) (k : JournalState Q) → IsNext (history j.entries b.stream) span from page → k ≡ record j { reserved = j.reserved - 1 } → PurgeHasToWrite u file span from page b b (without_one j) k
     to-write from page k next released = record {
       admitted = admitted;
       next = next;
@@ -108,27 +108,27 @@ module _ {Q : Type 0} (u : Setup) (pass : ℕ) (file : File) (span : Option Rang
     }
 
     -- the least resident page goes out
-    module _ (page : ℕ) (clean : IsCleanFrom (history j.entries b.stream) span 0) (least : IsLeast (history j.entries b.stream) span page) where
+    module _ (page : ℕ) (clean : IsCleanFrom (history j.entries b.stream) span 0) (least : IsLeastResident (history j.entries b.stream) span page) where
       pub page-numbered : page < 2 ^ 51
       page-numbered = resident-numbered u j.entries b.stream page (so-far u j.entries may.may.stand.good) least.resident
 
-      good-going : IsGood u (entry.PageOut pass (page_of b page) ∷ j.entries)
+      good-going : IsGood u (entry.PageOut pass (book_page b page) ∷ j.entries)
       good-going =
           good-out u j.entries pass b.stream page may.may.stand.good
           (may-go (history j.entries b.stream) span page clean least may.no_transfer (unheld u j.entries (history j.entries b.stream) file span page admitted least.in_span))
 
-      pub may-take_out : MayPlace j.entries (entry.PageOut pass (page_of b page)) b
+      pub may-take_out : MayPlaceOnBook j.entries (entry.PageOut pass (book_page b page)) b
       may-take_out = (u, so-far u _ good-going, may.may.stand.stands)
 
-      pub taken-out : (c : BookState) (k : JournalState Q) → Gains (entry.PageOut pass (page_of b page)) j k → GoesOn j.entries k.entries b c → c.stream ≡ b.stream → HasTakenOut u pass file span b c (without_one j) k
+      pub taken-out : (c : BookState) (k : JournalState Q) → Gains (entry.PageOut pass (book_page b page)) j k → GoesOn j.entries k.entries b c → c.stream ≡ b.stream → HasTakenOut u pass file span b c (without_one j) k
       taken-out c k gains goes same =
-          let adds = adds-reserving (entry.PageOut pass (page_of b page)) (without_one j) k (subst (λ (x : JournalState Q). Gains (entry.PageOut pass (page_of b page)) x k) (sym back) gains) in
+          let adds = adds-reserving (entry.PageOut pass (book_page b page)) (without_one j) k (subst (λ (x : JournalState Q). Gains (entry.PageOut pass (book_page b page)) x k) (sym back) gains) in
           record {
             page = page;
             resident = least.resident;
             asked = asked-out j.entries pass b.stream file span page (admitted-steps u j.entries b.stream it admitted) (inner b.stream file.stream may.may.filed) clean least;
             placed = adds;
-            stand = stand-onto u (entry.PageOut pass (page_of b page)) b c (without_one j) k may.may.stand good-going (ap (λ (x : JournalState Q). x.entries) adds) (ap (λ (x : JournalState Q). x.logs) adds) (ap (λ (x : JournalState Q). x.threshold) adds) same (goes (u.opening b.stream) may.may.stand.stands);
+            stand = stand-onto u (entry.PageOut pass (book_page b page)) b c (without_one j) k may.may.stand good-going (ap (λ (x : JournalState Q). x.entries) adds) (ap (λ (x : JournalState Q). x.logs) adds) (ap (λ (x : JournalState Q). x.threshold) adds) same (goes (u.opening b.stream) may.may.stand.stands);
             stream = same;
           }
 
@@ -137,7 +137,7 @@ module _ {Q : Type 0} (u : Setup) (pass : ℕ) (file : File) (span : Option Rang
       good-here : IsGood u (done pass j.entries b.stream it reply.Unit ∷ j.entries)
       good-here = good-purged u j.entries pass b.stream file span may.may.stand.good may.may.filed admitted out
 
-      pub may-do : MayDo u j.entries pass it reply.Unit b
+      pub may-do : MayDoOnBook u j.entries pass it reply.Unit b
       may-do = record { good = so-far u _ good-here; stands = may.may.stand.stands }
 
       pub done-here : (c : BookState) (k : JournalState Q) → Gains (done pass j.entries b.stream it reply.Unit) j k → BookStands (u.opening b.stream) k.entries c → c.stream ≡ b.stream → AttemptDone u pass it reply.Unit b c (without_one j) (forgoing j pass k)
@@ -168,10 +168,10 @@ module _ {Q : Type 0} (u : Setup) (pass : ℕ) (file : File) (span : Option Rang
   pub may-again : MayFill u pass (call.Purge file span) b j → MayFill u pass (call.Purge file span) b (without_one (reserving j))
   may-again may = subst (λ (x : JournalState Q). MayFill u pass (call.Purge file span) b x) (sym again) may
 
-  pub next-left : (from : ℕ) (ended : Next) → GoneOn u pass file span from ended b c (reserving j) k → NextLeft u pass file span from ended b c j k
-  next-left from next.Done left = subst (λ (x : JournalState Q). NextLeft u pass file span from next.Done b c x k) again left
-  next-left from (next.Refused e) left = subst (λ (x : JournalState Q). NextLeft u pass file span from (next.Refused e) b c x k) again left
-  next-left from (next.Writes page) left = subst (λ (x : JournalState Q). NextLeft u pass file span from (next.Writes page) b c x k) again left
-  next-left from next.Cleaned left = subst (λ (x : JournalState Q). NextLeft u pass file span from next.Cleaned b c x k) again left
-  next-left from next.WentOut left = subst (λ (x : JournalState Q). NextLeft u pass file span from next.WentOut b c x k) again left
+  pub next-left : (from : ℕ) (ended : PurgeNext) → PurgeGoneOn u pass file span from ended b c (reserving j) k → PurgeNextLeft u pass file span from ended b c j k
+  next-left from next.Done left = subst (λ (x : JournalState Q). PurgeNextLeft u pass file span from next.Done b c x k) again left
+  next-left from (next.Refused e) left = subst (λ (x : JournalState Q). PurgeNextLeft u pass file span from (next.Refused e) b c x k) again left
+  next-left from (next.Writes page) left = subst (λ (x : JournalState Q). PurgeNextLeft u pass file span from (next.Writes page) b c x k) again left
+  next-left from next.Cleaned left = subst (λ (x : JournalState Q). PurgeNextLeft u pass file span from next.Cleaned b c x k) again left
+  next-left from next.WentOut left = subst (λ (x : JournalState Q). PurgeNextLeft u pass file span from next.WentOut b c x k) again left
   next-left from (next.Stopped e) left = (inr (left.0, one_asked), subst (λ (x : JournalState Q). FoundNone u b c x k) again left.1)

@@ -32,13 +32,13 @@ use Rattle.cc_model.specs.Stamps.{is_unstamped}
 use Rattle.cc_model.specs.Touches.{is_dirty, size_of}
 use Rattle.cc_step.proofs.Placed.{so-far}
 use Rattle.cc_turns.specs.Standing.{Standing}
-use Rattle.cc_writes.specs.Visits.{IsOf}
+use Rattle.cc_writes.specs.Visits.{CallIsOfStream}
 use Rattle.cc_writes.proofs.Others.{some-on}
 use Rattle.cc_writes.specs.Writes.{HasTransferred, IsToWrite}
-use Rattle.cc_ranges.specs.ReadVisits.{page_in, IsReading, IsAtRead, IsToWriteFirst}
+use Rattle.cc_ranges.specs.ReadVisits.{file_page, IsReading, IsAtRead, IsToWriteFirst}
 
 -- the read of a page is filed under the stream of its file
-pub read-filed : (file : File) (page : ℕ) (s : ℕ) → s ≡ file.stream → IsOf (call.NcRead file page) s
+pub read-filed : (file : File) (page : ℕ) (s : ℕ) → s ≡ file.stream → CallIsOfStream (call.NcRead file page) s
 read-filed file page s here holds pass = ap Some here
 
 -- others end no transfer of the pass
@@ -65,26 +65,26 @@ pub reading-on : (me : ℕ) (file : File) (page : ℕ) (written : Bool) (begun o
 unfolding way-on
 reading-on me file page written begun old new is idle = record {
   way = way-on me (call.NcRead file page) begun old new is.way idle;
-  wrote = λ yes. end-after me (page_in file page) idle.during is.way.during idle.others (is.wrote yes);
+  wrote = λ yes. end-after me (file_page file page) idle.during is.way.during idle.others (is.wrote yes);
 }
 
 pub at_read-on : (u : Setup) (me : ℕ) (file : File) (page : ℕ) (begun old new : List Entry) → IsAtRead u me file page begun old → IsIdle me old new → IsAtRead u me file page begun new
 unfolding way-on
 at_read-on u me file page begun old new is idle = record {
   way = way-on me (call.NcRead file page) begun old new is.way idle;
-  written = written-after me (page_in file page) idle.during is.way.during begun idle.others is.written;
-  wanted = some-on (λ moment. (refusal u moment (history moment file.stream) (call.NcRead file page) ≡ None) × (reaches (call.NcRead file page) (page_in file page) moment ≡ true)) me begun old new is.wanted idle;
+  written = written-after me (file_page file page) idle.during is.way.during begun idle.others is.written;
+  wanted = some-on (λ moment. (refusal u moment (history moment file.stream) (call.NcRead file page) ≡ None) × (reaches (call.NcRead file page) (file_page file page) moment ≡ true)) me begun old new is.wanted idle;
 }
 
 -- the page was written for it, or has no bytes now that could be
-pub clean-written : (me : ℕ) (file : File) (page : ℕ) (written : Bool) (begun new : List Entry) (on : IsReading me file page written begun new) → (written ≡ false → has_no_write (page_in file page) new ≡ true) → WasWritten me (page_in file page) on.way.during begun
+pub clean-written : (me : ℕ) (file : File) (page : ℕ) (written : Bool) (begun new : List Entry) (on : IsReading me file page written begun new) → (written ≡ false → has_no_write (file_page file page) new ≡ true) → WasWritten me (file_page file page) on.way.during begun
 clean-written me file page true begun new on clean = inl (on.wrote refl)
 clean-written me file page false begun new on clean =
-    inr (some-end (λ moment. has_no_write (page_in file page) moment ≡ true) on.way.during begun
-    (subst (λ (past : List Entry). has_no_write (page_in file page) past ≡ true) on.way.grew (clean refl)))
+    inr (some-end (λ moment. has_no_write (file_page file page) moment ≡ true) on.way.during begun
+    (subst (λ (past : List Entry). has_no_write (file_page file page) past ≡ true) on.way.grew (clean refl)))
 
 -- its entry stands behind what it did
-pub done-left : (u : Setup) (me s : ℕ) (file : File) (page : ℕ) → s ≡ file.stream → (nth : ℕ) (r : Reply) (begun front : List Entry) (way : IsUnderWay me (call.NcRead file page) begun front) → WasWritten me (page_in file page) way.during begun → CallLeft u me (call.NcRead file page) (outcome.Done r) begun (entry.Call me nth (Some s) (call.NcRead file page) (outcome.Done r) ∷ front)
+pub done-left : (u : Setup) (me s : ℕ) (file : File) (page : ℕ) → s ≡ file.stream → (nth : ℕ) (r : Reply) (begun front : List Entry) (way : IsUnderWay me (call.NcRead file page) begun front) → WasWritten me (file_page file page) way.during begun → CallLeft u me (call.NcRead file page) (outcome.Done r) begun (entry.Call me nth (Some s) (call.NcRead file page) (outcome.Done r) ∷ front)
 done-left u me s file page here nth r begun front way written = record {
   earlier = way.during;
   placed = record {
@@ -110,7 +110,7 @@ has-stored page size below =
     end : (stored_range page size).to ≡ min (4096 * page + 4096) size
     end = rw (lt-ltb (4096 * page) size below) refl
 
-pub reached-at : (file : File) (page s : ℕ) (past : List Entry) → s ≡ file.stream → 4096 * page < size_of (history past s) → reaches (call.NcRead file page) (page_in file page) past ≡ true
+pub reached-at : (file : File) (page s : ℕ) (past : List Entry) → s ≡ file.stream → 4096 * page < size_of (history past s) → reaches (call.NcRead file page) (file_page file page) past ≡ true
 reached-at file page s past here below =
     and_from _ _ (eq-eqb file.stream file.stream refl)
     (has-stored page (size_of (history past file.stream)) (subst (λ (n : ℕ). 4096 * page < size_of (history past n)) here below))
@@ -151,23 +151,23 @@ ends : (me : ℕ) (page : Page) (during rest : List Entry) → during ≡ entry.
 ends me page during rest is = ap (λ l. has_end ended_ok me page l) is ∙ is-end me page rest
 
 -- the page was written for a read that is under way from before to behind the transfer
-pub wrote : (w : Standing) (file : File) (page : ℕ) (begun new : List Entry) → IsUnderWay w.number (call.NcRead file page) begun w.seen → HasTransferred w (page_in file page) how.Good false new → (way : IsUnderWay w.number (call.NcRead file page) begun new) → IsReading w.number file page true begun new
+pub wrote : (w : Standing) (file : File) (page : ℕ) (begun new : List Entry) → IsUnderWay w.number (call.NcRead file page) begun w.seen → HasTransferred w (file_page file page) how.Good false new → (way : IsUnderWay w.number (call.NcRead file page) begun new) → IsReading w.number file page true begun new
 wrote w file page begun new was shown way = record {
   way = way;
-  wrote = λ yes. ends w.number (page_in file page) way.during (middle ++ was.during) (append_cancel_right way.during (end ∷ (middle ++ was.during)) begun same);
+  wrote = λ yes. ends w.number (file_page file page) way.during (middle ++ was.during) (append_cancel_right way.during (end ∷ (middle ++ was.during)) begun same);
 }
   where
     end : Entry
-    end = entry.WriteEnd w.number (page_in file page) how.Good
+    end = entry.WriteEnd w.number (file_page file page) how.Good
 
     middle : List Entry
-    middle = shown.later ++ (entry.WriteBegin w.number (page_in file page) ∷ shown.is_before.since)
+    middle = shown.later ++ (entry.WriteBegin w.number (file_page file page) ∷ shown.is_before.since)
 
-    parts : new ≡ end ∷ (shown.later ++ (entry.WriteBegin w.number (page_in file page) ∷ (shown.is_before.since ++ (was.during ++ begun))))
+    parts : new ≡ end ∷ (shown.later ++ (entry.WriteBegin w.number (file_page file page) ∷ (shown.is_before.since ++ (was.during ++ begun))))
     parts =
         shown.placed
-        ∙ (ap (λ past. end ∷ (shown.later ++ (entry.WriteBegin w.number (page_in file page) ∷ past))) shown.is_before.grew
-        ∙ ap (λ past. end ∷ (shown.later ++ (entry.WriteBegin w.number (page_in file page) ∷ (shown.is_before.since ++ past)))) was.grew)
+        ∙ (ap (λ past. end ∷ (shown.later ++ (entry.WriteBegin w.number (file_page file page) ∷ past))) shown.is_before.grew
+        ∙ ap (λ past. end ∷ (shown.later ++ (entry.WriteBegin w.number (file_page file page) ∷ (shown.is_before.since ++ past)))) was.grew)
 
     joined : (xs : List Entry) (e : Entry) (ys zs rest : List Entry) → xs ++ (e ∷ (ys ++ (zs ++ rest))) ≡ ((xs ++ (e ∷ ys)) ++ zs) ++ rest
     joined xs e ys zs rest =
@@ -176,4 +176,4 @@ wrote w file page begun new was shown way = record {
         ∙ ap (λ l. l ++ rest) (sym (append_assoc xs (e ∷ ys) zs)))
 
     same : way.during ++ begun ≡ (end ∷ (middle ++ was.during)) ++ begun
-    same = sym way.grew ∙ (parts ∙ ap (λ l. end ∷ l) (joined shown.later (entry.WriteBegin w.number (page_in file page)) shown.is_before.since was.during begun))
+    same = sym way.grew ∙ (parts ∙ ap (λ l. end ∷ l) (joined shown.later (entry.WriteBegin w.number (file_page file page)) shown.is_before.since was.during begun))

@@ -41,13 +41,14 @@ use Rattle.cc_writes.proofs.VisitStepping.{disk-grew, fill-as}
 use Rattle.cc_writes.proofs.Telling.{same-reply}
 use Rattle.cc_writes.proofs.Visiting.{Visiting, Visited, visited}
 use Rattle.cc_book.specs.Noncached.{WasRead}
-use Rattle.cc_ranges.specs.ReadSteps.{HasEnded, MayEnd, without_one}
-use Rattle.cc_ranges.specs.ReadVisits.{FitsEnded, IsAtRead, ReadEnded, ToldEnded, WasReadHere, count_of}
-use Rattle.cc_ranges.specs.declared.read_steps.Ended.{Ended}
-use Rattle.cc_ranges.specs.declared.read_steps.Ended.TheVariants as ended
+use Rattle.cc_ranges.specs.ReadSteps.{ReadHasEnded, ReadMayEnd}
+use Rattle.cc_ranges.specs.ReadVisits.{FitsEnded, IsAtRead, ReadEnded, ToldEnded, WasReadHere, told_count}
+use Rattle.cc_ranges.specs.declared.read_steps.ReadEnd.{ReadEnd}
+use Rattle.cc_ranges.specs.declared.read_steps.ReadEnd.TheVariants as ended
 use Rattle.cc_ranges.proofs.ReadCalls.{read-filed, at_read-on, done-left}
 use Rattle.cc_ranges.proofs.ReadPlacing.{stepping-owing, stepping-read}
 use Rattle.cc_ranges.proofs.Misshapen.{read-unshaped}
+use Rattle.cc_ranges.specs.FlushSteps.{without_one}
 
 -- what a read answers is bytes
 bytes-read : (told : Option (ℕ → List ℕ)) (h : List Effect) (at n : ℕ) (r : Reply) → Reads told h at n r → (bytes : List ℕ) × (r ≡ reply.Read bytes)
@@ -90,7 +91,7 @@ module _ {Q : Type 0} (posted : Q → Bool) (w v : Standing) (file : File) (page
         no_transfer = fill.no_transfer;
       }
 
-  pub may-end : (pass : ℕ) (raw : List ℕ) → pass ≡ v.number → WasReadHere w file page raw → MayEnd w.setup pass file page raw b (without_one j)
+  pub may-end : (pass : ℕ) (raw : List ℕ) → pass ≡ v.number → WasReadHere w file page raw → ReadMayEnd w.setup pass file page raw b (without_one j)
   may-end pass raw me read = record {
     may = fill-less pass me;
     read = subst (λ (h : List Effect). WasRead (w.setup.opening b.stream) h page raw)
@@ -98,11 +99,11 @@ module _ {Q : Type 0} (posted : Q → Bool) (w v : Standing) (file : File) (page
         (subst (λ (n : ℕ). WasRead (w.setup.opening n) (history w.seen n) page raw) (sym here) read);
   }
 
-  pub ended-as : (pass : ℕ) (raw : List ℕ) (end : Ended) → pass ≡ v.number → WasReadHere w file page raw → ((u : Setup) → MayEnd u pass file page raw b (without_one j) → HasEnded u pass file page end b c j k) → HasEnded w.setup w.number file page end b c j k
+  pub ended-as : (pass : ℕ) (raw : List ℕ) (end : ReadEnd) → pass ≡ v.number → WasReadHere w file page raw → ((u : Setup) → ReadMayEnd u pass file page raw b (without_one j) → ReadHasEnded u pass file page end b c j k) → ReadHasEnded w.setup w.number file page end b c j k
   ended-as pass raw end me read left =
-      subst (λ (n : ℕ). HasEnded w.setup n file page end b c j k) (number-is posted w v it b c j k has vis refl filed pass me) (left w.setup (may-end pass raw me read))
+      subst (λ (n : ℕ). ReadHasEnded w.setup n file page end b c j k) (number-is posted w v it b c j k has vis refl filed pass me) (left w.setup (may-end pass raw me read))
 
-  pub visited-end : (end : Ended) → HasEnded w.setup w.number file page end b c j k → Visited posted w v b.stream 0 c k
+  pub visited-end : (end : ReadEnd) → ReadHasEnded w.setup w.number file page end b c j k → Visited posted w v b.stream 0 c k
   visited-end ended.Done left =
       visited posted w v b.stream 0 (done w.number j.entries b.stream it left.0 ∷ []) b c j k has vis
       (stepping-read posted w v file page b c j k has vis rest 0 (j.reserved - 1) left.0 left.1 owes-less fewer)
@@ -113,7 +114,7 @@ module _ {Q : Type 0} (posted : Q → Bool) (w v : Standing) (file : File) (page
       left.placed left.stand (ap (λ (x : BookState). x.stream) left.same) owes-less fewer)
   visited-end ended.Stopped left = visited-back posted w v b c j k has vis rest reserved left.same_journal left.stand left.stream
 
-  pub disk-end : (end : Ended) → HasEnded w.setup w.number file page end b c j k → SameDisk w.seen k.entries b.stream
+  pub disk-end : (end : ReadEnd) → ReadHasEnded w.setup w.number file page end b c j k → SameDisk w.seen k.entries b.stream
   disk-end ended.Done left =
       disk-grew posted w v it b c j k has vis refl filed rest _ (disk-call w.number (suc (calls_of j.entries w.number)) (Some b.stream) it (outcome.Done left.0) j.entries b.stream) (ap (λ (x : JournalState Q). x.entries) left.1.placed)
   disk-end (ended.Refused e) left =
@@ -135,7 +136,7 @@ module _ {Q : Type 0} (posted : Q → Bool) (w v : Standing) (file : File) (page
   reads-done r left =
       replied w.setup w.number b.stream it r j.entries (subst (λ (past : List Entry). IsGood w.setup past) (ap (λ (x : JournalState Q). x.entries) left.placed) left.stand.good)
 
-  pub fits-end : (end : Ended) (out : List ℕ) → HasEnded w.setup w.number file page end b c j k → length out ≡ 4096 → FitsEnded end k.entries out
+  pub fits-end : (end : ReadEnd) (out : List ℕ) → ReadHasEnded w.setup w.number file page end b c j k → length out ≡ 4096 → FitsEnded end k.entries out
   fits-end ended.Done out left room = λ x answered.
       subst (λ (y : Reply). FitsReply y out) (same-reply k.entries left.0 x (last-done left.0 left.1) answered)
       (reads-fit (w.setup.opening b.stream) (history j.entries b.stream) (4096 * page) 4096 left.0 out (reads-done left.0 left.1) (omega (arith, room)))
@@ -147,9 +148,9 @@ module _ {Q : Type 0} (posted : Q → Bool) (w v : Standing) (file : File) (page
     on : IsAtRead w.setup w.number file page begun j.entries
     on = at_read-on w.setup w.number file page begun w.seen j.entries is vis.idle
 
-    told-left : (r : Reply) (told : Returned) (was now : List ℕ) → AttemptDone w.setup w.number it r b c (without_one j) k → length was ≡ 4096 → (bytes : List ℕ) → r ≡ reply.Read bytes → length bytes ≤ 4096 → IsTold (reply.Read bytes) told was now → ReadEnded w.setup w.number file page (Ok (count_of told)) begun k.entries was now
+    told-left : (r : Reply) (told : Returned) (was now : List ℕ) → AttemptDone w.setup w.number it r b c (without_one j) k → length was ≡ 4096 → (bytes : List ℕ) → r ≡ reply.Read bytes → length bytes ≤ 4096 → IsTold (reply.Read bytes) told was now → ReadEnded w.setup w.number file page (Ok (told_count told)) begun k.entries was now
     told-left r told was now left room bytes is_bytes short tells =
-        subst (λ (t : Returned). ReadEnded w.setup w.number file page (Ok (count_of t)) begun k.entries was now) (sym tells.0)
+        subst (λ (t : Returned). ReadEnded w.setup w.number file page (Ok (told_count t)) begun k.entries was now) (sym tells.0)
         (record {
           left = subst (λ (x : Reply). CallLeft w.setup w.number it (outcome.Done x) begun k.entries) (is_bytes ∙ ap reply.Read (sym tells.1))
               (subst (λ (past : List Entry). CallLeft w.setup w.number it (outcome.Done r) begun past) (sym (ap (λ (x : JournalState Q). x.entries) left.placed))
@@ -158,7 +159,7 @@ module _ {Q : Type 0} (posted : Q → Bool) (w v : Standing) (file : File) (page
           unshaped = tt;
         })
 
-    pub left-end : (end : Ended) (answer : Result ℕ CcError) (was now : List ℕ) → HasEnded w.setup w.number file page end b c j k → length was ≡ 4096 → ToldEnded end answer k.entries was now → ReadEnded w.setup w.number file page answer begun k.entries was now
+    pub left-end : (end : ReadEnd) (answer : Result ℕ CcError) (was now : List ℕ) → ReadHasEnded w.setup w.number file page end b c j k → length was ≡ 4096 → ToldEnded end answer k.entries was now → ReadEnded w.setup w.number file page answer begun k.entries was now
     left-end ended.Done answer was now left room told =
         let reads = reads-done left.0 left.1 in
         let bytes = bytes-read (w.setup.opening b.stream) (history j.entries b.stream) (4096 * page) 4096 left.0 reads in
@@ -183,7 +184,7 @@ module _ {Q : Type 0} (posted : Q → Bool) (w v : Standing) (file : File) (page
           unshaped = refl;
         })
 
-  pub full-end : (end : Ended) (answer : Result ℕ CcError) (was now : List ℕ) → HasEnded w.setup w.number file page end b c j k → ToldEnded end answer k.entries was now → IsFull 1 (without_journal k v) answer
+  pub full-end : (end : ReadEnd) (answer : Result ℕ CcError) (was now : List ℕ) → ReadHasEnded w.setup w.number file page end b c j k → ToldEnded end answer k.entries was now → IsFull 1 (without_journal k v) answer
   full-end ended.Done answer was now left told = subst (λ (a : Result ℕ CcError). IsFull 1 (without_journal k v) a) (sym told.1) tt
   full-end (ended.Refused e) answer was now left told =
       subst (λ (a : Result ℕ CcError). IsFull 1 (without_journal k v) a) (sym told.0)

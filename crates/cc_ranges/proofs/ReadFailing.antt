@@ -7,7 +7,7 @@ use Rattle.cc_entry.specs.declared.entry.Entry.{Entry}
 use Rattle.cc_entry.specs.declared.error.CcError.TheVariants as error
 use Rattle.cc_book.specs.Book.{BookState, BookStands, Gains}
 use Rattle.cc_book.proofs.BookSteps.{goes_on_none}
-use Rattle.cc_step.specs.Fill.{page_of}
+use Rattle.cc_step.specs.Fill.{book_page}
 use Rattle.cc_step.proofs.PlacedPages.{good-unread, stand-onto}
 use Rattle.cc_journal.specs.Journal.{JournalState}
 use Rattle.cc_laws.proofs.HistorySteps.{history-fill_failed}
@@ -55,7 +55,7 @@ module _ {Q : Type 0} (posted : Q → Bool) (w v : Standing) (file : File) (page
       device = ap (λ (x : Standing). x.held.device) visited-failed.went.same ∙ rest.device;
       no_transfer =
           ap (λ (past : List Entry). open_of (history past b.stream)) entries-are
-          ∙ (ap open_of (history-fill_failed w.number (page_of b page) j.entries b.stream)
+          ∙ (ap open_of (history-fill_failed w.number (book_page b page) j.entries b.stream)
           ∙ rest-same w.seen j.entries b.stream (disk-held w b.stream j.entries rest.device vis.grows) rest.no_transfer);
     }
 

@@ -12,10 +12,10 @@ use Rattle.cc_effects.specs.Calls.{IsUnderWay}
 use Rattle.cc_model.specs.Setup.{Setup}
 use Rattle.cc_turns.specs.Standing.{Standing}
 use Rattle.cc_writes.specs.Hands.{WentWith}
-use Rattle.cc_writes.specs.Ways.{IsFull, IsFullError, IsReason}
-use Rattle.cc_writes.specs.Calls.{MayFaultInWriting, PageLeft}
+use Rattle.cc_writes.specs.Ways.{IsFull, IsFullError, IsCallReason}
+use Rattle.cc_writes.specs.Calls.{MayFaultInWriting, PageStepLeft}
 use Rattle.cc_writes.proofs.Halting.{no-memory}
-use Rattle.cc_ranges.specs.ReadVisits.{page_in, ReadEnded, IsReading}
+use Rattle.cc_ranges.specs.ReadVisits.{file_page, ReadEnded, IsReading}
 use Rattle.cc_ranges.proofs.Misshapen.{read-unshaped}
 
 -- what is said of a pass as it stands is said of it as it stood, and the other way round
@@ -38,11 +38,11 @@ pub begins-reading : (me : ℕ) (file : File) (page : ℕ) (begun new : List Ent
 begins-reading me file page begun new way = record { way = way; wrote = λ yes. absurd (cc) }
 
 -- its page may be written for it, where nothing refuses it
-pub asks-page : (file : File) (page : ℕ) (past : List Entry) → is_admitted (call.NcRead file page) file.stream past ≡ true → reaches (call.NcRead file page) (page_in file page) past ≡ true → may_write (Calls (call.NcRead file page)) (page_in file page) past ≡ true
+pub asks-page : (file : File) (page : ℕ) (past : List Entry) → is_admitted (call.NcRead file page) file.stream past ≡ true → reaches (call.NcRead file page) (file_page file page) past ≡ true → may_write (Calls (call.NcRead file page)) (file_page file page) past ≡ true
 asks-page file page past admitted reached = and_from (is_admitted (call.NcRead file page) file.stream past) _ admitted reached
 
 -- the writing of its page failed
-pub failed-write : (u : Setup) (me s : ℕ) (file : File) (page : ℕ) (e : CcError) (begun new : List Entry) (was : List ℕ) → PageLeft u me (call.NcRead file page) (Err e) begun new → IsReason u s (call.NcRead file page) e → ReadEnded u me file page (Err e) begun new was was
+pub failed-write : (u : Setup) (me s : ℕ) (file : File) (page : ℕ) (e : CcError) (begun new : List Entry) (was : List ℕ) → PageStepLeft u me (call.NcRead file page) (Err e) begun new → IsCallReason u s (call.NcRead file page) e → ReadEnded u me file page (Err e) begun new was was
 failed-write u me s file page e begun new was left reason = record { left = left; behind = refl; unshaped = read-unshaped u s file page e reason }
 
 -- the disk found no memory

@@ -29,10 +29,10 @@ use Rattle.cc_writes.proofs.Placing.{has-book, stepping-none}
 use Rattle.cc_writes.proofs.Refusals.{stops-free}
 use Rattle.cc_writes.proofs.VisitStepping.{disk-grew, fill-as}
 use Rattle.cc_writes.proofs.Visiting.{Visiting, Visited, visited}
-use Rattle.cc_ranges.specs.ReadSteps.{NextLeft, HasNone, HasToRead, IsClean}
-use Rattle.cc_ranges.specs.ReadVisits.{page_in, ReadEnded, IsReading, IsAtRead, IsToWriteFirst, IsBelow, LookLeft, LookAsks, LookWent, IsFullLook, look_of}
-use Rattle.cc_ranges.specs.declared.read_steps.Next.{Next}
-use Rattle.cc_ranges.specs.declared.read_steps.Next.TheVariants as next
+use Rattle.cc_ranges.specs.ReadSteps.{ReadNextLeft, HasNone, ReadHasToRead, IsClean}
+use Rattle.cc_ranges.specs.ReadVisits.{file_page, ReadEnded, IsReading, IsAtRead, IsToWriteFirst, IsBelow, LookLeft, LookAsks, LookWent, IsFullLook, look_of}
+use Rattle.cc_ranges.specs.declared.read_steps.ReadNext.{ReadNext}
+use Rattle.cc_ranges.specs.declared.read_steps.ReadNext.TheVariants as next
 use Rattle.cc_ranges.proofs.ReadCalls.{read-filed, reading-on, clean-written, done-left, reached-at, write-asked, numbered, dirty-below, has-write}
 use Rattle.cc_ranges.proofs.Misshapen.{read-unshaped, stop-met}
 use Rattle.cc_ranges.proofs.ReadPlacing.{owes, stepping-read}
@@ -48,16 +48,16 @@ module _ {Q : Type 0} (posted : Q → Bool) (w v : Standing) (file : File) (page
   pub may-next : (pass : ℕ) → pass ≡ v.number → MayFill w.setup pass it b j
   may-next pass me = fill-as posted w v it b c j k has vis refl filed rest pass me
 
-  pub stepped : (pass : ℕ) (ended : Next) → pass ≡ v.number → ((u : Setup) → MayFill u pass it b j → NextLeft u pass file page written ended b c j k) → NextLeft w.setup w.number file page written ended b c j k
+  pub stepped : (pass : ℕ) (ended : ReadNext) → pass ≡ v.number → ((u : Setup) → MayFill u pass it b j → ReadNextLeft u pass file page written ended b c j k) → ReadNextLeft w.setup w.number file page written ended b c j k
   stepped pass ended me left =
-      subst (λ (n : ℕ). NextLeft w.setup n file page written ended b c j k) (number-is posted w v it b c j k has vis refl filed pass me) (left w.setup (may-next pass me))
+      subst (λ (n : ℕ). ReadNextLeft w.setup n file page written ended b c j k) (number-is posted w v it b c j k has vis refl filed pass me) (left w.setup (may-next pass me))
 
   -- so many places are under way after it
-  abbrev pub flight_after : Next → ℕ
+  abbrev pub flight_after : ReadNext → ℕ
   flight_after next.Reads = suc w.in_flight
   flight_after other = w.in_flight
 
-  pub few-after : w.in_flight ≡ 0 → (ended : Next) → flight_after ended ≤ 1
+  pub few-after : w.in_flight ≡ 0 → (ended : ReadNext) → flight_after ended ≤ 1
   few-after none next.Done = omega (arith, none)
   few-after none (next.Refused e) = omega (arith, none)
   few-after none next.Writes = omega (arith, none)
@@ -67,7 +67,7 @@ module _ {Q : Type 0} (posted : Q → Bool) (w v : Standing) (file : File) (page
   stand-same : c ≡ b → k ≡ j → StandUnder w.setup c k
   stand-same book journal = subst (λ (x : BookState). StandUnder w.setup x k) (sym book) (subst (λ (x : JournalState Q). StandUnder w.setup b x) (sym journal) vis.stand)
 
-  visited-read : HasToRead w.setup file page written b c j k → Visited posted w v b.stream (suc w.in_flight) c k
+  visited-read : ReadHasToRead w.setup file page written b c j k → Visited posted w v b.stream (suc w.in_flight) c k
   visited-read left =
       visited posted w v b.stream (suc w.in_flight) [] b c j k has vis
       (stepping-none posted w v b c j k has vis (suc w.in_flight) (left.reserved ∙ ap (λ (n : ℕ). record j { reserved = n }) (sym places))
@@ -83,7 +83,7 @@ module _ {Q : Type 0} (posted : Q → Bool) (w v : Standing) (file : File) (page
       count : (now was flight : ℕ) → now ≡ was + 1 → now + flight ≡ was + suc flight
       count now was flight more = omega (arith, more)
 
-  pub visited-next : (ended : Next) → NextLeft w.setup w.number file page written ended b c j k → Visited posted w v b.stream (flight_after ended) c k
+  pub visited-next : (ended : ReadNext) → ReadNextLeft w.setup w.number file page written ended b c j k → Visited posted w v b.stream (flight_after ended) c k
   visited-next next.Done left =
       visited posted w v b.stream w.in_flight (done w.number j.entries b.stream it (reply.Read []) ∷ []) b c j k has vis
       (stepping-read posted w v file page b c j k has vis rest w.in_flight j.reserved (reply.Read []) left.attempt (owes posted w v file page b c j k has vis rest) refl)
@@ -93,7 +93,7 @@ module _ {Q : Type 0} (posted : Q → Bool) (w v : Standing) (file : File) (page
   visited-next next.Reads left = visited-read left
   visited-next (next.Stopped e) left = visited-same posted w v it b c j k has vis refl filed left.1.same_journal left.1.stand left.1.stream
 
-  pub disk-next : (ended : Next) → NextLeft w.setup w.number file page written ended b c j k → SameDisk w.seen k.entries b.stream
+  pub disk-next : (ended : ReadNext) → ReadNextLeft w.setup w.number file page written ended b c j k → SameDisk w.seen k.entries b.stream
   disk-next next.Done left =
       disk-grew posted w v it b c j k has vis refl filed rest _ (disk-call w.number (suc (calls_of j.entries w.number)) (Some b.stream) it (outcome.Done (reply.Read [])) j.entries b.stream) (ap (λ (x : JournalState Q). x.entries) left.attempt.placed)
   disk-next (next.Refused e) left =
@@ -103,7 +103,7 @@ module _ {Q : Type 0} (posted : Q → Bool) (w v : Standing) (file : File) (page
   disk-next (next.Stopped e) left = disk-grew posted w v it b c j k has vis refl filed rest j.entries (disk-same j.entries b.stream) (ap (λ (x : JournalState Q). x.entries) left.1.same_journal)
 
   -- how the pass goes on
-  pub went-next : w.in_flight ≡ 0 → (ended : Next) → NextLeft w.setup w.number file page written ended b c j k → LookWent (look_of ended) w (without_journal k v)
+  pub went-next : w.in_flight ≡ 0 → (ended : ReadNext) → ReadNextLeft w.setup w.number file page written ended b c j k → LookWent (look_of ended) w (without_journal k v)
   went-next none next.Done left = (visited-next next.Done left).went
   went-next none (next.Refused e) left = (visited-next (next.Refused e) left).went
   went-next none next.Writes left = (visited-next next.Writes left).went
@@ -115,7 +115,7 @@ module _ {Q : Type 0} (posted : Q → Bool) (w v : Standing) (file : File) (page
     on : IsReading w.number file page written begun j.entries
     on = reading-on w.number file page written begun w.seen j.entries is vis.idle
 
-    clean-here : IsClean written b page j → WasWritten w.number (page_in file page) on.way.during begun
+    clean-here : IsClean written b page j → WasWritten w.number (file_page file page) on.way.during begun
     clean-here clean =
         clean-written w.number file page written begun j.entries on
         (λ unwritten. subst (λ (n : ℕ). has_no_write (record { stream = n; page = page }) j.entries ≡ true) here (clean unwritten))
@@ -128,7 +128,7 @@ module _ {Q : Type 0} (posted : Q → Bool) (w v : Standing) (file : File) (page
       unshaped = tt;
     }
 
-    left-read : HasToRead w.setup file page written b c j k → IsAtRead w.setup w.number file page begun k.entries
+    left-read : ReadHasToRead w.setup file page written b c j k → IsAtRead w.setup w.number file page begun k.entries
     left-read left =
         subst (λ (x : JournalState Q). IsAtRead w.setup w.number file page begun x.entries) (sym left.reserved)
         (record {
@@ -144,7 +144,7 @@ module _ {Q : Type 0} (posted : Q → Bool) (w v : Standing) (file : File) (page
           };
         })
 
-    pub left-next : (ended : Next) → NextLeft w.setup w.number file page written ended b c j k → LookLeft w.setup w.number file page (look_of ended) begun k.entries
+    pub left-next : (ended : ReadNext) → ReadNextLeft w.setup w.number file page written ended b c j k → LookLeft w.setup w.number file page (look_of ended) begun k.entries
     left-next next.Done left = left-none left
     left-next (next.Refused e) left = λ out. record {
       left = left-refused posted w v it b c j k has vis refl filed begun is.way e left;
@@ -161,7 +161,7 @@ module _ {Q : Type 0} (posted : Q → Bool) (w v : Standing) (file : File) (page
     }
 
   -- what it asks then
-  pub asks-next : (ended : Next) → NextLeft w.setup w.number file page written ended b c j k → LookAsks w.setup file page written (look_of ended) k.entries
+  pub asks-next : (ended : ReadNext) → ReadNextLeft w.setup w.number file page written ended b c j k → LookAsks w.setup file page written (look_of ended) k.entries
   asks-next next.Done left = tt
   asks-next (next.Refused e) left = tt
   asks-next next.Writes left = (
@@ -178,7 +178,7 @@ module _ {Q : Type 0} (posted : Q → Bool) (w v : Standing) (file : File) (page
       (subst (λ (h : List Effect). 4096 * page < size_of h) (history-held w b.stream j.entries (has-book posted w v b c j k has vis) rest.device vis.grows) below)
 
   -- a page that it asks for begins below the size, as it did before the visit
-  pub below-next : (ended : Next) → NextLeft w.setup w.number file page written ended b c j k → IsBelow page (look_of ended) (history w.seen file.stream)
+  pub below-next : (ended : ReadNext) → ReadNextLeft w.setup w.number file page written ended b c j k → IsBelow page (look_of ended) (history w.seen file.stream)
   below-next next.Done left = tt
   below-next (next.Refused e) left = tt
   below-next next.Writes left =
@@ -188,7 +188,7 @@ module _ {Q : Type 0} (posted : Q → Bool) (w v : Standing) (file : File) (page
   below-next next.Reads left = since left.below
   below-next (next.Stopped e) left = tt
 
-  pub full-next : (ended : Next) → NextLeft w.setup w.number file page written ended b c j k → IsFullLook (without_journal k v) (look_of ended)
+  pub full-next : (ended : ReadNext) → ReadNextLeft w.setup w.number file page written ended b c j k → IsFullLook (without_journal k v) (look_of ended)
   full-next next.Done left = tt
   full-next (next.Refused e) left = full-refused posted w v it b c j k has vis refl filed ℕ 1 e left
   full-next next.Writes left = tt

@@ -20,15 +20,15 @@ use Rattle.cc_effects.specs.Noncached.{AlignedReadLeft, IsUntold, IsWholeBefore,
 use Rattle.cc_effects.proofs.Stretches.{idle-none}
 use Rattle.cc_model.specs.Good.{IsGood}
 use Rattle.cc_model.specs.Setup.{Setup}
-use Rattle.cc_turns.specs.Standing.{Standing, Held, nothing}
+use Rattle.cc_turns.specs.Standing.{Standing, TurnsHeld, nothing}
 use Rattle.cc_turns.specs.Takes.{Takes, with_device, with_book, without_device, without_book}
 use Rattle.cc_writes.specs.Hands.{Went}
 use Rattle.cc_writes.specs.Ways.{IsFull, IsFullError}
 use Rattle.cc_writes.specs.Calls.{IsFullWriting}
 use Rattle.cc_writes.specs.Fetch.{CanCall, WentOn}
-use Rattle.cc_ranges.specs.Answers.{read_of}
-use Rattle.cc_ranges.specs.ReadVisits.{outcome_of}
-use Rattle.cc_ranges.specs.Reads.{NcReadEnds, PageReadEnds, PagesReadEnds, PagesLeft}
+use Rattle.cc_ranges.specs.Answers.{read_answer}
+use Rattle.cc_ranges.specs.ReadVisits.{outcome_of_read}
+use Rattle.cc_ranges.specs.Reads.{NcReadEnds, PageReadEnds, PagesReadEnds, PageReadsLeft}
 use Rattle.cc_ranges.specs.Shapes.{IsShape}
 use Rattle.cc_ranges.specs.declared.error.NcError.{NcError}
 
@@ -47,8 +47,8 @@ went-both w v x y z s free first second went given = record {
         ∙ (ap (λ (a : Standing). without_device (without_book a)) went.same
         ∙ (ap (λ (a : Standing). without_device (without_book (record a { seen = y.seen; others = y.others; in_flight = a.in_flight }))) second.same
         ∙ (ap (λ (a : Standing). without_device (without_book (record (with_book s a) { seen = y.seen; others = y.others }))) first.same
-        ∙ (ap (λ (h : Held). record w { held = record h { device = None; book = None }; seen = y.seen; others = y.others; device_turns = turns }) free
-        ∙ ap (λ (h : Held). record w { held = h; seen = y.seen; others = y.others; device_turns = turns }) (sym free)))))
+        ∙ (ap (λ (h : TurnsHeld). record w { held = record h { device = None; book = None }; seen = y.seen; others = y.others; device_turns = turns }) free
+        ∙ ap (λ (h : TurnsHeld). record w { held = h; seen = y.seen; others = y.others; device_turns = turns }) (sym free)))))
 
 pub setup-both : (w v x y : Standing) (s : ℕ) → Takes (with_device s) w v → Takes (with_book s) v x → Went x y → y.setup ≡ w.setup
 setup-both w v x y s first second went =
@@ -118,10 +118,10 @@ module _ (w v x : Standing) (file : File) (first done told : ℕ) (was now : Lis
 
   -- the next page was read with this answer
   module _ (answer : Result ℕ CcError) (before after : List ℕ) (page : PageReadEnds v x file (first + done) answer before after) where
-    left_on : CallLeft w.setup w.number (call.NcRead file (first + done)) (outcome_of answer after) v.seen x.seen
+    left_on : CallLeft w.setup w.number (call.NcRead file (first + done)) (outcome_of_read answer after) v.seen x.seen
     left_on =
-        subst (λ (n : ℕ). CallLeft w.setup n (call.NcRead file (first + done)) (outcome_of answer after) v.seen x.seen) number_on
-        (subst (λ (u : Setup). CallLeft u v.number (call.NcRead file (first + done)) (outcome_of answer after) v.seen x.seen) setup_on page.ended.left)
+        subst (λ (n : ℕ). CallLeft w.setup n (call.NcRead file (first + done)) (outcome_of_read answer after) v.seen x.seen) number_on
+        (subst (λ (u : Setup). CallLeft u v.number (call.NcRead file (first + done)) (outcome_of_read answer after) v.seen x.seen) setup_on page.ended.left)
 
     good_on : IsGood w.setup x.seen
     good_on = subst (λ (u : Setup). IsGood u x.seen) setup_on page.good
@@ -307,7 +307,7 @@ ends-refused w v x file first done told pages was now before after failed on pag
 }
 
 -- A read whose place and length are in order leaves what its pages left.
-aligned : (u : Setup) (me : ℕ) (file : File) (at n : ℕ) (answered : Result (List ℕ) (ℕ × CcError)) (old new : List Entry) → PagesLeft u me file (at / 4096) (n / 4096) answered old new → AlignedReadLeft u me file at n answered old new
+aligned : (u : Setup) (me : ℕ) (file : File) (at n : ℕ) (answered : Result (List ℕ) (ℕ × CcError)) (old new : List Entry) → PageReadsLeft u me file (at / 4096) (n / 4096) answered old new → AlignedReadLeft u me file at n answered old new
 aligned u me file at zero (Ok bytes) old new left = left
 aligned u me file at zero (Err failed) old new left = absurd (omega (arith, left.0))
 aligned u me file at (suc n) (Ok bytes) old new left = left
@@ -315,8 +315,8 @@ aligned u me file at (suc n) (Err failed) old new left = (rw (length-range_with_
 
 pub whole-read : (w v : Standing) (file : File) (at : ℕ) (answer : Result ℕ NcError) (was now : List ℕ) → shape_refusal at (length was) ≡ None → PagesReadEnds w v file (at / 4096) answer was now → NcReadEnds w v file at answer was now
 whole-read w v file at answer was now shape ends = record {
-  left = subst (λ (o : Option CcError). ShapedReadLeft w.setup w.number file at (length was) o (read_of answer now) w.seen v.seen) (sym shape)
-      (aligned w.setup w.number file at (length was) (read_of answer now) w.seen v.seen ends.left);
+  left = subst (λ (o : Option CcError). ShapedReadLeft w.setup w.number file at (length was) o (read_answer answer now) w.seen v.seen) (sym shape)
+      (aligned w.setup w.number file at (length was) (read_answer answer now) w.seen v.seen ends.left);
   rest = ends.rest;
   full = ends.full;
   goes_on = ends.goes_on;

@@ -8,9 +8,9 @@ use Rattle.cc_entry.specs.declared.call.Call.TheVariants as call
 use Rattle.cc_entry.specs.declared.entry.Entry.{Entry}
 use Rattle.cc_entry.specs.declared.error.CcError.{CcError}
 use Rattle.cc_entry.specs.declared.reply.Reply.{Reply}
-use Rattle.cc_book.specs.Book.{BookState, BookStands, Gains, GoesOn, MayDo, MayPlace, done, failed}
+use Rattle.cc_book.specs.Book.{BookState, BookStands, Gains, GoesOn, MayDoOnBook, MayPlaceOnBook, done, failed}
 use Rattle.cc_effects.specs.Calls.{has_no_write}
-use Rattle.cc_step.specs.Fill.{MayFill, page_of}
+use Rattle.cc_step.specs.Fill.{MayFill, book_page}
 use Rattle.cc_ranges.proofs.FlushStepping.{nothing_owed}
 use Rattle.cc_journal.specs.Calls.{owed_end}
 use Rattle.cc_journal.specs.Journal.{JournalState}
@@ -35,9 +35,10 @@ use Rattle.cc_step.proofs.Attempts.{reserving, forgoing, forgone-within}
 use Rattle.cc_step.proofs.Ended.{refused-placed}
 use Rattle.cc_step.proofs.Placed.{good-failed, so-far}
 use Rattle.cc_step.proofs.Reserved.{reserved-done}
-use Rattle.cc_ranges.specs.ReadSteps.{IsClean, HasToWrite, HasToRead, NextLeft, GoneOn, AdmittedLeft, without_one}
-use Rattle.cc_ranges.specs.declared.read_steps.Next.{Next}
-use Rattle.cc_ranges.specs.declared.read_steps.Next.TheVariants as next
+use Rattle.cc_ranges.specs.ReadSteps.{IsClean, ReadHasToWrite, ReadHasToRead, ReadNextLeft, ReadGoneOn, ReadAdmittedLeft}
+use Rattle.cc_ranges.specs.declared.read_steps.ReadNext.{ReadNext}
+use Rattle.cc_ranges.specs.declared.read_steps.ReadNext.TheVariants as next
+use Rattle.cc_ranges.specs.FlushSteps.{without_one}
 
 -- a good journal stays good with the entry of a read that answers what the page holds
 good-read : (u : Setup) (past : List Entry) (pass s : ℕ) (file : File) (page : ℕ) (r : Reply) → IsGood u past → IsFiled (holds_of (history past s)) pass (Some s) (call.NcRead file page) (file_of (call.NcRead file page)) → refusal u past (history past s) (call.NcRead file page) ≡ None → IsReady past pass s (call.NcRead file page) → Reads (u.opening s) (history past s) (4096 * page) 4096 r → IsGood u (done pass past s (call.NcRead file page) r ∷ past)
@@ -70,7 +71,7 @@ module _ {Q : Type 0} (u : Setup) (pass : ℕ) (file : File) (page : ℕ) (b : B
   back = ap (λ (n : ℕ). record j { reserved = n }) (less-more j.reserved some)
 
   -- it is refused
-  pub may-fail : (e : CcError) → refusal u j.entries (history j.entries b.stream) it ≡ Some e → MayPlace j.entries (failed pass j.entries b.stream it e) b
+  pub may-fail : (e : CcError) → refusal u j.entries (history j.entries b.stream) it ≡ Some e → MayPlaceOnBook j.entries (failed pass j.entries b.stream it e) b
   may-fail e reason = (u, so-far u _ (good-failed u j.entries pass b.stream it e refl fill.may.stand.good fill.may.filed reason), fill.may.stand.stands)
 
   pub refused-here : (e : CcError) (c : BookState) (k : JournalState Q) → refusal u j.entries (history j.entries b.stream) it ≡ Some e → Gains (failed pass j.entries b.stream it e) j k → GoesOn j.entries k.entries b c → c ≡ b → AttemptRefused u pass it e b c (without_one j) (forgoing j pass k)
@@ -95,7 +96,7 @@ module _ {Q : Type 0} (u : Setup) (pass : ℕ) (file : File) (page : ℕ) (b : B
 
   module _ (admitted : refusal u j.entries (history j.entries b.stream) it ≡ None) where
     -- the page is to be written, or read
-    pub to-write : (written : Bool) (k : JournalState Q) → written ≡ false → has_no_write (page_of b page) j.entries ≡ false → k ≡ record j { reserved = j.reserved - 1 } → HasToWrite u file page written b b (without_one j) k
+    pub to-write : (written : Bool) (k : JournalState Q) → written ≡ false → has_no_write (book_page b page) j.entries ≡ false → k ≡ record j { reserved = j.reserved - 1 } → ReadHasToWrite u file page written b b (without_one j) k
     to-write written k unwritten has released = record {
       admitted = admitted;
       unwritten = unwritten;
@@ -104,7 +105,7 @@ module _ {Q : Type 0} (u : Setup) (pass : ℕ) (file : File) (page : ℕ) (b : B
       same_journal = released;
     }
 
-    pub to-read : (written : Bool) → IsClean written b page j → 4096 * page < size_of (history j.entries b.stream) → HasToRead u file page written b b (without_one j) j
+    pub to-read : (written : Bool) → IsClean written b page j → 4096 * page < size_of (history j.entries b.stream) → ReadHasToRead u file page written b b (without_one j) j
     to-read written clean below = record { admitted = admitted; clean = clean; below = below; same_book = refl; reserved = sym back }
 
     -- it is done
@@ -112,7 +113,7 @@ module _ {Q : Type 0} (u : Setup) (pass : ℕ) (file : File) (page : ℕ) (b : B
       good-here : IsGood u (done pass j.entries b.stream it r ∷ j.entries)
       good-here = good-read u j.entries pass b.stream file page r fill.may.stand.good fill.may.filed admitted (ready-read j.entries pass b.stream file page fill.no_transfer) reads
 
-      pub may-do : MayDo u j.entries pass it r b
+      pub may-do : MayDoOnBook u j.entries pass it r b
       may-do = record { good = so-far u _ good-here; stands = fill.may.stand.stands }
 
       pub done-here : (c : BookState) (k : JournalState Q) → Gains (done pass j.entries b.stream it r) j k → BookStands (u.opening b.stream) k.entries c → c.stream ≡ b.stream → AttemptDone u pass it r b c (without_one j) (forgoing j pass k)
@@ -140,15 +141,15 @@ module _ {Q : Type 0} (u : Setup) (pass : ℕ) (file : File) (page : ℕ) (writt
   pub may-again : MayFill u pass (call.NcRead file page) b j → MayFill u pass (call.NcRead file page) b (without_one (reserving j))
   may-again may = subst (λ (x : JournalState Q). MayFill u pass (call.NcRead file page) b x) (sym again) may
 
-  pub next-left : (ended : Next) → GoneOn u pass file page written ended b c (reserving j) k → NextLeft u pass file page written ended b c j k
-  next-left next.Done left = subst (λ (x : JournalState Q). NextLeft u pass file page written next.Done b c x k) again left
-  next-left (next.Refused e) left = subst (λ (x : JournalState Q). NextLeft u pass file page written (next.Refused e) b c x k) again left
-  next-left next.Writes left = subst (λ (x : JournalState Q). NextLeft u pass file page written next.Writes b c x k) again left
-  next-left next.Reads left = subst (λ (x : JournalState Q). NextLeft u pass file page written next.Reads b c x k) again left
+  pub next-left : (ended : ReadNext) → ReadGoneOn u pass file page written ended b c (reserving j) k → ReadNextLeft u pass file page written ended b c j k
+  next-left next.Done left = subst (λ (x : JournalState Q). ReadNextLeft u pass file page written next.Done b c x k) again left
+  next-left (next.Refused e) left = subst (λ (x : JournalState Q). ReadNextLeft u pass file page written (next.Refused e) b c x k) again left
+  next-left next.Writes left = subst (λ (x : JournalState Q). ReadNextLeft u pass file page written next.Writes b c x k) again left
+  next-left next.Reads left = subst (λ (x : JournalState Q). ReadNextLeft u pass file page written next.Reads b c x k) again left
   next-left (next.Stopped e) left = (inr (left.0, one_asked), subst (λ (x : JournalState Q). FoundNone u b c x k) again left.1)
 
   -- and where nothing refuses the read
-  pub gone-on : (ended : Next) → AdmittedLeft u pass file page written ended b c j k → GoneOn u pass file page written ended b c j k
+  pub gone-on : (ended : ReadNext) → ReadAdmittedLeft u pass file page written ended b c j k → ReadGoneOn u pass file page written ended b c j k
   gone-on next.Done left = left
   gone-on (next.Refused e) left = absurd left
   gone-on next.Writes left = left

@@ -4,7 +4,7 @@ use Rattle.std.proofs.Common.{ap, sym, subst, arith}
 use Rattle.cc_entry.specs.declared.call.Call.{Call}
 use Rattle.cc_entry.specs.declared.entry.Entry.{Entry}
 use Rattle.cc_entry.specs.declared.error.CcError.{CcError}
-use Rattle.cc_book.specs.Book.{BookState, Gains, GoesOn, MayPlace, failed}
+use Rattle.cc_book.specs.Book.{BookState, Gains, GoesOn, MayPlaceOnBook, failed}
 use Rattle.cc_step.specs.Fill.{MayFill}
 use Rattle.cc_journal.specs.Calls.{owed_end}
 use Rattle.cc_journal.specs.Journal.{JournalState}
@@ -15,7 +15,7 @@ use Rattle.cc_step.specs.Step.{AttemptRefused, FoundNone, StandUnder, is_answere
 use Rattle.cc_step.proofs.Attempts.{forgoing, forgone-within, reserving}
 use Rattle.cc_step.proofs.Ended.{refused-placed}
 use Rattle.cc_step.proofs.Placed.{good-failed, so-far}
-use Rattle.cc_ranges.specs.WriteSteps.{without_one}
+use Rattle.cc_ranges.specs.FlushSteps.{without_one}
 
 less-more : (n : ℕ) → 0 < n → (n - 1) + 1 ≡ n
 less-more n some = omega (arith, some)
@@ -28,7 +28,7 @@ module _ {Q : Type 0} (u : Setup) (pass : ℕ) (it : Call) (b : BookState) (j : 
   back : record (without_one j) { reserved = (j.reserved - 1) + 1 } ≡ j
   back = ap (λ (n : ℕ). record j { reserved = n }) (less-more j.reserved some)
 
-  pub may-fail : (e : CcError) → refusal u j.entries (history j.entries b.stream) it ≡ Some e → MayPlace j.entries (failed pass j.entries b.stream it e) b
+  pub may-fail : (e : CcError) → refusal u j.entries (history j.entries b.stream) it ≡ Some e → MayPlaceOnBook j.entries (failed pass j.entries b.stream it e) b
   may-fail e reason = (u, so-far u _ (good-failed u j.entries pass b.stream it e here fill.may.stand.good fill.may.filed reason), fill.may.stand.stands)
 
   pub refused-here : (e : CcError) (c : BookState) (k : JournalState Q) → refusal u j.entries (history j.entries b.stream) it ≡ Some e → Gains (failed pass j.entries b.stream it e) j k → GoesOn j.entries k.entries b c → c ≡ b → AttemptRefused u pass it e b c (without_one j) (forgoing j pass k)

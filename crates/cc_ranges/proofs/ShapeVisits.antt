@@ -19,10 +19,10 @@ use Rattle.cc_model.specs.Holds.{holds_of}
 use Rattle.cc_model.specs.Passes.{calls_of}
 use Rattle.cc_model.specs.Setup.{Setup}
 use Rattle.cc_step.specs.Step.{StandUnder, MayStep, IsStop, is_answered}
-use Rattle.cc_turns.specs.Standing.{Standing, Held, nothing}
+use Rattle.cc_turns.specs.Standing.{Standing, TurnsHeld, nothing}
 use Rattle.cc_turns.specs.Takes.{Takes, with_book, without_book, without_journal}
 use Rattle.cc_writes.specs.Hands.{HasBook, Went}
-use Rattle.cc_writes.specs.Visits.{IsFiledNow, IsOf}
+use Rattle.cc_writes.specs.Visits.{IsFiledNow, CallIsOfStream}
 use Rattle.cc_writes.specs.Ways.{IsFullError}
 use Rattle.cc_writes.proofs.Attempting.{number-is, may-as, visited-same, full-stop}
 use Rattle.cc_writes.proofs.Placing.{stepping-failed}
@@ -60,7 +60,7 @@ module _ {Q : Type 0} (posted : Q → Bool) (w v : Standing) (file : File) (it :
   answered = page-answered file it is
 
   filed : IsFiledNow w b.stream it
-  filed = (subst (λ (n : ℕ). IsOf it n) (sym here) (page-filed file it is)) (holds_of (history w.seen b.stream)) w.number
+  filed = (subst (λ (n : ℕ). CallIsOfStream it n) (sym here) (page-filed file it is)) (holds_of (history w.seen b.stream)) w.number
 
   pub may-refuse-as : (pass : ℕ) → pass ≡ v.number → MayStep w.setup pass it b j
   may-refuse-as pass me = may-as posted w v it b c j k has vis answered filed pass me
@@ -106,7 +106,7 @@ module _ {Q : Type 0} (posted : Q → Bool) (w v : Standing) (file : File) (it :
 module _ (w v : Standing) (s : ℕ) (b : BookState) (can : CanCall w s) (took : Takes (with_book s) w v) (b_is : b.stream ≡ s) where
   pub book-taken : BookStands (v.setup.opening s) v.seen b → HasBook v s b
   book-taken stands = record {
-    held = let at : v.held ≡ record nothing { book = Some s } = ap (λ x. x.held) took.same ∙ ap (λ (h : Held). record h { book = Some s }) can.free in rw at refl;
+    held = let at : v.held ≡ record nothing { book = Some s } = ap (λ x. x.held) took.same ∙ ap (λ (h : TurnsHeld). record h { book = Some s }) can.free in rw at refl;
     stream = b_is;
     stands = stands;
     good = took.good;
@@ -131,8 +131,8 @@ module _ (w v : Standing) (s : ℕ) (b : BookState) (can : CanCall w s) (took : 
           given
           ∙ (ap (λ (a : Standing). without_book a) went.same
           ∙ (ap (λ (a : Standing). without_book (record a { seen = y.seen; others = y.others })) took.same
-          ∙ (ap (λ (h : Held). record w { held = record h { book = None }; seen = y.seen; others = y.others }) can.free
-          ∙ ap (λ (h : Held). record w { held = h; seen = y.seen; others = y.others }) (sym can.free))))
+          ∙ (ap (λ (h : TurnsHeld). record w { held = record h { book = None }; seen = y.seen; others = y.others }) can.free
+          ∙ ap (λ (h : TurnsHeld). record w { held = h; seen = y.seen; others = y.others }) (sym can.free))))
 
 -- a journal that is full is so to the pass whatever turns it holds
 pub full-given : (y : Standing) (e : CcError) → IsFullError 1 y e → IsFullError 1 (without_book y) e

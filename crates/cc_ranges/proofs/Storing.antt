@@ -28,7 +28,7 @@ use Rattle.cc_step.proofs.Reserved.{owed-least}
 use Rattle.cc_step.proofs.Placed.{so-far}
 use Rattle.cc_turns.specs.Standing.{Standing, holds}
 use Rattle.cc_turns.specs.Journal.{JournalStands}
-use Rattle.cc_turns.specs.Takes.{Grows, Adds, without_journal}
+use Rattle.cc_turns.specs.Takes.{Grows, AddsEvent, without_journal}
 use Rattle.cc_writes.specs.Hands.{HasBook, IsAtRest, WentWith}
 use Rattle.cc_writes.specs.Ways.{IsFull}
 use Rattle.cc_writes.proofs.Replies.{full-stopped}
@@ -141,7 +141,7 @@ kept-few (Err e) = omega arith
 
 -- What the pass gives after the store, and how it goes on.
 pub record Storing {Q : Type 0} (posted : Q → Bool) (w v : Standing) (file : File) (page : Page) (bytes : List ℕ) (result : Result Bool CcError) (c : BookState) (k : JournalState Q) : Type 0 where
-  pub adds : Adds v k.entries
+  pub adds : AddsEvent v k.entries
   pub journal : JournalStands posted (without_journal k v) k
   pub book : HasBook (without_journal k v) page.stream c
   pub went : WentWith (kept_in result) w (without_journal k v)

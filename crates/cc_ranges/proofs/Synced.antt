@@ -35,7 +35,7 @@ use Rattle.cc_writes.specs.Ways.{IsStoppedBy, WasAdmitted}
 use Rattle.cc_writes.proofs.Others.{halted-on, stopped_by-on}
 use Rattle.cc_writes.proofs.Refusals.{may-refuse, may-stop, may-want}
 use Rattle.cc_writes.proofs.VisitHalting.{some-implies}
-use Rattle.cc_ranges.specs.Flush.{HasSynced, IsAtEnd}
+use Rattle.cc_ranges.specs.Flush.{FlushHasSynced, IsAtEnd}
 use Rattle.cc_ranges.specs.Settled.{IsSettledAll}
 use Rattle.cc_ranges.proofs.Flushed.{is_flushed-synced}
 use Rattle.cc_ranges.proofs.Settling.{settled_since-all}
@@ -45,7 +45,7 @@ module _ (u : Setup) (me : ℕ) (file : File) (span : Option Range) (begun : Lis
   it = call.Flush file span
 
   -- others go on
-  pub synced-on : (old new : List Entry) → HasSynced me file span begun old → IsIdle me old new → HasSynced me file span begun new
+  pub synced-on : (old new : List Entry) → FlushHasSynced me file span begun old → IsIdle me old new → FlushHasSynced me file span begun new
   synced-on old new is idle = record {
     during = idle.during ++ is.during;
     grew = grew-after idle.during is.during begun old new idle.grew is.grew;
@@ -93,7 +93,7 @@ module _ (u : Setup) (me : ℕ) (file : File) (span : Option Range) (begun : Lis
       stopped = record { since = []; before = way.during; split = refl; is_own = eq-eqb me me refl; quiet = tt; unstopped = way.unstopped };
     }
 
-    sync-good : IsSettledAll (length (history begun file.stream)) (history front file.stream) span → HasSynced me file span begun (entry.Sync me file.stream how.Good ∷ front)
+    sync-good : IsSettledAll (length (history begun file.stream)) (history front file.stream) span → FlushHasSynced me file span begun (entry.Sync me file.stream how.Good ∷ front)
     sync-good settled = record {
       during = entry.Sync me file.stream how.Good ∷ way.during;
       grew = sync-grew how.Good;
@@ -132,11 +132,11 @@ module _ (u : Setup) (me : ℕ) (file : File) (span : Option Range) (begun : Lis
     }
 
   -- it may be done where it has synced well
-  pub flushed-synced : (new : List Entry) → HasSynced me file span begun new → is_flushed new me file.stream span ≡ true
+  pub flushed-synced : (new : List Entry) → FlushHasSynced me file span begun new → is_flushed new me file.stream span ≡ true
   flushed-synced new is = is_flushed-synced me file.stream it span is.during begun new is.grew is.works is.synced
 
   -- what its end leaves: it is done, or refused, or there was no room or no memory
-  module _ (nth : ℕ) (new : List Entry) (is : HasSynced me file span begun new) where
+  module _ (nth : ℕ) (new : List Entry) (is : FlushHasSynced me file span begun new) where
     pub left-done : CallLeft u me it (outcome.Done reply.Unit) begun (entry.Call me nth (Some file.stream) it (outcome.Done reply.Unit) ∷ new)
     left-done =
         subst (λ (past : List Entry). IsDone me it reply.Unit begun (entry.Call me nth (Some file.stream) it (outcome.Done reply.Unit) ∷ past)) (sym is.grew)

@@ -15,7 +15,7 @@ use Rattle.cc_entry.specs.declared.reply.Outcome.TheVariants as outcome
 use Rattle.cc_entry.specs.declared.reply.Reply.TheVariants as reply
 use Rattle.cc_effects.specs.Calls.{CallLeft}
 use Rattle.cc_effects.specs.Moments.{AtSome}
-use Rattle.cc_effects.specs.Noncached.{IsTransferred, PageRefused, TransferRefused}
+use Rattle.cc_effects.specs.Noncached.{StoreIsTransferred, PageRefused, TransferRefused}
 use Rattle.cc_effects.proofs.FrontLaws.{placed-of}
 use Rattle.cc_laws.proofs.HistorySteps.{history-page_out}
 use Rattle.cc_laws.proofs.PlacesResident.{among-without}
@@ -32,7 +32,7 @@ use Rattle.cc_writes.specs.Logs.{ReachedBy}
 use Rattle.cc_writes.specs.Transfers.{IsFinished}
 use Rattle.cc_writes.proofs.OneVisit.{went-held, went-number}
 use Rattle.cc_writes.proofs.Quiet.{history-kept}
-use Rattle.cc_ranges.specs.Ends.{HasEndedTidy, HasFinished, IsIdlePage, IsOut, IsTidyEnd, write_done}
+use Rattle.cc_ranges.specs.Ends.{HasEndedTidy, HasFinished, IsIdlePage, PageOutAtMost, IsTidyEnd, write_done}
 use Rattle.cc_book.specs.Stored.{store_done}
 use Rattle.cc_ranges.specs.Stores.{HasStored, IsTightStore, IsTightUnkept}
 
@@ -53,7 +53,7 @@ gone-out pass page past =
     ∙ rw (eq-eqb page.page page.page refl) refl))
 
 -- so one that was taken out where it was idle is idle no more
-out-idle : (me : ℕ) (page : Page) (tidied front past : List Entry) → IsOut me page tidied → past ≡ tidied ++ front → (IsIdlePage (history front page.stream) page.page → tidied ≡ entry.PageOut me page ∷ []) → IsIdlePage (history past page.stream) page.page → ⊥
+out-idle : (me : ℕ) (page : Page) (tidied front past : List Entry) → PageOutAtMost me page tidied → past ≡ tidied ++ front → (IsIdlePage (history front page.stream) page.page → tidied ≡ entry.PageOut me page ∷ []) → IsIdlePage (history past page.stream) page.page → ⊥
 out-idle me page [] front past only placed out idle =
     let none : [] ≡ entry.PageOut me page ∷ [] = out (subst (λ (l : List Entry). IsIdlePage (history l page.stream) page.page) placed idle) in
     absurd (cc)
@@ -158,7 +158,7 @@ call-behind u me it other old new left =
     let own : List Entry = entry.Call me p.1.nth p.1.stream it (outcome.Failed other) ∷ p.0 in
     (p.1.later ++ own, p.1.grew ∙ sym (append_assoc p.1.later own old))
 
-transferred-behind : (me : ℕ) (file : File) (page : ℕ) (bytes : List ℕ) (end : End) (old new : List Entry) → IsTransferred me file page bytes end old new → Behind new old
+transferred-behind : (me : ℕ) (file : File) (page : ℕ) (bytes : List ℕ) (end : End) (old new : List Entry) → StoreIsTransferred me file page bytes end old new → Behind new old
 transferred-behind me file page bytes end old new is =
     let its : Page = record { stream = file.stream; page = page } in
     let begin : Entry = entry.WriteBegin me its in

@@ -13,7 +13,7 @@ use Rattle.cc_entry.specs.declared.error.CcError.TheVariants as error
 use Rattle.cc_entry.specs.declared.reply.Outcome.{Outcome}
 use Rattle.cc_entry.specs.declared.reply.Outcome.TheVariants as outcome
 use Rattle.cc_entry.specs.declared.reply.Reply.TheVariants as reply
-use Rattle.cc_book.specs.Book.{BookState, BookStands, Gains, GoesOn, MayDo, MayPlace, done, failed}
+use Rattle.cc_book.specs.Book.{BookState, BookStands, Gains, GoesOn, MayDoOnBook, MayPlaceOnBook, done, failed}
 use Rattle.cc_effects.specs.Moments.{Others}
 use Rattle.cc_journal.specs.Journal.{JournalState}
 use Rattle.cc_laws.proofs.HistorySteps.{history-page_out}
@@ -33,7 +33,7 @@ use Rattle.cc_model.specs.Setup.{Setup}
 use Rattle.cc_journal.specs.Calls.{ends_in_store}
 use Rattle.cc_step.proofs.Placed.{so-far}
 use Rattle.cc_ranges.specs.Stores.{places_kept}
-use Rattle.cc_ranges.specs.Ends.{MayFinishHere, IsTidied, IsEnded, IsIdlePage, HasFailedSince, MayFailHere, write_done, write_failed}
+use Rattle.cc_ranges.specs.Ends.{MayFinishHere, IsTidied, WriteIsEnded, IsIdlePage, HasFailedSince, MayFailHere, write_done, write_failed}
 
 nothing_owed : (e : Entry) (past : List Entry) → owed_begin past ≡ None → IsOwed (owed_begin past) e
 nothing_owed e past none = rw none tt
@@ -78,7 +78,7 @@ module _ {Q : Type 0} (u : Setup) (pass : ℕ) (file : File) (page : Page) (b : 
     good-gone : IsGood u (out ∷ j.entries)
     good-gone = good-out u j.entries pass page may.stand.good (record { resident = idle.resident; not_held = idle.not_held; clean = idle.clean; no_transfer = may.rest })
 
-    pub may-go : MayPlace j.entries out b
+    pub may-go : MayPlaceOnBook j.entries out b
     may-go = (u, so-far u (out ∷ j.entries) good-gone, may.stand.stands)
 
     -- it went out, at a place that was kept or is reserved now
@@ -146,7 +146,7 @@ module _ {Q : Type 0} (u : Setup) (pass : ℕ) (file : File) (page : Page) (b : 
   good-here : IsGood u (write_done pass file page j.entries ∷ j.entries)
   good-here = good-finished u j.entries pass file page may.stand.good may.here may.finishes
 
-  pub may-finish : MayDo u j.entries pass its reply.Unit b
+  pub may-finish : MayDoOnBook u j.entries pass its reply.Unit b
   may-finish = record {
     good = so-far u (done pass j.entries b.stream its reply.Unit ∷ j.entries)
         (subst (λ (n : ℕ). IsGood u (done pass j.entries n its reply.Unit ∷ j.entries)) inside good-here);
@@ -154,7 +154,7 @@ module _ {Q : Type 0} (u : Setup) (pass : ℕ) (file : File) (page : Page) (b : 
   }
 
 -- the write was done
-pub ended : {Q : Type 0} (u : Setup) (pass : ℕ) (file : File) (page : Page) (c d : BookState) (j k : JournalState Q) → page.stream ≡ c.stream → MayFinishHere u pass file page c j → Gains (done pass j.entries c.stream (call.NcWrite file page.page) reply.Unit) j k → BookStands (u.opening c.stream) k.entries d → d.stream ≡ c.stream → IsEnded u pass file page d j k
+pub ended : {Q : Type 0} (u : Setup) (pass : ℕ) (file : File) (page : Page) (c d : BookState) (j k : JournalState Q) → page.stream ≡ c.stream → MayFinishHere u pass file page c j → Gains (done pass j.entries c.stream (call.NcWrite file page.page) reply.Unit) j k → BookStands (u.opening c.stream) k.entries d → d.stream ≡ c.stream → WriteIsEnded u pass file page d j k
 ended {Q = Q} u pass file page c d j k inside may gains stands stream =
     let it = call.NcWrite file page.page in
     let there : k ≡ record j { entries = write_done pass file page j.entries ∷ j.entries; reserved = j.reserved - 1; rows = k.rows } =
@@ -207,7 +207,7 @@ fails-others me page later past others fails = record {
 }
 
 -- the entry of a write that failed may be placed
-pub may-fail : {Q : Type 0} (u : Setup) (pass : ℕ) (file : File) (page : Page) (b : BookState) (j : JournalState Q) → page.stream ≡ b.stream → MayFailHere u pass file page b j → MayPlace j.entries (failed pass j.entries b.stream (call.NcWrite file page.page) (error.WriteFault page.page)) b
+pub may-fail : {Q : Type 0} (u : Setup) (pass : ℕ) (file : File) (page : Page) (b : BookState) (j : JournalState Q) → page.stream ≡ b.stream → MayFailHere u pass file page b j → MayPlaceOnBook j.entries (failed pass j.entries b.stream (call.NcWrite file page.page) (error.WriteFault page.page)) b
 may-fail u pass file page b j inside may = (
   u,
   so-far u (failed pass j.entries b.stream (call.NcWrite file page.page) (error.WriteFault page.page) ∷ j.entries)

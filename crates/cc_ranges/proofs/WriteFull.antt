@@ -16,13 +16,12 @@ use Rattle.cc_turns.specs.Standing.{Standing}
 use Rattle.cc_turns.specs.Takes.{Grows, without_book, without_device}
 use Rattle.cc_writes.specs.Calls.{IsFullWriting}
 use Rattle.cc_writes.specs.Hands.{HasBook, WentWith}
-use Rattle.cc_writes.specs.Ways.{IsFull, IsFullError}
+use Rattle.cc_writes.specs.Ways.{IsFullError}
 use Rattle.cc_writes.proofs.Fullness.{full-more, given-full, given-writing}
 use Rattle.cc_writes.proofs.Quiet.{flushed_to-grows, history-kept, holds_the_book, logged-kept}
 use Rattle.cc_ranges.specs.Pages.{FinishedLeft}
 use Rattle.cc_ranges.specs.Stores.{HasToStore, IsFullStoring, IsReadyToStore}
-use Rattle.cc_ranges.specs.WriteHeld.{IsFullRound, round_of}
-use Rattle.cc_ranges.specs.WriteVisits.{page_in}
+use Rattle.cc_ranges.specs.WriteHeld.{IsFullWriteRound, write_round_of}
 use Rattle.cc_ranges.proofs.Storing.{refusal-history}
 
 -- where nobody else changed the stream, a page that was to be stored is still
@@ -47,7 +46,7 @@ full-finished w v file page count (Err error.NoMemory) seen left = inl (inl tt)
 full-finished w v file page count (Err other) seen left = absurd left
 
 -- a round that wrote a page, or did not
-pub full-round : (file : File) (page : ℕ) (w : Standing) (r : Result Call CcError) → IsFullWriting (call.NcWrite file page) w r → IsFullRound file page w (round_of r)
+pub full-round : (file : File) (page : ℕ) (w : Standing) (r : Result Call CcError) → IsFullWriting (call.NcWrite file page) w r → IsFullWriteRound file page w (write_round_of r)
 full-round file page w (Ok again) full = tt
 full-round file page w (Err e) full = full
 

@@ -15,25 +15,24 @@ use Rattle.cc_model.specs.History.{history}
 use Rattle.cc_model.specs.Setup.{Setup}
 use Rattle.cc_turns.specs.Standing.{Standing}
 use Rattle.cc_writes.specs.Hands.{Went, WentWith}
-use Rattle.cc_writes.specs.Ways.{IsAtWork, IsReason}
-use Rattle.cc_writes.specs.Calls.{KeepsWork, MayFaultInWriting, PageLeft}
+use Rattle.cc_writes.specs.Ways.{IsAtWork, IsCallReason}
+use Rattle.cc_writes.specs.Calls.{KeepsWork, MayFaultInWriting, PageStepLeft}
 use Rattle.cc_writes.specs.Writes.{HasBoth}
 use Rattle.cc_effects.proofs.Starts.{begins}
 use Rattle.cc_writes.proofs.Halting.{at-work}
 use Rattle.cc_writes.proofs.OneVisit.{went-then}
 use Rattle.cc_writes.proofs.Works.{either}
-use Rattle.cc_writes.specs.Rounds.{course_of}
-use Rattle.cc_writes.specs.Rounds.{IsNearer as CallIsNearer}
+use Rattle.cc_writes.specs.Rounds.{course_of, IsNearer as CallIsNearer}
 use Rattle.cc_writes.specs.declared.keeping.Rounds.{Rounds}
-use Rattle.cc_ranges.specs.WriteHeld.{IsNearer, RoundLeft, round_of}
-use Rattle.cc_ranges.specs.WriteHeld.{PageLeft as PageLeftBy}
-use Rattle.cc_ranges.specs.WriteVisits.{IsTurnedAway, IsWriting, page_in}
+use Rattle.cc_ranges.specs.WriteHeld.{WriteIsNearer, WriteRoundLeft, write_round_of, WriteOfPageLeft as PageLeftBy}
+use Rattle.cc_ranges.specs.WriteVisits.{WriteIsTurnedAway, WriteIsUnderWay}
 use Rattle.cc_ranges.specs.declared.write_held.Round.{Round}
 use Rattle.cc_ranges.proofs.Goods.{store-step_refusal}
 use Rattle.cc_ranges.proofs.Misshapen.{unshaped}
+use Rattle.cc_ranges.specs.ReadVisits.{file_page}
 
 -- the write of a page begins
-pub begins-writing : (me : ℕ) (file : File) (page : ℕ) (seen : List Entry) → IsWriting me file page seen seen
+pub begins-writing : (me : ℕ) (file : File) (page : ℕ) (seen : List Entry) → WriteIsUnderWay me file page seen seen
 begins-writing me file page seen = record {
   way = begins me (call.NcWrite file page) seen;
   stores = λ bytes. at-work me (call.NcStore file page bytes) seen seen (begins me (call.NcStore file page bytes) seen);
@@ -52,7 +51,7 @@ store-way file page bytes other past way = rw (store-step_refusal (history past 
 
 -- a page was written for it, or it failed
 module _ (w v : Standing) (file : File) (page dirty s : ℕ) (seen : List Entry) (here : s ≡ file.stream) (went : Went w v)
-    (way : is_in_the_way (call.NcWrite file page) (page_in file dirty) v.seen ≡ true) where
+    (way : is_in_the_way (call.NcWrite file page) (file_page file dirty) v.seen ≡ true) where
   abbrev it : Call
   it = call.NcWrite file page
 
@@ -67,21 +66,21 @@ module _ (w v : Standing) (file : File) (page dirty s : ℕ) (seen : List Entry)
       subst (λ (n : ℕ). IsAtWork n (Calls (call.NcStore file page bytes)) begun seen) number
       (keeps (Calls (call.NcStore file page bytes)) begun
       (subst (λ (n : ℕ). may_write (Calls (call.NcStore file page bytes)) (record { stream = n; page = dirty }) v.seen ≡ true) (sym here)
-      (way-asked (call.NcStore file page bytes) (page_in file dirty) v.seen (store-way file page bytes (page_in file dirty) v.seen way)))
+      (way-asked (call.NcStore file page bytes) (file_page file dirty) v.seen (store-way file page bytes (file_page file dirty) v.seen way)))
       (subst (λ (n : ℕ). IsAtWork n (Calls (call.NcStore file page bytes)) begun v.seen) (sym number) is))
 
-  pub round-wrote : (r : Result Call CcError) → ((begun : List Entry) → IsUnderWay v.number it begun v.seen → PageLeft v.setup v.number it r begun seen) → IfErr r (IsReason v.setup s it) → IfOk r (λ again. KeepsWork v (record { stream = s; page = dirty }) seen) → (begun : List Entry) → IsWriting w.number file page begun v.seen → RoundLeft w.setup w.number file page (round_of r) begun seen
+  pub round-wrote : (r : Result Call CcError) → ((begun : List Entry) → IsUnderWay v.number it begun v.seen → PageStepLeft v.setup v.number it r begun seen) → IfErr r (IsCallReason v.setup s it) → IfOk r (λ again. KeepsWork v (record { stream = s; page = dirty }) seen) → (begun : List Entry) → WriteIsUnderWay w.number file page begun v.seen → WriteRoundLeft w.setup w.number file page (write_round_of r) begun seen
   round-wrote (Ok again) left reason keeps begun is = record {
     way = subst (λ (n : ℕ). IsUnderWay n it begun seen) number (left begun (subst (λ (n : ℕ). IsUnderWay n it begun v.seen) (sym number) is.way)).1;
     stores = λ bytes. stored-on bytes begun keeps (is.stores bytes);
   }
   round-wrote (Err e) left reason keeps begun is =
-      subst (λ (n : ℕ). IsTurnedAway w.setup n file page e begun seen) number
-      (subst (λ (u : Setup). IsTurnedAway u v.number file page e begun seen) setup
+      subst (λ (n : ℕ). WriteIsTurnedAway w.setup n file page e begun seen) number
+      (subst (λ (u : Setup). WriteIsTurnedAway u v.number file page e begun seen) setup
       (unshaped v.setup s it e tt reason, left begun (subst (λ (n : ℕ). IsUnderWay n it begun v.seen) (sym number) is.way)))
 
 -- where a page was written for it, it is nearer to being ready
-pub near-round : (file : File) (page : ℕ) (r : Result Call CcError) (was now : Rounds) (old new : List Entry) → CallIsNearer file.stream (call.NcWrite file page) (course_of r) was now old new → IsNearer file page (round_of r) was now old new
+pub near-round : (file : File) (page : ℕ) (r : Result Call CcError) (was now : Rounds) (old new : List Entry) → CallIsNearer file.stream (call.NcWrite file page) (course_of r) was now old new → WriteIsNearer file page (write_round_of r) was now old new
 near-round file page (Ok again) was now old new near = near
 near-round file page (Err e) was now old new near = tt
 
@@ -93,7 +92,7 @@ pub record ComesOn {D : Type 0} (told : D → Option Disk) (faults : D → ℕ) 
   pub both : HasBoth told faults v b.stream b disk
   pub none : v.in_flight ≡ 0
   pub went : Went w v
-  pub left : (begun : List Entry) → IsWriting w.number file page begun w.seen → IsWriting w.number file page begun v.seen
+  pub left : (begun : List Entry) → WriteIsUnderWay w.number file page begun w.seen → WriteIsUnderWay w.number file page begun v.seen
 
 module _ {D : Type 0} (told : D → Option Disk) (faults : D → ℕ) (w v x : Standing) (file : File) (page : ℕ) (b c : BookState) (disk now : D)
     (on : ComesOn told faults w v file page b disk) where
@@ -103,19 +102,19 @@ module _ {D : Type 0} (told : D → Option Disk) (faults : D → ℕ) (w v x : S
   setup_on : v.setup ≡ w.setup
   setup_on = ap (λ (y : Standing). y.setup) on.went.same
 
-  way_on : (begun : List Entry) → IsWriting w.number file page begun w.seen → IsWriting v.number file page begun v.seen
-  way_on begun is = subst (λ (n : ℕ). IsWriting n file page begun v.seen) (sym number_on) (on.left begun is)
+  way_on : (begun : List Entry) → WriteIsUnderWay w.number file page begun w.seen → WriteIsUnderWay v.number file page begun v.seen
+  way_on begun is = subst (λ (n : ℕ). WriteIsUnderWay n file page begun v.seen) (sym number_on) (on.left begun is)
 
   -- what a round left of it
-  pub round-on : (came : Round) → ((begun : List Entry) → IsWriting v.number file page begun v.seen → RoundLeft v.setup v.number file page came begun x.seen) → (begun : List Entry) → IsWriting w.number file page begun w.seen → RoundLeft w.setup w.number file page came begun x.seen
+  pub round-on : (came : Round) → ((begun : List Entry) → WriteIsUnderWay v.number file page begun v.seen → WriteRoundLeft v.setup v.number file page came begun x.seen) → (begun : List Entry) → WriteIsUnderWay w.number file page begun w.seen → WriteRoundLeft w.setup w.number file page came begun x.seen
   round-on came left begun is =
-      subst (λ (n : ℕ). RoundLeft w.setup n file page came begun x.seen) number_on
-      (subst (λ (u : Setup). RoundLeft u v.number file page came begun x.seen) setup_on (left begun (way_on begun is)))
+      subst (λ (n : ℕ). WriteRoundLeft w.setup n file page came begun x.seen) number_on
+      (subst (λ (u : Setup). WriteRoundLeft u v.number file page came begun x.seen) setup_on (left begun (way_on begun is)))
 
   pub went-on : Went v x → Went w x
   went-on went = subst (λ (n : ℕ). WentWith n w x) (ap (λ (y : Standing). y.in_flight) on.went.same) (went-then w.in_flight v.in_flight w v x on.went went)
 
-  pub comes-on : HasBoth told faults x b.stream c now → Went v x → ((begun : List Entry) → IsWriting w.number file page begun w.seen → IsWriting w.number file page begun x.seen) → ComesOn told faults w x file page c now
+  pub comes-on : HasBoth told faults x b.stream c now → Went v x → ((begun : List Entry) → WriteIsUnderWay w.number file page begun w.seen → WriteIsUnderWay w.number file page begun x.seen) → ComesOn told faults w x file page c now
   comes-on both went left = record {
     stream = both.book.stream ∙ on.stream;
     known = subst (λ (n : ℕ). n < x.streams) (sym both.book.stream) (subst (λ (n : ℕ). b.stream < n) (sym (ap (λ (y : Standing). y.streams) went.same)) on.known);
@@ -126,11 +125,11 @@ module _ {D : Type 0} (told : D → Option Disk) (faults : D → ℕ) (w v x : S
   }
 
 -- The page is ready, and what the rest leaves the write leaves; or it was turned away.
-pub ready-left : (w x : Standing) (file : File) (page : ℕ) (bytes : List ℕ) (answer : Result ℕ CcError) (begun seen : List Entry) → Went w x → IsWriting w.number file page begun x.seen → ((begun : List Entry) → IsWriting x.number file page begun x.seen → PageLeftBy x.setup x.number file page bytes answer begun seen) → PageLeftBy w.setup w.number file page bytes answer begun seen
+pub ready-left : (w x : Standing) (file : File) (page : ℕ) (bytes : List ℕ) (answer : Result ℕ CcError) (begun seen : List Entry) → Went w x → WriteIsUnderWay w.number file page begun x.seen → ((begun : List Entry) → WriteIsUnderWay x.number file page begun x.seen → PageLeftBy x.setup x.number file page bytes answer begun seen) → PageLeftBy w.setup w.number file page bytes answer begun seen
 ready-left w x file page bytes answer begun seen went is left =
     subst (λ (n : ℕ). PageLeftBy w.setup n file page bytes answer begun seen) (ap (λ (y : Standing). y.number) went.same)
     (subst (λ (u : Setup). PageLeftBy u x.number file page bytes answer begun seen) (ap (λ (y : Standing). y.setup) went.same)
-    (left begun (subst (λ (n : ℕ). IsWriting n file page begun x.seen) (sym (ap (λ (y : Standing). y.number) went.same)) is)))
+    (left begun (subst (λ (n : ℕ). WriteIsUnderWay n file page begun x.seen) (sym (ap (λ (y : Standing). y.number) went.same)) is)))
 
-pub turned-left : (u : Setup) (me : ℕ) (file : File) (page : ℕ) (bytes : List ℕ) (e : CcError) (begun seen : List Entry) → IsTurnedAway u me file page e begun seen → PageLeftBy u me file page bytes (Err e) begun seen
+pub turned-left : (u : Setup) (me : ℕ) (file : File) (page : ℕ) (bytes : List ℕ) (e : CcError) (begun seen : List Entry) → WriteIsTurnedAway u me file page e begun seen → PageLeftBy u me file page bytes (Err e) begun seen
 turned-left u me file page bytes e begun seen turned = inl turned

@@ -21,28 +21,28 @@ use Rattle.cc_turns.specs.Takes.{Takes, with_book, with_device, without_book, wi
 use Rattle.cc_writes.specs.Ways.{IsFullError}
 use Rattle.cc_writes.specs.Fetch.{CanCall, WentOn}
 use Rattle.cc_writes.proofs.TakingBoth.{idle, number_both, setup_both}
-use Rattle.cc_writes.proofs.Halting.{at-work}
 use Rattle.cc_ranges.specs.Answers.{write_of}
 use Rattle.cc_ranges.specs.Stores.{IsFullStoring}
-use Rattle.cc_ranges.specs.WriteHeld.{PageLeft}
-use Rattle.cc_ranges.specs.WriteVisits.{IsWriting, page_in}
-use Rattle.cc_ranges.specs.Writes.{AreTidied, NcWriteEnds, PageWriteEnds, PagesLeft, PagesWriteEnds}
+use Rattle.cc_ranges.specs.WriteHeld.{WriteOfPageLeft}
+use Rattle.cc_ranges.specs.WriteVisits.{WriteIsUnderWay}
+use Rattle.cc_ranges.specs.Writes.{AreTidied, NcWriteEnds, PageWriteEnds, PageWritesLeft, PagesWriteEnds}
 use Rattle.cc_ranges.specs.declared.error.NcError.{NcError}
 use Rattle.cc_ranges.proofs.Callers.{went-then}
 use Rattle.cc_ranges.specs.Ends.{IsTidyEnd, write_done}
 use Rattle.cc_ranges.proofs.TidyEnds.{Behind, at-later, behind-then, refused-behind, tidy-as, tidy-went-on}
 use Rattle.cc_ranges.proofs.WriteHolding.{begins-writing}
 use Rattle.cc_ranges.proofs.WriteNexting.{writing-on}
+use Rattle.cc_ranges.specs.ReadVisits.{file_page}
 
 -- what it leaves from the takes on, it leaves from before them, with both given back
-pub page-since : (w v x : Standing) (s : ℕ) → CanCall w s → Takes (with_device s) w v → Takes (with_book s) v x → (y z : Standing) (file : File) (page : ℕ) (bytes : List ℕ) (answer : Result ℕ CcError) → z ≡ without_device (without_book y) → ((begun : List Entry) → IsWriting x.number file page begun x.seen → PageLeft x.setup x.number file page bytes answer begun y.seen) → PageLeft w.setup w.number file page bytes answer w.seen z.seen
+pub page-since : (w v x : Standing) (s : ℕ) → CanCall w s → Takes (with_device s) w v → Takes (with_book s) v x → (y z : Standing) (file : File) (page : ℕ) (bytes : List ℕ) (answer : Result ℕ CcError) → z ≡ without_device (without_book y) → ((begun : List Entry) → WriteIsUnderWay x.number file page begun x.seen → WriteOfPageLeft x.setup x.number file page bytes answer begun y.seen) → WriteOfPageLeft w.setup w.number file page bytes answer w.seen z.seen
 page-since w v x s can first second y z file page bytes answer given left =
-    let here : IsWriting x.number file page w.seen x.seen =
-    subst (λ (n : ℕ). IsWriting n file page w.seen x.seen) (sym (number_both w v x s can first second))
+    let here : WriteIsUnderWay x.number file page w.seen x.seen =
+    subst (λ (n : ℕ). WriteIsUnderWay n file page w.seen x.seen) (sym (number_both w v x s can first second))
     (writing-on w.number file page w.seen w.seen x.seen (begins-writing w.number file page w.seen) (idle w v x s can first second)) in
-    subst (λ (past : List Entry). PageLeft w.setup w.number file page bytes answer w.seen past) (sym (ap (λ (a : Standing). a.seen) given))
-    (subst (λ (n : ℕ). PageLeft w.setup n file page bytes answer w.seen y.seen) (number_both w v x s can first second)
-    (subst (λ (u : Setup). PageLeft u x.number file page bytes answer w.seen y.seen) (setup_both w v x s can first second) (left w.seen here)))
+    subst (λ (past : List Entry). WriteOfPageLeft w.setup w.number file page bytes answer w.seen past) (sym (ap (λ (a : Standing). a.seen) given))
+    (subst (λ (n : ℕ). WriteOfPageLeft w.setup n file page bytes answer w.seen y.seen) (number_both w v x s can first second)
+    (subst (λ (u : Setup). WriteOfPageLeft u x.number file page bytes answer w.seen y.seen) (setup_both w v x s can first second) (left w.seen here)))
 
 -- so that its page went out where it could
 pub tidy-both : (w v x : Standing) (s : ℕ) → CanCall w s → Takes (with_device s) w v → Takes (with_book s) v x → (file : File) (page : Page) (answer : Result ℕ CcError) (seen now : List Entry) → now ≡ seen → OnOk answer (IsTidyEnd x.setup x.most_others x.number file page x.seen seen) → OnOk answer (IsTidyEnd w.setup w.most_others w.number file page w.seen now)
@@ -108,11 +108,11 @@ module _ (w v x : Standing) (file : File) (first done changed : ℕ) (piece : Li
 
   -- the page after them had this answer
   module _ (bytes : List ℕ) (is : bytes ≡ take 4096 (drop (4096 * done) piece)) (answer : Result ℕ CcError) (page : PageWriteEnds v x file (first + done) bytes answer) where
-    left_on : PageLeft w.setup w.number file (first + done) (take 4096 (drop (4096 * done) piece)) answer v.seen x.seen
+    left_on : WriteOfPageLeft w.setup w.number file (first + done) (take 4096 (drop (4096 * done) piece)) answer v.seen x.seen
     left_on =
-        subst (λ (l : List ℕ). PageLeft w.setup w.number file (first + done) l answer v.seen x.seen) is
-        (subst (λ (n : ℕ). PageLeft w.setup n file (first + done) bytes answer v.seen x.seen) number_on
-        (subst (λ (u : Setup). PageLeft u v.number file (first + done) bytes answer v.seen x.seen) setup_on page.left))
+        subst (λ (l : List ℕ). WriteOfPageLeft w.setup w.number file (first + done) l answer v.seen x.seen) is
+        (subst (λ (n : ℕ). WriteOfPageLeft w.setup n file (first + done) bytes answer v.seen x.seen) number_on
+        (subst (λ (u : Setup). WriteOfPageLeft u v.number file (first + done) bytes answer v.seen x.seen) setup_on page.left))
 
     good_on : IsGood w.setup x.seen
     good_on = subst (λ (u : Setup). IsGood u x.seen) setup_on page.good
@@ -124,15 +124,15 @@ module _ (w v x : Standing) (file : File) (first done changed : ℕ) (piece : Li
   page-behind : (bytes : List ℕ) (count : ℕ) → PageWriteEnds v x file (first + done) bytes (Ok count) → Behind x.seen v.seen
   page-behind bytes count page =
       let end = page.tidy in
-      (write_done v.number file (page_in file (first + done)) end.front ∷ end.later, end.placed ∙ ap (λ past. write_done v.number file (page_in file (first + done)) end.front ∷ past) end.grew)
+      (write_done v.number file (file_page file (first + done)) end.front ∷ end.later, end.placed ∙ ap (λ past. write_done v.number file (file_page file (first + done)) end.front ∷ past) end.grew)
 
-  tidied-more : (k : ℕ) → Behind x.seen v.seen → IsTidyEnd w.setup w.most_others w.number file (page_in file (first + done)) w.seen x.seen → k < suc done → AtSome (IsTidyEnd w.setup w.most_others w.number file (page_in file (first + k)) w.seen) w.seen x.seen
+  tidied-more : (k : ℕ) → Behind x.seen v.seen → IsTidyEnd w.setup w.most_others w.number file (file_page file (first + done)) w.seen x.seen → k < suc done → AtSome (IsTidyEnd w.setup w.most_others w.number file (file_page file (first + k)) w.seen) w.seen x.seen
   tidied-more k since end below =
       dite (ℕ_discrete k done)
       (λ same.
-      subst (λ (n : ℕ). AtSome (IsTidyEnd w.setup w.most_others w.number file (page_in file (first + n)) w.seen) w.seen x.seen) (sym same)
+      subst (λ (n : ℕ). AtSome (IsTidyEnd w.setup w.most_others w.number file (file_page file (first + n)) w.seen) w.seen x.seen) (sym same)
       (let all = behind-then x.seen v.seen w.seen since on.behind in record { moment = x.seen; later = []; since = all.0; ends = refl; begins = all.1; holds = end }))
-      (λ other. at-later (IsTidyEnd w.setup w.most_others w.number file (page_in file (first + k)) w.seen) w.seen v.seen x.seen since (on.tidied k (less k done other below)))
+      (λ other. at-later (IsTidyEnd w.setup w.most_others w.number file (file_page file (first + k)) w.seen) w.seen v.seen x.seen since (on.tidied k (less k done other below)))
     where
       less : (k n : ℕ) → (k ≡ n → ⊥) → k < suc n → k < n
       less k n other below = omega (arith, other, below)
@@ -144,7 +144,7 @@ module _ (w v x : Standing) (file : File) (first done changed : ℕ) (piece : Li
     within = omega (arith, on.within, count-few bytes count page);
     good = λ good. good_on bytes is (Ok count) page;
     behind = behind-then x.seen v.seen w.seen (page-behind bytes count page) on.behind;
-    tidied = λ k below. tidied-more k (page-behind bytes count page) (tidy-went-on w v file (page_in file (first + done)) (Ok count) x.seen on.went on.behind page.tidy) below;
+    tidied = λ k below. tidied-more k (page-behind bytes count page) (tidy-went-on w v file (file_page file (first + done)) (Ok count) x.seen on.went on.behind page.tidy) below;
     ahead = λ n rest new written.
         subst (λ (m : ℕ). PagesWritten w.number file first m piece (changed + count + rest) w.seen new) (more done n)
         (subst (λ (m : ℕ). PagesWritten w.number file first (done + suc n) piece m w.seen new) (sum changed count rest)
@@ -202,7 +202,7 @@ ends-all w v file first done changed pages piece on same is = record {
   good = on.good;
 }
 
-refused-full : (w : Standing) (file : File) (first : ℕ) (e : CcError) (done : ℕ) → IsFullStoring {A = ℕ} file (page_in file (first + done)) w (Err e) → IsFullStoring {A = Unit {0}} file (page_in file (first + done)) w (Err e)
+refused-full : (w : Standing) (file : File) (first : ℕ) (e : CcError) (done : ℕ) → IsFullStoring {A = ℕ} file (file_page file (first + done)) w (Err e) → IsFullStoring {A = Unit {0}} file (file_page file (first + done)) w (Err e)
 refused-full w file first e done full = full
 
 pub ends-refused : (w v x : Standing) (file : File) (first done changed pages : ℕ) (piece bytes : List ℕ) (failed : NcError) → WritesOn w v file first done changed piece → bytes ≡ take 4096 (drop (4096 * done) piece) → PageWriteEnds v x file (first + done) bytes (Err failed.cause) → failed.done ≡ done → done < pages → pages ≡ length piece / 4096 → PagesWriteEnds w x file first piece (Err failed)
@@ -211,14 +211,14 @@ ends-refused w v x file first done changed pages piece bytes failed on same page
     subst (λ (n : ℕ). done < n) is below,
     writes-refused w v x file first done changed piece on bytes same failed.cause page,
   );
-  tidied = subst (λ (n : ℕ). AreTidied w x file first n) (sym count) (λ k below. at-later (IsTidyEnd w.setup w.most_others w.number file (page_in file (first + k)) w.seen) w.seen v.seen x.seen (refused-behind v.setup v.number file (first + done) bytes failed.cause v.seen x.seen page.left) (on.tidied k below));
+  tidied = subst (λ (n : ℕ). AreTidied w x file first n) (sym count) (λ k below. at-later (IsTidyEnd w.setup w.most_others w.number file (file_page file (first + k)) w.seen) w.seen v.seen x.seen (refused-behind v.setup v.number file (first + done) bytes failed.cause v.seen x.seen page.left) (on.tidied k below));
   full = refused-full x file first failed.cause failed.done (rw count page.full);
   goes_on = went-then w v x on.went page.goes_on;
   good = λ good. good-after w v x file first done changed piece on bytes (Err failed.cause) page;
 }
 
 -- A write whose place and length are in order leaves what its pages left.
-aligned : (u : Setup) (me : ℕ) (file : File) (at : ℕ) (piece : List ℕ) (answered : Result ℕ (ℕ × CcError)) (old new : List Entry) → PagesLeft u me file (at / 4096) (length piece / 4096) piece answered old new → AlignedWriteLeft u me file at piece answered old new
+aligned : (u : Setup) (me : ℕ) (file : File) (at : ℕ) (piece : List ℕ) (answered : Result ℕ (ℕ × CcError)) (old new : List Entry) → PageWritesLeft u me file (at / 4096) (length piece / 4096) piece answered old new → AlignedWriteLeft u me file at piece answered old new
 aligned u me file at [] (Ok count) old new left = left
 aligned u me file at [] (Err failed) old new left = absurd (omega (arith, left.0))
 aligned u me file at (byte ∷ bytes) (Ok count) old new left = left

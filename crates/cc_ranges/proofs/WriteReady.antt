@@ -33,7 +33,7 @@ use Rattle.cc_step.proofs.Placed.{so-far}
 use Rattle.cc_turns.specs.Standing.{Standing}
 use Rattle.cc_turns.specs.Takes.{Grows}
 use Rattle.cc_writes.specs.Hands.{HasBook, WentWith}
-use Rattle.cc_writes.specs.Ways.{HasFailed, IsAtWork, IsHalted, IsReason}
+use Rattle.cc_writes.specs.Ways.{WorkHasFailed, IsAtWork, IsHalted, IsCallReason}
 use Rattle.cc_writes.specs.Logs.{FlushLeft, HoldsBoth, IsWant, ReachedBy}
 use Rattle.cc_writes.specs.Writes.{HasBoth}
 use Rattle.cc_writes.specs.declared.log.LogFlush.{LogFlush}
@@ -45,12 +45,13 @@ use Rattle.cc_writes.proofs.Halting.{at-work, given-up, halted-since, no-memory,
 use Rattle.cc_writes.proofs.Quiet.{holds_both}
 use Rattle.cc_writes.proofs.OneVisit.{went-number}
 use Rattle.cc_writes.proofs.Works.{work-grown}
-use Rattle.cc_ranges.specs.Pages.{PutLeft}
-use Rattle.cc_ranges.specs.WriteHeld.{IsReadyAfter, PageLeft}
-use Rattle.cc_ranges.specs.WriteVisits.{IsTurnedAway, IsWriting, page_in}
+use Rattle.cc_ranges.specs.Pages.{ReadyWriteLeft}
+use Rattle.cc_ranges.specs.WriteHeld.{IsReadyAfter, WriteOfPageLeft}
+use Rattle.cc_ranges.specs.WriteVisits.{WriteIsTurnedAway, WriteIsUnderWay}
 use Rattle.cc_ranges.proofs.Goods.{below-size, store-step_refusal, stores-page}
 use Rattle.cc_ranges.proofs.Misshapen.{unshaped}
 use Rattle.cc_ranges.proofs.Storing.{refusal-history}
+use Rattle.cc_ranges.specs.ReadVisits.{file_page}
 
 -- no pin owes a stamp to the page of a write that nothing refuses
 pub stamped-page : (u : Setup) (past : List Entry) (h : List Effect) (file : File) (page : ℕ) → refusal u past h (call.NcWrite file page) ≡ None → is_unstamped h page ≡ false
@@ -74,12 +75,12 @@ ready-numbered u past s file page good admitted =
     number size inside most = omega (arith, inside, most)
 
 -- where room or memory was wanting, the write is turned away
-pub want-turned : (u : Setup) (me : ℕ) (file : File) (page : ℕ) (e : CcError) (begun new : List Entry) → IsWant e → IsWriting me file page begun new → IsTurnedAway u me file page e begun new
-want-turned u me file page (error.JournalFull entries) begun new want is = (refl, given-up u me (call.NcWrite file page) (page_in file page) (error.JournalFull entries) begun new refl refl (at-work me (call.NcWrite file page) begun new is.way))
+pub want-turned : (u : Setup) (me : ℕ) (file : File) (page : ℕ) (e : CcError) (begun new : List Entry) → IsWant e → WriteIsUnderWay me file page begun new → WriteIsTurnedAway u me file page e begun new
+want-turned u me file page (error.JournalFull entries) begun new want is = (refl, given-up u me (call.NcWrite file page) (file_page file page) (error.JournalFull entries) begun new refl refl (at-work me (call.NcWrite file page) begun new is.way))
 want-turned u me file page error.NoMemory begun new want is = (refl, no-memory me (call.NcWrite file page) begun new refl refl is.way)
 want-turned u me file page other begun new want is = absurd want
 
-pub writing-grown : (w : Standing) (file : File) (page : ℕ) (begun seen : List Entry) → Grows w seen → IsWriting w.number file page begun w.seen → IsWriting w.number file page begun seen
+pub writing-grown : (w : Standing) (file : File) (page : ℕ) (begun seen : List Entry) → Grows w seen → WriteIsUnderWay w.number file page begun w.seen → WriteIsUnderWay w.number file page begun seen
 writing-grown w file page begun seen grows is = record {
   way = under-way w.number (call.NcWrite file page) begun seen (on (Calls (call.NcWrite file page)) (at-work w.number (call.NcWrite file page) begun w.seen is.way));
   stores = λ bytes. on (Calls (call.NcStore file page bytes)) (is.stores bytes);
@@ -89,7 +90,7 @@ writing-grown w file page begun seen grows is = record {
     on work it = subst (λ (past : List Entry). IsAtWork w.number work begun past) (sym grows.grew) (work-grown w.number work begun w.seen grows.later grows.others it)
 
 -- what the writing of the page leaves, where it was ready and its log is flushed
-pub put-page-left : (u : Setup) (w : Standing) (file : File) (page : ℕ) (bytes : List ℕ) (answer : Result ℕ CcError) (begun seen : List Entry) → IsWriting w.number file page begun w.seen → PutLeft w file page bytes answer begun seen → PageLeft u w.number file page bytes answer begun seen
+pub put-page-left : (u : Setup) (w : Standing) (file : File) (page : ℕ) (bytes : List ℕ) (answer : Result ℕ CcError) (begun seen : List Entry) → WriteIsUnderWay w.number file page begun w.seen → ReadyWriteLeft w file page bytes answer begun seen → WriteOfPageLeft u w.number file page bytes answer begun seen
 put-page-left u w file page bytes (Ok count) begun seen is left = left
 put-page-left u w file page bytes (Err e) begun seen is left =
     ⊎_elim (λ unstored. inl (want-turned u w.number file page e begun seen unstored.1 (writing-grown w file page begun seen unstored.0 is))) (λ refused. inr refused) left
@@ -97,12 +98,12 @@ put-page-left u w file page bytes (Err e) begun seen is left =
 -- After the flush of the page's log.
 module _ {D : Type 0} (told : D → Option Disk) (faults : D → ℕ) (n : ℕ) (w x : Standing) (file : File) (page : ℕ) (b : BookState) (disk : D)
     (both : HasBoth told faults w file.stream b disk) (ready : IsReadyAfter w file page) (went : WentWith n w x) (has : HasBook x file.stream b)
-    (flushed : Result LogFlush CcError) (left : FlushLeft w (page_in file page) flushed x.seen) where
+    (flushed : Result LogFlush CcError) (left : FlushLeft w (file_page file page) flushed x.seen) where
   abbrev it : Call
   it = call.NcWrite file page
 
   abbrev its : Page
-  its = page_in file page
+  its = file_page file page
 
   held : HoldsBoth w file.stream
   held = holds_both w file.stream b both.book both.rest.device
@@ -145,9 +146,9 @@ module _ {D : Type 0} (told : D → Option Disk) (faults : D → ℕ) (n : ℕ) 
   asked : (work : Work) → stores work its w.seen ≡ true → (may_write work its w.seen || stores work its w.seen) ≡ true
   asked work is = or_right (may_write work its w.seen) (stores work its w.seen) is
 
-  pub reached-after : (begun : List Entry) → IsWriting w.number file page begun w.seen → ReachedBy w its x.seen → IsWriting x.number file page begun x.seen
+  pub reached-after : (begun : List Entry) → WriteIsUnderWay w.number file page begun w.seen → ReachedBy w its x.seen → WriteIsUnderWay x.number file page begun x.seen
   reached-after begun is found =
-      subst (λ (m : ℕ). IsWriting m file page begun x.seen) (sym (went-number n w x went))
+      subst (λ (m : ℕ). WriteIsUnderWay m file page begun x.seen) (sym (went-number n w x went))
       (record {
         way = under-way w.number it begun x.seen
             (work-reached w its held stamped (Calls it) begun (asked (Calls it) stores-write) (at-work w.number it begun w.seen is.way) x.seen found);
@@ -156,14 +157,14 @@ module _ {D : Type 0} (told : D → Option Disk) (faults : D → ℕ) (n : ℕ) 
       })
 
   -- and then the page was put on the disk, or was not stored
-  pub put-left-since : (bytes : List ℕ) (answer : Result ℕ CcError) (begun seen : List Entry) → IsWriting w.number file page begun w.seen → ReachedBy w its x.seen → ((begun : List Entry) → IsAtWork x.number (Calls (call.NcStore file page bytes)) begun x.seen → PutLeft x file page bytes answer begun seen) → PageLeft w.setup w.number file page bytes answer begun seen
+  pub put-left-since : (bytes : List ℕ) (answer : Result ℕ CcError) (begun seen : List Entry) → WriteIsUnderWay w.number file page begun w.seen → ReachedBy w its x.seen → ((begun : List Entry) → IsAtWork x.number (Calls (call.NcStore file page bytes)) begun x.seen → ReadyWriteLeft x file page bytes answer begun seen) → WriteOfPageLeft w.setup w.number file page bytes answer begun seen
   put-left-since bytes answer begun seen is found put =
       let there = reached-after begun is found in
-      subst (λ (m : ℕ). PageLeft w.setup m file page bytes answer begun seen) (went-number n w x went)
+      subst (λ (m : ℕ). WriteOfPageLeft w.setup m file page bytes answer begun seen) (went-number n w x went)
       (put-page-left w.setup x file page bytes answer begun seen there (put begun (there.stores bytes)))
 
   -- there was no room, or no memory
-  pub turned-after : (bytes : List ℕ) (begun : List Entry) → IsWriting w.number file page begun w.seen → (e : CcError) → flushed ≡ Err e → PageLeft w.setup w.number file page bytes (Err e) begun x.seen
+  pub turned-after : (bytes : List ℕ) (begun : List Entry) → WriteIsUnderWay w.number file page begun w.seen → (e : CcError) → flushed ≡ Err e → WriteOfPageLeft w.setup w.number file page bytes (Err e) begun x.seen
   turned-after bytes begun is e err =
       let there = subst (λ (r : Result LogFlush CcError). FlushLeft w its r x.seen) err left in
       inl (want-turned w.setup w.number file page e begun x.seen there.1 (writing-grown w file page begun x.seen there.0 is))
@@ -172,14 +173,14 @@ module _ {D : Type 0} (told : D → Option Disk) (faults : D → ℕ) (n : ℕ) 
   pub halted-after : (handle told_as : ℕ) → told_as ≡ handle → flushed ≡ Ok (flush.Failed handle) → (begun : List Entry) → IsUnderWay w.number it begun w.seen → IsHalted x.setup x.number file.stream it (error.LogFault told_as) begun x.seen
   halted-after handle told_as told_is failed begun way =
       let there = subst (λ (r : Result LogFlush CcError). FlushLeft w its r x.seen) failed left in
-      let fault : HasFailed w.number (Calls it) (LogFailed handle) w.seen x.seen =
+      let fault : WorkHasFailed w.number (Calls it) (LogFailed handle) w.seen x.seen =
       work-unlogged w its held stamped (Calls it) w.seen (asked (Calls it) stores-write) (at-work w.number it w.seen w.seen (begins w.number it w.seen)) handle there.0 x.seen there.1 in
       subst (λ (m : ℕ). IsHalted x.setup m file.stream it (error.LogFault told_as) begun x.seen) (sym (went-number n w x went))
       (subst (λ (u : Setup). IsHalted u w.number file.stream it (error.LogFault told_as) begun x.seen) (sym setup)
       (halted-since w.setup w.number file.stream it (error.LogFault told_as) (LogFailed handle) begun w.seen x.seen way ready.admitted (tells-log it told_as handle told_is) fault))
 
   -- so the write fails, with the fault or with a refusal that others brought about
-  pub failed-left : (bytes : List ℕ) (handle told_as : ℕ) → told_as ≡ handle → flushed ≡ Ok (flush.Failed handle) → (s : ℕ) → s ≡ file.stream → (e : CcError) (seen begun : List Entry) → IsWriting w.number file page begun w.seen → ((begun : List Entry) → IsHalted x.setup x.number s it (error.LogFault told_as) begun x.seen → CallLeft x.setup x.number it (outcome.Failed e) begun seen) → IsReason x.setup s it e → PageLeft w.setup w.number file page bytes (Err e) begun seen
+  pub failed-left : (bytes : List ℕ) (handle told_as : ℕ) → told_as ≡ handle → flushed ≡ Ok (flush.Failed handle) → (s : ℕ) → s ≡ file.stream → (e : CcError) (seen begun : List Entry) → WriteIsUnderWay w.number file page begun w.seen → ((begun : List Entry) → IsHalted x.setup x.number s it (error.LogFault told_as) begun x.seen → CallLeft x.setup x.number it (outcome.Failed e) begun seen) → IsCallReason x.setup s it e → WriteOfPageLeft w.setup w.number file page bytes (Err e) begun seen
   failed-left bytes handle told_as told_is failed s here e seen begun is ended reason =
       inl (
         unshaped x.setup s it e tt reason,

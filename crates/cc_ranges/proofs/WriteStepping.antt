@@ -23,7 +23,7 @@ use Rattle.cc_model.specs.Sizes.{stored_range}
 use Rattle.cc_model.specs.Touches.{size_of}
 use Rattle.cc_step.specs.Step.{least_absent}
 use Rattle.cc_step.proofs.Placed.{so-far}
-use Rattle.cc_ranges.specs.WriteSteps.{HasRoom, MayMakeRoom, NextLeft, next_of}
+use Rattle.cc_ranges.specs.WriteSteps.{WriteHasRoom, MayMakeRoom, WriteNextLeft, next_of}
 use Rattle.cc_ranges.proofs.Goods.{below-size}
 
 -- the pages of the range of a page's write
@@ -56,7 +56,7 @@ module _ {Q : Type 0} (u : Setup) (pass : ℕ) (file : File) (page : ℕ) (b : B
   pub here-is : file.stream ≡ b.stream
   here-is = let is : Some b.stream ≡ Some file.stream = may.may.may.filed in cc
 
-  pub ready-here : has_room h page ≡ true → HasRoom u file page b b j j
+  pub ready-here : has_room h page ≡ true → WriteHasRoom u file page b b j j
   ready-here room = record {
     ready = record {
       here = here-is;
@@ -85,7 +85,7 @@ module _ {Q : Type 0} (u : Setup) (pass : ℕ) (file : File) (page : ℕ) (b : B
       least = first (pages_of (stored_range page (size_of h))) (pages-stored page (size_of h) (below-size u j.entries h file page may.admitted))
 
   -- the step that makes room
-  pub made-room : (way : Way) (c : BookState) (k : JournalState Q) → MakesWay way → WayLeft u pass it way b c j k → NextLeft u pass file page (next_of way) b c j k
+  pub made-room : (way : Way) (c : BookState) (k : JournalState Q) → MakesWay way → WayLeft u pass it way b c j k → WriteNextLeft u pass file page (next_of way) b c j k
   made-room way.Done c k makes left = absurd makes
   made-room (way.Refused e) c k makes left = absurd makes
   made-room (way.WentOut again) c k makes left = (again, left)

@@ -37,10 +37,10 @@ pub record MayFinishHere {Q : Type 0} (u : Setup) (pass : ℕ) (file : File) (pa
   pub reserved : 0 < j.reserved
 
 -- a stretch in which at most the page went out
-abbrev pub IsOut : ℕ → Page → List Entry → Type 0
-IsOut pass page [] = Unit {0}
-IsOut pass page (e ∷ []) = e ≡ entry.PageOut pass page
-IsOut pass page (e ∷ (other ∷ more)) = ⊥
+abbrev pub PageOutAtMost : ℕ → Page → List Entry → Type 0
+PageOutAtMost pass page [] = Unit {0}
+PageOutAtMost pass page (e ∷ []) = e ≡ entry.PageOut pass page
+PageOutAtMost pass page (e ∷ (other ∷ more)) = ⊥
 
 -- A page is resident and clean, and no hold has it.
 pub record IsIdlePage (h : List Effect) (page : ℕ) : Type 0 where
@@ -52,13 +52,13 @@ pub record IsIdlePage (h : List Effect) (page : ℕ) : Type 0 where
 pub record IsTidied {Q : Type 0} (u : Setup) (pass : ℕ) (file : File) (page : Page) (kept : Bool) (c : BookState)
     (j k : JournalState Q) : Type 0 where
   pub tidied : List Entry
-  pub only : IsOut pass page tidied
+  pub only : PageOutAtMost pass page tidied
   pub out : kept ≡ true → IsIdlePage (history j.entries page.stream) page.page → tidied ≡ entry.PageOut pass page ∷ []
   pub placed : k ≡ record j { entries = tidied ++ j.entries; reserved = j.reserved - places_kept kept; rows = k.rows }
   pub may : MayFinishHere u pass file page c k
 
 -- a place is there for a page to go out: one that was kept is
-pub record PlaceLeft {Q : Type 0} (kept there : Bool) (j k : JournalState Q) : Type 0 where
+pub record PageOutPlaceLeft {Q : Type 0} (kept there : Bool) (j k : JournalState Q) : Type 0 where
   pub sure : kept ≡ true → there ≡ true
   pub reserved : k ≡ record j { reserved = (j.reserved + places_kept there) - places_kept kept }
 
@@ -67,7 +67,7 @@ abbrev pub write_done : ℕ → File → Page → List Entry → Entry
 write_done pass file page past = done pass past page.stream (call.NcWrite file page.page) reply.Unit
 
 -- The write was done.
-pub record IsEnded {Q : Type 0} (u : Setup) (pass : ℕ) (file : File) (page : Page) (c : BookState) (j k : JournalState Q)
+pub record WriteIsEnded {Q : Type 0} (u : Setup) (pass : ℕ) (file : File) (page : Page) (c : BookState) (j k : JournalState Q)
     : Type 0 where
   pub placed : k ≡ record j {
     entries = write_done pass file page j.entries ∷ j.entries;
@@ -82,7 +82,7 @@ pub record HasTidied (w : Standing) (page : Page) (seen : List Entry) : Type 0 w
   pub front : List Entry
   pub grows : Grows w front
   pub tidied : List Entry
-  pub only : IsOut w.number page tidied
+  pub only : PageOutAtMost w.number page tidied
   pub out : w.in_flight ≡ 1 → IsIdlePage (history front page.stream) page.page → tidied ≡ entry.PageOut w.number page ∷ []
   pub placed : seen ≡ tidied ++ front
 

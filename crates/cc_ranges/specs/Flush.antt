@@ -28,16 +28,16 @@ use Rattle.cc_effects.specs.Begins.{BeginsAscending, BeginsNone}
 use Rattle.cc_writes.specs.Calls.{IsFullWriting}
 use Rattle.cc_writes.specs.Hands.{Went, WentWith}
 use Rattle.cc_writes.specs.Ways.{IsFullError, IsHalted}
-use Rattle.cc_writes.specs.Writes.{IsToWrite, WantedMemory}
+use Rattle.cc_writes.specs.Writes.{IsToWrite, WorkWantedMemory}
 use Rattle.cc_ranges.specs.Settled.{IsSettledTo, IsSettledAll}
 use Rattle.cc_ranges.specs.declared.flush.Round.{Round}
 use Rattle.cc_ranges.specs.declared.flush.Round.TheVariants as round
-use Rattle.cc_ranges.specs.declared.flush_steps.Finished.{Finished}
-use Rattle.cc_ranges.specs.declared.flush_steps.Finished.TheVariants as finished
-use Rattle.cc_ranges.specs.declared.flush_steps.Next.{Next}
-use Rattle.cc_ranges.specs.declared.flush_steps.Next.TheVariants as next
-use Rattle.cc_ranges.specs.declared.flush_visits.Step.{Step}
-use Rattle.cc_ranges.specs.declared.flush_visits.Step.TheVariants as step
+use Rattle.cc_ranges.specs.declared.flush_steps.FlushEnd.{FlushEnd}
+use Rattle.cc_ranges.specs.declared.flush_steps.FlushEnd.TheVariants as finished
+use Rattle.cc_ranges.specs.declared.flush_steps.FlushNext.{FlushNext}
+use Rattle.cc_ranges.specs.declared.flush_steps.FlushNext.TheVariants as next
+use Rattle.cc_ranges.specs.declared.flush_visits.FlushStep.{FlushStep}
+use Rattle.cc_ranges.specs.declared.flush_visits.FlushStep.TheVariants as step
 
 -- how the entry of a flush says that it ended, whose caller was answered so
 abbrev pub outcome_of : Result (Unit {0}) CcError → Outcome
@@ -51,7 +51,7 @@ pub record IsFlushing (me : ℕ) (file : File) (span : Option Range) (to : ℕ) 
   pub settled : IsSettledTo to (length (history old file.stream)) (history new file.stream) span
 
 -- It is to write this page, and has come as far; nothing refuses it.
-pub record IsAtPage (u : Setup) (me : ℕ) (file : File) (span : Option Range) (page : ℕ) (old new : List Entry)
+pub record FlushIsAtPage (u : Setup) (me : ℕ) (file : File) (span : Option Range) (page : ℕ) (old new : List Entry)
     : Type 0 where
   pub flushing : IsFlushing me file span page old new
   pub admitted : refusal u new (history new file.stream) (call.Flush file span) ≡ None
@@ -65,7 +65,7 @@ pub record IsAtSync (u : Setup) (me : ℕ) (file : File) (span : Option Range) (
   pub admitted : refusal u new (history new file.stream) (call.Flush file span) ≡ None
 
 -- It has synced well, and nothing stopped it.
-pub record HasSynced (me : ℕ) (file : File) (span : Option Range) (old new : List Entry) : Type 0 where
+pub record FlushHasSynced (me : ℕ) (file : File) (span : Option Range) (old new : List Entry) : Type 0 where
   pub during : List Entry
   pub grew : new ≡ during ++ old
   pub works : Works me (Calls (call.Flush file span)) during old
@@ -79,62 +79,62 @@ HasFailedSync u me file span old new =
 
 -- What there is to end, by how the sync ended: it has synced, or the sync failed, or found no memory.
 abbrev pub IsAtEnd : Setup → ℕ → File → Option Range → End → List Entry → List Entry → Type 0
-IsAtEnd u me file span how.Good old new = HasSynced me file span old new
+IsAtEnd u me file span how.Good old new = FlushHasSynced me file span old new
 IsAtEnd u me file span how.Failed old new = HasFailedSync u me file span old new
-IsAtEnd u me file span how.NoMemory old new = WantedMemory me (Calls (call.Flush file span)) old new
+IsAtEnd u me file span how.NoMemory old new = WorkWantedMemory me (Calls (call.Flush file span)) old new
 
 -- What the next step of a flush leaves of it, by cases.
-abbrev pub StepLeft : Setup → ℕ → File → Option Range → Step → List Entry → List Entry → Type 0
-StepLeft u me file span (step.Ended e) old new = CallLeft u me (call.Flush file span) (outcome.Failed e) old new
-StepLeft u me file span (step.Writes page) old new = IsAtPage u me file span page old new
-StepLeft u me file span step.Syncs old new = IsAtSync u me file span old new
+abbrev pub FlushStepLeft : Setup → ℕ → File → Option Range → FlushStep → List Entry → List Entry → Type 0
+FlushStepLeft u me file span (step.Ended e) old new = CallLeft u me (call.Flush file span) (outcome.Failed e) old new
+FlushStepLeft u me file span (step.Writes page) old new = FlushIsAtPage u me file span page old new
+FlushStepLeft u me file span step.Syncs old new = IsAtSync u me file span old new
 
 -- The pass goes on as it stood; before a sync it has a place reserved for the entry.
-abbrev pub StepWent : Step → Standing → Standing → Type 0
-StepWent step.Syncs old new = WentWith 1 old new
-StepWent other old new = Went old new
+abbrev pub FlushStepWent : FlushStep → Standing → Standing → Type 0
+FlushStepWent step.Syncs old new = WentWith 1 old new
+FlushStepWent other old new = Went old new
 
 -- a flush that found no room, with one place asked
-abbrev pub IsFullStep : Standing → Step → Type 0
-IsFullStep w (step.Ended e) = IsFullError 1 w e
-IsFullStep w other = Unit {0}
+abbrev pub IsFullFlushStep : Standing → FlushStep → Type 0
+IsFullFlushStep w (step.Ended e) = IsFullError 1 w e
+IsFullFlushStep w other = Unit {0}
 
 -- A page that is to be written is the least dirty one of the span from this page on.
-abbrev pub IsAscending : Step → ℕ → Type 0
-IsAscending (step.Writes page) from = (from ≤ page) × (page < 2 ^ 51)
-IsAscending other from = Unit {0}
+abbrev pub FlushStepAscends : FlushStep → ℕ → Type 0
+FlushStepAscends (step.Writes page) from = (from ≤ page) × (page < 2 ^ 51)
+FlushStepAscends other from = Unit {0}
 
 -- the step that was taken on the book, and how the caller of a flush is answered that ended so
-abbrev pub step_of : Next → Step
-step_of (next.Refused e) = step.Ended e
-step_of (next.Writes page) = step.Writes page
-step_of next.Syncs = step.Syncs
-step_of (next.Stopped e) = step.Ended e
+abbrev pub flush_step_of : FlushNext → FlushStep
+flush_step_of (next.Refused e) = step.Ended e
+flush_step_of (next.Writes page) = step.Writes page
+flush_step_of next.Syncs = step.Syncs
+flush_step_of (next.Stopped e) = step.Ended e
 
-abbrev pub answer_of : Finished → Result (Unit {0}) CcError
-answer_of finished.Done = Ok tt
-answer_of (finished.Refused e) = Err e
-answer_of (finished.Stopped e) = Err e
+abbrev pub flush_answer : FlushEnd → Result (Unit {0}) CcError
+flush_answer finished.Done = Ok tt
+flush_answer (finished.Refused e) = Err e
+flush_answer (finished.Stopped e) = Err e
 
 -- What a round of a flush leaves of it, by cases: it failed, has come to a page, or is to sync.
-abbrev pub RoundLeft : Setup → ℕ → File → Option Range → Round → List Entry → List Entry → Type 0
-RoundLeft u me file span (round.Ended e) old new = CallLeft u me (call.Flush file span) (outcome.Failed e) old new
-RoundLeft u me file span (round.CameTo to) old new = IsFlushing me file span to old new
-RoundLeft u me file span round.Syncs old new = IsAtSync u me file span old new
+abbrev pub FlushRoundLeft : Setup → ℕ → File → Option Range → Round → List Entry → List Entry → Type 0
+FlushRoundLeft u me file span (round.Ended e) old new = CallLeft u me (call.Flush file span) (outcome.Failed e) old new
+FlushRoundLeft u me file span (round.CameTo to) old new = IsFlushing me file span to old new
+FlushRoundLeft u me file span round.Syncs old new = IsAtSync u me file span old new
 
 abbrev pub RoundWent : Round → Standing → Standing → Type 0
 RoundWent round.Syncs old new = WentWith 1 old new
 RoundWent other old new = Went old new
 
 -- a round of a flush that found no room for one entry, or none for the transfer of a page that is to be written then
-abbrev pub IsFullRound : Call → Standing → Round → Type 0
-IsFullRound it w (round.Ended e) = IsFullWriting {A = Unit {0}} it w (Err e)
-IsFullRound it w other = Unit {0}
+abbrev pub IsFullFlushRound : Call → Standing → Round → Type 0
+IsFullFlushRound it w (round.Ended e) = IsFullWriting {A = Unit {0}} it w (Err e)
+IsFullFlushRound it w other = Unit {0}
 
 -- A page to which it has come is past the one from which it went on.
-abbrev pub IsRising : Round → ℕ → Type 0
-IsRising (round.CameTo to) from = (from < to) × (to ≤ 2 ^ 51)
-IsRising other from = Unit {0}
+abbrev pub FlushRoundRises : Round → ℕ → Type 0
+FlushRoundRises (round.CameTo to) from = (from < to) × (to ≤ 2 ^ 51)
+FlushRoundRises other from = Unit {0}
 
 -- The pages that it began to write in a round ascend, from the one to which it had come on: it has come past each, or
 -- failed.
@@ -144,9 +144,9 @@ RoundBegins me (round.CameTo to) from old new = BeginsAscending me from to old n
 RoundBegins me round.Syncs from old new = BeginsNone me old new
 
 -- how far a flush came that wrote a page, or failed
-abbrev pub round_of : Result Call CcError → ℕ → Round
-round_of (Ok again) page = round.CameTo (page + 1)
-round_of (Err e) page = round.Ended e
+abbrev pub flush_round_of : Result Call CcError → ℕ → Round
+flush_round_of (Ok again) page = round.CameTo (page + 1)
+flush_round_of (Err e) page = round.Ended e
 
 -- Others went on, then the pass placed the entry of its sync, and others went on.
 pub record IsSyncTold (w : Standing) (s : ℕ) (end : End) (seen : List Entry) : Type 0 where

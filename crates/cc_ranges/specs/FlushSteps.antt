@@ -15,13 +15,13 @@ use Rattle.cc_model.specs.Setup.{Setup}
 use Rattle.cc_model.specs.Stamps.{is_unstamped}
 use Rattle.cc_step.specs.Step.{MayStep, AttemptDone, AttemptRefused, IsStop, FoundNone}
 use Rattle.cc_ranges.specs.Dirty.{IsNext, IsCleanFrom}
-use Rattle.cc_ranges.specs.declared.flush_steps.Next.{Next}
-use Rattle.cc_ranges.specs.declared.flush_steps.Next.TheVariants as next
-use Rattle.cc_ranges.specs.declared.flush_steps.Finished.{Finished}
-use Rattle.cc_ranges.specs.declared.flush_steps.Finished.TheVariants as finished
+use Rattle.cc_ranges.specs.declared.flush_steps.FlushNext.{FlushNext}
+use Rattle.cc_ranges.specs.declared.flush_steps.FlushNext.TheVariants as next
+use Rattle.cc_ranges.specs.declared.flush_steps.FlushEnd.{FlushEnd}
+use Rattle.cc_ranges.specs.declared.flush_steps.FlushEnd.TheVariants as finished
 
 -- Nothing refuses the flush, a page is the next to write, to which no pin owes a stamp, and nothing changed.
-pub record HasToWrite {Q : Type 0} (u : Setup) (file : File) (span : Option Range) (from page : ℕ)
+pub record FlushHasToWrite {Q : Type 0} (u : Setup) (file : File) (span : Option Range) (from page : ℕ)
     (b c : BookState) (j k : JournalState Q) : Type 0 where
   pub admitted : refusal u j.entries (history j.entries b.stream) (call.Flush file span) ≡ None
   pub next : IsNext (history j.entries b.stream) span from page
@@ -39,42 +39,42 @@ pub record HasToSync {Q : Type 0} (u : Setup) (file : File) (span : Option Range
   pub reserved : k ≡ record j { reserved = j.reserved + 1 }
 
 -- What a flush does next, by cases.
-abbrev pub NextLeft : {Q : Type 0} → Setup → ℕ → File → Option Range → ℕ → Next
+abbrev pub FlushNextLeft : {Q : Type 0} → Setup → ℕ → File → Option Range → ℕ → FlushNext
     → BookState → BookState → JournalState Q → JournalState Q → Type 0
-NextLeft u pass file span from (next.Refused e) b c j k = AttemptRefused u pass (call.Flush file span) e b c j k
-NextLeft u pass file span from (next.Writes page) b c j k = HasToWrite u file span from page b c j k
-NextLeft u pass file span from next.Syncs b c j k = HasToSync u file span from b c j k
-NextLeft u pass file span from (next.Stopped e) b c j k = IsStop 1 e j × FoundNone u b c j k
+FlushNextLeft u pass file span from (next.Refused e) b c j k = AttemptRefused u pass (call.Flush file span) e b c j k
+FlushNextLeft u pass file span from (next.Writes page) b c j k = FlushHasToWrite u file span from page b c j k
+FlushNextLeft u pass file span from next.Syncs b c j k = HasToSync u file span from b c j k
+FlushNextLeft u pass file span from (next.Stopped e) b c j k = IsStop 1 e j × FoundNone u b c j k
 
 -- a page that is to be written has a number
-abbrev pub IsNumbered : Next → Type 0
-IsNumbered (next.Writes page) = page < 2 ^ 51
-IsNumbered other = Unit {0}
+abbrev pub FlushPageIsNumbered : FlushNext → Type 0
+FlushPageIsNumbered (next.Writes page) = page < 2 ^ 51
+FlushPageIsNumbered other = Unit {0}
 
 -- What a pass asks of a book on which its flush is to end: it may step there, and has synced.
-pub record MayFinish {Q : Type 0} (u : Setup) (pass : ℕ) (file : File) (span : Option Range)
+pub record FlushMayFinish {Q : Type 0} (u : Setup) (pass : ℕ) (file : File) (span : Option Range)
     (b : BookState) (j : JournalState Q) : Type 0 where
   pub may : MayStep u pass (call.Flush file span) b j
   pub flushed : is_flushed j.entries pass b.stream span ≡ true
 
 -- How the flush ended, by cases: done, refused since others brought a refusal about, or without an entry.
-abbrev pub FinishLeft : {Q : Type 0} → Setup → ℕ → File → Option Range → Finished
+abbrev pub FlushFinishLeft : {Q : Type 0} → Setup → ℕ → File → Option Range → FlushEnd
     → BookState → BookState → JournalState Q → JournalState Q → Type 0
-FinishLeft u pass file span finished.Done b c j k = AttemptDone u pass (call.Flush file span) reply.Unit b c j k
-FinishLeft u pass file span (finished.Refused e) b c j k = AttemptRefused u pass (call.Flush file span) e b c j k
-FinishLeft u pass file span (finished.Stopped e) b c j k = IsStop 1 e j × FoundNone u b c j k
+FlushFinishLeft u pass file span finished.Done b c j k = AttemptDone u pass (call.Flush file span) reply.Unit b c j k
+FlushFinishLeft u pass file span (finished.Refused e) b c j k = AttemptRefused u pass (call.Flush file span) e b c j k
+FlushFinishLeft u pass file span (finished.Stopped e) b c j k = IsStop 1 e j × FoundNone u b c j k
 
 -- a journal with one place less reserved
 abbrev pub without_one : {Q : Type 0} → JournalState Q → JournalState Q
 without_one j = record j { reserved = j.reserved - 1 }
 
 -- The same of a journal in which a place is reserved for the flush: no room is asked any more.
-abbrev pub GoneOn : {Q : Type 0} → Setup → ℕ → File → Option Range → ℕ → Next
+abbrev pub FlushGoneOn : {Q : Type 0} → Setup → ℕ → File → Option Range → ℕ → FlushNext
     → BookState → BookState → JournalState Q → JournalState Q → Type 0
-GoneOn u pass file span from (next.Stopped e) b c j k = (e ≡ error.NoMemory) × FoundNone u b c (without_one j) k
-GoneOn u pass file span from other b c j k = NextLeft u pass file span from other b c (without_one j) k
+FlushGoneOn u pass file span from (next.Stopped e) b c j k = (e ≡ error.NoMemory) × FoundNone u b c (without_one j) k
+FlushGoneOn u pass file span from other b c j k = FlushNextLeft u pass file span from other b c (without_one j) k
 
-abbrev pub HasEnded : {Q : Type 0} → Setup → ℕ → File → Option Range → Finished
+abbrev pub FlushHasEnded : {Q : Type 0} → Setup → ℕ → File → Option Range → FlushEnd
     → BookState → BookState → JournalState Q → JournalState Q → Type 0
-HasEnded u pass file span (finished.Stopped e) b c j k = (e ≡ error.NoMemory) × FoundNone u b c (without_one j) k
-HasEnded u pass file span other b c j k = FinishLeft u pass file span other b c (without_one j) k
+FlushHasEnded u pass file span (finished.Stopped e) b c j k = (e ≡ error.NoMemory) × FoundNone u b c (without_one j) k
+FlushHasEnded u pass file span other b c j k = FlushFinishLeft u pass file span other b c (without_one j) k

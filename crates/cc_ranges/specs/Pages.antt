@@ -15,7 +15,7 @@ use Rattle.cc_writes.specs.Transfers.{IsFinished}
 use Rattle.cc_ranges.specs.Ends.{HasFinished, HasFailedWrite}
 
 -- The transfer of the stored page ended well, and then the write was done.
-pub record IsWritten (w : Standing) (file : File) (page : Page) (seen : List Entry) : Type 0 where
+pub record StoreIsWritten (w : Standing) (file : File) (page : Page) (seen : List Entry) : Type 0 where
   pub then_was : Standing
   pub went : Went w then_was
   pub finished : IsFinished w page how.Good false then_was.seen
@@ -36,13 +36,13 @@ pub record IsGivenUp (w : Standing) (page : Page) (seen : List Entry) : Type 0 w
 
 -- What follows the store of a page, by cases over the answer.
 abbrev pub FinishedLeft : Standing → File → Page → ℕ → Result ℕ CcError → List Entry → Type 0
-FinishedLeft w file page count (Ok n) seen = (n ≡ count) × IsWritten w file page seen
+FinishedLeft w file page count (Ok n) seen = (n ≡ count) × StoreIsWritten w file page seen
 FinishedLeft w file page count (Err (error.WriteFault failed)) seen = (failed ≡ page.page) × IsUnwritten w file page seen
 FinishedLeft w file page count (Err error.NoMemory) seen = IsGivenUp w page seen
 FinishedLeft w file page count (Err other) seen = ⊥
 
 -- What the writing of a page leaves that was ready to be stored, by cases over the answer: it was written; there was no
 -- room for its store, or no memory; or its transfer failed, or found no memory.
-abbrev pub PutLeft : Standing → File → ℕ → List ℕ → Result ℕ CcError → List Entry → List Entry → Type 0
-PutLeft w file page bytes (Ok count) begun seen = IsPageWritten w.number file page bytes count begun seen
-PutLeft w file page bytes (Err e) begun seen = (Grows w seen × IsWant e) ⊎ TransferRefused w.number file page bytes e begun seen
+abbrev pub ReadyWriteLeft : Standing → File → ℕ → List ℕ → Result ℕ CcError → List Entry → List Entry → Type 0
+ReadyWriteLeft w file page bytes (Ok count) begun seen = IsPageWritten w.number file page bytes count begun seen
+ReadyWriteLeft w file page bytes (Err e) begun seen = (Grows w seen × IsWant e) ⊎ TransferRefused w.number file page bytes e begun seen

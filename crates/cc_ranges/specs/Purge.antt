@@ -28,13 +28,13 @@ use Rattle.cc_writes.specs.Writes.{IsToWrite}
 use Rattle.cc_ranges.specs.Flush.{outcome_of}
 use Rattle.cc_ranges.specs.declared.purge.Round.{Round}
 use Rattle.cc_ranges.specs.declared.purge.Round.TheVariants as round
-use Rattle.cc_ranges.specs.declared.purge_steps.Next.{Next}
-use Rattle.cc_ranges.specs.declared.purge_steps.Next.TheVariants as next
-use Rattle.cc_ranges.specs.declared.purge_visits.Step.{Step}
-use Rattle.cc_ranges.specs.declared.purge_visits.Step.TheVariants as step
+use Rattle.cc_ranges.specs.declared.purge_steps.PurgeNext.{PurgeNext}
+use Rattle.cc_ranges.specs.declared.purge_steps.PurgeNext.TheVariants as next
+use Rattle.cc_ranges.specs.declared.purge_visits.PurgeStep.{PurgeStep}
+use Rattle.cc_ranges.specs.declared.purge_visits.PurgeStep.TheVariants as step
 
 -- A purge is to write a page of its span, from one page on; nothing refuses it.
-pub record IsAtPage (u : Setup) (file : File) (span : Option Range) (from page : ℕ) (past : List Entry) : Type 0 where
+pub record PurgeIsAtPage (u : Setup) (file : File) (span : Option Range) (from page : ℕ) (past : List Entry) : Type 0 where
   pub admitted : refusal u past (history past file.stream) (call.Purge file span) ≡ None
   pub in_span : span_has span page ≡ true
   pub to_write : IsToWrite (record { stream = file.stream; page = page }) past
@@ -42,69 +42,69 @@ pub record IsAtPage (u : Setup) (file : File) (span : Option Range) (from page :
   pub numbered : page < 2 ^ 51
 
 -- What the next step of a purge leaves of it, by cases: it was done, or failed, or is under way.
-abbrev pub StepLeft : Setup → ℕ → File → Option Range → Step → List Entry → List Entry → Type 0
-StepLeft u me file span (step.Ended answer) old new = CallLeft u me (call.Purge file span) (outcome_of answer) old new
-StepLeft u me file span (step.Writes page) old new = IsUnderWay me (call.Purge file span) old new
-StepLeft u me file span step.GoesOn old new = IsUnderWay me (call.Purge file span) old new
+abbrev pub PurgeStepLeft : Setup → ℕ → File → Option Range → PurgeStep → List Entry → List Entry → Type 0
+PurgeStepLeft u me file span (step.Ended answer) old new = CallLeft u me (call.Purge file span) (outcome_of answer) old new
+PurgeStepLeft u me file span (step.Writes page) old new = IsUnderWay me (call.Purge file span) old new
+PurgeStepLeft u me file span step.GoesOn old new = IsUnderWay me (call.Purge file span) old new
 
 -- a page that is to be written
-abbrev pub IsAsking : Setup → File → Option Range → ℕ → Step → List Entry → Type 0
-IsAsking u file span from (step.Writes page) past = IsAtPage u file span from page past
-IsAsking u file span from other past = Unit {0}
+abbrev pub PurgeStepAsks : Setup → File → Option Range → ℕ → PurgeStep → List Entry → Type 0
+PurgeStepAsks u file span from (step.Writes page) past = PurgeIsAtPage u file span from page past
+PurgeStepAsks u file span from other past = Unit {0}
 
 -- The purge was done: its entry is the last.
-pub record HasEnded (w : Standing) (file : File) (span : Option Range) (seen : List Entry) : Type 0 where
+pub record PurgeHasEnded (w : Standing) (file : File) (span : Option Range) (seen : List Entry) : Type 0 where
   pub nth : ℕ
   pub placed : HasPlaced w (entry.Call w.number nth (Some file.stream) (call.Purge file span) (outcome.Done reply.Unit)) seen
 
 -- A page of the stream went out: its entry is the last, and it was resident at that front.
-pub record HasGone (w : Standing) (s : ℕ) (seen : List Entry) : Type 0 where
+pub record PurgedPageHasGone (w : Standing) (s : ℕ) (seen : List Entry) : Type 0 where
   pub page : ℕ
   pub placed : HasPlaced w (entry.PageOut w.number (record { stream = s; page = page })) seen
   pub resident : is_resident (history placed.front s) page ≡ true
 
 -- The purge failed: its entry is the last, or it left none.
-abbrev pub HasFailed : Standing → File → Option Range → CcError → List Entry → Type 0
-HasFailed w file span e seen =
+abbrev pub PurgeHasFailed : Standing → File → Option Range → CcError → List Entry → Type 0
+PurgeHasFailed w file span e seen =
     ((nth : ℕ) × HasPlaced w (entry.Call w.number nth (Some file.stream) (call.Purge file span) (outcome.Failed e)) seen)
     ⊎ Grows w seen
 
 -- What a step placed, by cases over it: away from the stream's first page it may go on with nothing placed.
-abbrev pub StepPlaced : Standing → File → Option Range → ℕ → Step → List Entry → Type 0
-StepPlaced w file span from (step.Ended (Ok done)) seen = HasEnded w file span seen
-StepPlaced w file span from (step.Ended (Err e)) seen = HasFailed w file span e seen
-StepPlaced w file span from (step.Writes page) seen = Grows w seen
-StepPlaced w file span from step.GoesOn seen = HasGone w file.stream seen ⊎ ((0 < from) × Grows w seen)
+abbrev pub PurgeStepPlaced : Standing → File → Option Range → ℕ → PurgeStep → List Entry → Type 0
+PurgeStepPlaced w file span from (step.Ended (Ok done)) seen = PurgeHasEnded w file span seen
+PurgeStepPlaced w file span from (step.Ended (Err e)) seen = PurgeHasFailed w file span e seen
+PurgeStepPlaced w file span from (step.Writes page) seen = Grows w seen
+PurgeStepPlaced w file span from step.GoesOn seen = PurgedPageHasGone w file.stream seen ⊎ ((0 < from) × Grows w seen)
 
 -- a purge that found no room, with one place asked
-abbrev pub IsFullStep : Standing → Step → Type 0
-IsFullStep w (step.Ended answer) = IsFull 1 w answer
-IsFullStep w other = Unit {0}
+abbrev pub IsFullPurgeStep : Standing → PurgeStep → Type 0
+IsFullPurgeStep w (step.Ended answer) = IsFull 1 w answer
+IsFullPurgeStep w other = Unit {0}
 
 -- the step that was taken on the book
-abbrev pub step_of : Next → Step
-step_of next.Done = step.Ended (Ok tt)
-step_of (next.Refused e) = step.Ended (Err e)
-step_of (next.Writes page) = step.Writes page
-step_of next.Cleaned = step.GoesOn
-step_of next.WentOut = step.GoesOn
-step_of (next.Stopped e) = step.Ended (Err e)
+abbrev pub purge_step_of : PurgeNext → PurgeStep
+purge_step_of next.Done = step.Ended (Ok tt)
+purge_step_of (next.Refused e) = step.Ended (Err e)
+purge_step_of (next.Writes page) = step.Writes page
+purge_step_of next.Cleaned = step.GoesOn
+purge_step_of next.WentOut = step.GoesOn
+purge_step_of (next.Stopped e) = step.Ended (Err e)
 
 -- What a round of a purge leaves of it, by cases: it was done, or failed, or is under way.
-abbrev pub RoundLeft : Setup → ℕ → File → Option Range → Round → List Entry → List Entry → Type 0
-RoundLeft u me file span (round.Ended answer) old new = CallLeft u me (call.Purge file span) (outcome_of answer) old new
-RoundLeft u me file span (round.CameTo to) old new = IsUnderWay me (call.Purge file span) old new
-RoundLeft u me file span round.GoesOn old new = IsUnderWay me (call.Purge file span) old new
+abbrev pub PurgeRoundLeft : Setup → ℕ → File → Option Range → Round → List Entry → List Entry → Type 0
+PurgeRoundLeft u me file span (round.Ended answer) old new = CallLeft u me (call.Purge file span) (outcome_of answer) old new
+PurgeRoundLeft u me file span (round.CameTo to) old new = IsUnderWay me (call.Purge file span) old new
+PurgeRoundLeft u me file span round.GoesOn old new = IsUnderWay me (call.Purge file span) old new
 
 -- a round of a purge that found no room for one entry, or none for the transfer of a page that is to be written then
-abbrev pub IsFullRound : Call → Standing → Round → Type 0
-IsFullRound it w (round.Ended answer) = IsFullWriting it w answer
-IsFullRound it w other = Unit {0}
+abbrev pub IsFullPurgeRound : Call → Standing → Round → Type 0
+IsFullPurgeRound it w (round.Ended answer) = IsFullWriting it w answer
+IsFullPurgeRound it w other = Unit {0}
 
 -- A page to which it has come is past the one from which it went on.
-abbrev pub IsRising : Round → ℕ → Type 0
-IsRising (round.CameTo to) from = (from < to) × (to ≤ 2 ^ 51)
-IsRising other from = Unit {0}
+abbrev pub PurgeRoundRises : Round → ℕ → Type 0
+PurgeRoundRises (round.CameTo to) from = (from < to) × (to ≤ 2 ^ 51)
+PurgeRoundRises other from = Unit {0}
 
 -- what a round answers for the purge, where it ended it
 abbrev pub ended_of : Round → Option (Result (Unit {0}) CcError)
@@ -113,9 +113,9 @@ ended_of (round.CameTo to) = None
 ended_of round.GoesOn = None
 
 -- how far a purge came that wrote a page, or failed
-abbrev pub round_of : Result Call CcError → ℕ → Round
-round_of (Ok again) page = round.CameTo (page + 1)
-round_of (Err e) page = round.Ended (Err e)
+abbrev pub purge_round_of : Result Call CcError → ℕ → Round
+purge_round_of (Ok again) page = round.CameTo (page + 1)
+purge_round_of (Err e) page = round.Ended (Err e)
 
 -- A pass went up the pages of a stream once: from one moment to another the transfers that it began ascend, below a page,
 -- so it wrote each page at most once; and it took none out.
@@ -133,11 +133,11 @@ pub record WasEmptiedAlone (me s : ℕ) (old new : List Entry) : Type 0 where
 
 -- How far a purge had come that failed: it was on its way up its pages, or had come to their end, and from then on nobody
 -- else changed the stream.
-abbrev pub CameSoFar : ℕ → ℕ → List Entry → List Entry → Type 0
-CameSoFar me s old new = ((to : ℕ) × WentUpOnce me to old new) ⊎ WasEmptiedAlone me s old new
+abbrev pub PurgeCameSoFar : ℕ → ℕ → List Entry → List Entry → Type 0
+PurgeCameSoFar me s old new = ((to : ℕ) × WentUpOnce me to old new) ⊎ WasEmptiedAlone me s old new
 
 -- In a round the transfers that were begun are of pages from one on and below another, and none went out.
-pub record HasWritten (me from to : ℕ) (old new : List Entry) : Type 0 where
+pub record PurgeHasWritten (me from to : ℕ) (old new : List Entry) : Type 0 where
   pub begun : BeginsAscending me from to old new
   pub stays : TakesNoneOut me old new
 
@@ -146,9 +146,9 @@ pub record HasWritten (me from to : ℕ) (old new : List Entry) : Type 0 where
 abbrev pub RoundPlaced : ℕ → ℕ → ℕ → Bool → Round → List Entry → List Entry → Type 0
 RoundPlaced me s from keeps (round.Ended (Ok done)) old new = NobodyElseChanged me s old new
 RoundPlaced me s from keeps (round.Ended (Err e)) old new =
-    ((to : ℕ) × HasWritten me from to old new) × (keeps ≡ true → NobodyElseChanged me s old new)
+    ((to : ℕ) × PurgeHasWritten me from to old new) × (keeps ≡ true → NobodyElseChanged me s old new)
 RoundPlaced me s from keeps (round.CameTo to) old new =
-    HasWritten me from to old new × (keeps ≡ true → NobodyElseChanged me s old new)
+    PurgeHasWritten me from to old new × (keeps ≡ true → NobodyElseChanged me s old new)
 RoundPlaced me s from keeps round.GoesOn old new = NobodyElseChanged me s old new
 
 -- what is left until no page of a stream is dirty or resident, while nobody else changes the stream
@@ -156,6 +156,6 @@ abbrev pub left_to_empty : ℕ → List Entry → ℕ
 left_to_empty s past = work_left (history past s) (Some (record { from = 0; to = 0 }))
 
 -- a purge that goes on has less left to do
-abbrev pub HasLess : ℕ → Round → List Entry → List Entry → Type 0
-HasLess s (round.Ended answer) old new = Unit {0}
-HasLess s other old new = left_to_empty s new < left_to_empty s old
+abbrev pub PurgeHasLess : ℕ → Round → List Entry → List Entry → Type 0
+PurgeHasLess s (round.Ended answer) old new = Unit {0}
+PurgeHasLess s other old new = left_to_empty s new < left_to_empty s old

@@ -26,21 +26,21 @@ use Rattle.cc_writes.specs.declared.tell.Returned.{Returned}
 use Rattle.cc_writes.specs.declared.tell.Returned.TheVariants as returned
 use Rattle.cc_writes.specs.Writes.{IsToWrite}
 use Rattle.cc_book.specs.Noncached.{WasRead}
-use Rattle.cc_ranges.specs.declared.read_steps.Ended.{Ended}
-use Rattle.cc_ranges.specs.declared.read_steps.Ended.TheVariants as ended
-use Rattle.cc_ranges.specs.declared.read_steps.Next.{Next}
-use Rattle.cc_ranges.specs.declared.read_steps.Next.TheVariants as next
+use Rattle.cc_ranges.specs.declared.read_steps.ReadEnd.{ReadEnd}
+use Rattle.cc_ranges.specs.declared.read_steps.ReadEnd.TheVariants as ended
+use Rattle.cc_ranges.specs.declared.read_steps.ReadNext.{ReadNext}
+use Rattle.cc_ranges.specs.declared.read_steps.ReadNext.TheVariants as next
 use Rattle.cc_ranges.specs.declared.read_visits.Look.{Look}
 use Rattle.cc_ranges.specs.declared.read_visits.Look.TheVariants as look
 
 -- a page of the stream of a file
-abbrev pub page_in : File → ℕ → Page
-page_in file page = record { stream = file.stream; page = page }
+abbrev pub file_page : File → ℕ → Page
+file_page file page = record { stream = file.stream; page = page }
 
 -- how an entry says that the read of a page ended that was answered so, with its bytes in the front of these
-abbrev pub outcome_of : Result ℕ CcError → List ℕ → Outcome
-outcome_of (Ok n) out = outcome.Done (reply.Read (take n out))
-outcome_of (Err e) out = outcome.Failed e
+abbrev pub outcome_of_read : Result ℕ CcError → List ℕ → Outcome
+outcome_of_read (Ok n) out = outcome.Done (reply.Read (take n out))
+outcome_of_read (Err e) out = outcome.Failed e
 
 -- what was handed in is as it was beyond the answer
 abbrev pub KeepsBehind : Result ℕ CcError → List ℕ → List ℕ → Type 0
@@ -56,7 +56,7 @@ IsUnshaped (Err e) = is_of_shape e ≡ false
 -- rest of that is as it was.
 pub record ReadEnded (u : Setup) (me : ℕ) (file : File) (page : ℕ) (answer : Result ℕ CcError) (old new : List Entry)
     (was now : List ℕ) : Type 0 where
-  pub left : CallLeft u me (call.NcRead file page) (outcome_of answer now) old new
+  pub left : CallLeft u me (call.NcRead file page) (outcome_of_read answer now) old new
   pub behind : KeepsBehind answer was now
   pub unshaped : IsUnshaped answer
 
@@ -64,20 +64,20 @@ pub record ReadEnded (u : Setup) (me : ℕ) (file : File) (page : ℕ) (answer :
 -- well since.
 pub record IsReading (me : ℕ) (file : File) (page : ℕ) (written : Bool) (old new : List Entry) : Type 0 where
   pub way : IsUnderWay me (call.NcRead file page) old new
-  pub wrote : written ≡ true → has_end ended_ok me (page_in file page) way.during ≡ true
+  pub wrote : written ≡ true → has_end ended_ok me (file_page file page) way.during ≡ true
 
 -- It is to read the disk: its page was written, or had no bytes that could be, and at a moment nothing refused it and the
 -- page was of its range.
 pub record IsAtRead (u : Setup) (me : ℕ) (file : File) (page : ℕ) (old new : List Entry) : Type 0 where
   pub way : IsUnderWay me (call.NcRead file page) old new
-  pub written : WasWritten me (page_in file page) way.during old
-  pub wanted : WasWanted u (call.NcRead file page) (page_in file page) old new
+  pub written : WasWritten me (file_page file page) way.during old
+  pub wanted : WasWanted u (call.NcRead file page) (file_page file page) old new
 
 -- It is to write its page first: nothing refuses it, the page is of its range and dirty, and no pin owes it a stamp.
 pub record IsToWriteFirst (u : Setup) (file : File) (page : ℕ) (past : List Entry) : Type 0 where
   pub admitted : refusal u past (history past file.stream) (call.NcRead file page) ≡ None
-  pub reached : reaches (call.NcRead file page) (page_in file page) past ≡ true
-  pub to_write : IsToWrite (page_in file page) past
+  pub reached : reaches (call.NcRead file page) (file_page file page) past ≡ true
+  pub to_write : IsToWrite (file_page file page) past
 
 -- What a look leaves of the read, by cases.
 abbrev pub LookLeft : Setup → ℕ → File → ℕ → Look → List Entry → List Entry → Type 0
@@ -108,7 +108,7 @@ IsFullLook w (look.Ended answer) = IsFull 1 w answer
 IsFullLook w other = Unit {0}
 
 -- the step that was taken on the book
-abbrev pub look_of : Next → Look
+abbrev pub look_of : ReadNext → Look
 look_of next.Done = look.Ended (Ok 0)
 look_of (next.Refused e) = look.Ended (Err e)
 look_of next.Writes = look.Writes
@@ -120,18 +120,18 @@ abbrev pub WasReadHere : Standing → File → ℕ → List ℕ → Type 0
 WasReadHere w file page raw = WasRead (w.setup.opening file.stream) (history w.seen file.stream) page raw
 
 -- Where the read was done, what was handed in has room for its reply.
-abbrev pub FitsEnded : Ended → List Entry → List ℕ → Type 0
+abbrev pub FitsEnded : ReadEnd → List Entry → List ℕ → Type 0
 FitsEnded ended.Done entries out = FitsLast entries out
 FitsEnded other entries out = Unit {0}
 
 -- how many bytes were told
-abbrev pub count_of : Returned → ℕ
-count_of (returned.Bytes count) = count
-count_of other = 0
+abbrev pub told_count : Returned → ℕ
+told_count (returned.Bytes count) = count
+told_count other = 0
 
 -- The answer is how the read ended, with the reply told where it was done.
-abbrev pub ToldEnded : Ended → Result ℕ CcError → List Entry → List ℕ → List ℕ → Type 0
+abbrev pub ToldEnded : ReadEnd → Result ℕ CcError → List Entry → List ℕ → List ℕ → Type 0
 ToldEnded ended.Done answer entries was now =
-    (told : Returned) × (answer ≡ Ok (count_of told)) × ToldLast entries told was now
+    (told : Returned) × (answer ≡ Ok (told_count told)) × ToldLast entries told was now
 ToldEnded (ended.Refused e) answer entries was now = (answer ≡ Err e) × (now ≡ was)
 ToldEnded ended.Stopped answer entries was now = (answer ≡ Err error.NoMemory) × (now ≡ was)

@@ -11,7 +11,7 @@ use Rattle.cc_model.specs.Setup.{Setup}
 use Rattle.cc_turns.specs.Standing.{Standing}
 use Rattle.cc_writes.specs.Calls.{IsFullWriting}
 use Rattle.cc_writes.specs.Fetch.{WentOn}
-use Rattle.cc_ranges.specs.Answers.{KeepsRest, read_of}
+use Rattle.cc_ranges.specs.Answers.{KeepsBeyondRead, read_answer}
 use Rattle.cc_ranges.specs.ReadVisits.{ReadEnded}
 use Rattle.cc_ranges.specs.declared.error.NcError.{NcError}
 
@@ -25,23 +25,23 @@ IsFullRead w file first (Err e) = IsFullWriting {A = Unit {0}} (call.NcRead file
 -- was beyond that; a journal that is full is full; the pass goes on as it stood and may call again, and what it has seen
 -- stays good.
 pub record NcReadEnds (old new : Standing) (file : File) (at : ℕ) (answer : Result ℕ NcError) (was now : List ℕ) : Type 0 where
-  pub left : NcReadLeft old.setup old.number file at (length was) (read_of answer now) old.seen new.seen
-  pub rest : KeepsRest answer was now
+  pub left : NcReadLeft old.setup old.number file at (length was) (read_answer answer now) old.seen new.seen
+  pub rest : KeepsBeyondRead answer was now
   pub full : IsFullRead new file (at / 4096) answer
   pub goes_on : WentOn old new
   pub good : IsGood old.setup old.seen → IsGood old.setup new.seen
 
 -- what the reads of so many pages leave, from this one on
-abbrev pub PagesLeft : Setup → ℕ → File → ℕ → ℕ → Result (List ℕ) (ℕ × CcError) → Between
-PagesLeft u me file first count (Ok bytes) old new = PagesRead u me file (range_with_len first count) bytes old new
-PagesLeft u me file first count (Err failed) old new =
+abbrev pub PageReadsLeft : Setup → ℕ → File → ℕ → ℕ → Result (List ℕ) (ℕ × CcError) → Between
+PageReadsLeft u me file first count (Ok bytes) old new = PagesRead u me file (range_with_len first count) bytes old new
+PageReadsLeft u me file first count (Err failed) old new =
     (failed.0 < count) × PageReadsRefused u me file first failed.0 failed.1 old new
 
 -- The same of a read whose place and length are in order, from the number of its first page on.
 pub record PagesReadEnds (old new : Standing) (file : File) (first : ℕ) (answer : Result ℕ NcError) (was now : List ℕ)
     : Type 0 where
-  pub left : PagesLeft old.setup old.number file first (length was / 4096) (read_of answer now) old.seen new.seen
-  pub rest : KeepsRest answer was now
+  pub left : PageReadsLeft old.setup old.number file first (length was / 4096) (read_answer answer now) old.seen new.seen
+  pub rest : KeepsBeyondRead answer was now
   pub full : IsFullRead new file first answer
   pub goes_on : WentOn old new
   pub good : IsGood old.setup old.seen → IsGood old.setup new.seen

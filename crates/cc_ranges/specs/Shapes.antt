@@ -29,7 +29,7 @@ abbrev pub refusal_first : List Effect → File → CcError → CcError
 refusal_first h file refusal = if is_open h file then refusal else error.NotCached
 
 -- the entry of the call says that it is refused so
-pub record IsRefusedSo {Q : Type 0} (u : Setup) (pass : ℕ) (it : Call) (refusal e : CcError)
+pub record EntryIsRefusedSo {Q : Type 0} (u : Setup) (pass : ℕ) (it : Call) (refusal e : CcError)
     (b c : BookState) (j k : JournalState Q) : Type 0 where
   pub is : (e ≡ error.NotCached) ⊎ (e ≡ refusal)
   pub placed : AddsOwing (failed pass j.entries b.stream it e) j k
@@ -39,4 +39,4 @@ pub record IsRefusedSo {Q : Type 0} (u : Setup) (pass : ℕ) (it : Call) (refusa
 -- What the refusal of such a call leaves: its entry, or nothing for want of room or of memory.
 abbrev pub RefuseLeft : {Q : Type 0} → Setup → ℕ → Call → CcError → CcError → BookState → BookState
     → JournalState Q → JournalState Q → Type 0
-RefuseLeft u pass it refusal e b c j k = IsRefusedSo u pass it refusal e b c j k ⊎ (IsStop 1 e j × (k ≡ j) × (c ≡ b))
+RefuseLeft u pass it refusal e b c j k = EntryIsRefusedSo u pass it refusal e b c j k ⊎ (IsStop 1 e j × (k ≡ j) × (c ≡ b))

@@ -6,7 +6,7 @@ use Rattle.cc_entry.specs.declared.call.Call.{Call}
 use Rattle.cc_entry.specs.declared.call.Call.TheVariants as call
 use Rattle.cc_entry.specs.declared.error.CcError.TheVariants as error
 use Rattle.cc_book.specs.Book.{BookState}
-use Rattle.cc_step.specs.Fill.{HasToWrite, MadeWay, MayFill, page_of}
+use Rattle.cc_step.specs.Fill.{HasToWrite, MadeWay, MayFill, book_page}
 use Rattle.cc_step.specs.declared.ways.Next.{Next as Way}
 use Rattle.cc_step.specs.declared.ways.Next.TheVariants as way
 use Rattle.cc_journal.specs.Journal.{JournalState}
@@ -15,28 +15,24 @@ use Rattle.cc_model.specs.Refusals.{refusal}
 use Rattle.cc_model.specs.Setup.{Setup}
 use Rattle.cc_step.specs.Step.{AttemptRefused, FoundNone, IsStop}
 use Rattle.cc_ranges.specs.Stores.{IsReadyToStore}
-use Rattle.cc_ranges.specs.declared.write_steps.Next.{Next}
-use Rattle.cc_ranges.specs.declared.write_steps.Next.TheVariants as next
+use Rattle.cc_ranges.specs.declared.write_steps.WriteNext.{WriteNext}
+use Rattle.cc_ranges.specs.declared.write_steps.WriteNext.TheVariants as next
 
 -- The page is ready to be stored, and nothing changed.
-pub record HasRoom {Q : Type 0} (u : Setup) (file : File) (page : ℕ) (b c : BookState) (j k : JournalState Q) : Type 0 where
-  pub ready : IsReadyToStore u j.entries file (page_of b page)
+pub record WriteHasRoom {Q : Type 0} (u : Setup) (file : File) (page : ℕ) (b c : BookState) (j k : JournalState Q) : Type 0 where
+  pub ready : IsReadyToStore u j.entries file (book_page b page)
   pub same_book : c ≡ b
   pub same_journal : k ≡ j
 
 -- What the write of a page does next, by cases.
-abbrev pub NextLeft : {Q : Type 0} → Setup → ℕ → File → ℕ → Next
+abbrev pub WriteNextLeft : {Q : Type 0} → Setup → ℕ → File → ℕ → WriteNext
     → BookState → BookState → JournalState Q → JournalState Q → Type 0
-NextLeft u pass file page (next.Refused e) b c j k = AttemptRefused u pass (call.NcWrite file page) e b c j k
-NextLeft u pass file page next.Ready b c j k = HasRoom u file page b c j k
-NextLeft u pass file page next.WentOut b c j k = (again : Call) × MadeWay u pass (call.NcWrite file page) again b c j k
-NextLeft u pass file page (next.Writes dirty) b c j k =
+WriteNextLeft u pass file page (next.Refused e) b c j k = AttemptRefused u pass (call.NcWrite file page) e b c j k
+WriteNextLeft u pass file page next.Ready b c j k = WriteHasRoom u file page b c j k
+WriteNextLeft u pass file page next.WentOut b c j k = (again : Call) × MadeWay u pass (call.NcWrite file page) again b c j k
+WriteNextLeft u pass file page (next.Writes dirty) b c j k =
     (again : Call) × HasToWrite u dirty (call.NcWrite file page) again b c j k
-NextLeft u pass file page (next.Stopped e) b c j k = IsStop 1 e j × FoundNone u b c j k
-
--- a journal with one place less reserved
-abbrev pub without_one : {Q : Type 0} → JournalState Q → JournalState Q
-without_one j = record j { reserved = j.reserved - 1 }
+WriteNextLeft u pass file page (next.Stopped e) b c j k = IsStop 1 e j × FoundNone u b c j k
 
 -- Nothing refuses the write of a page.
 pub record MayMakeRoom {Q : Type 0} (u : Setup) (pass : ℕ) (file : File) (page : ℕ) (b : BookState) (j : JournalState Q)
@@ -45,7 +41,7 @@ pub record MayMakeRoom {Q : Type 0} (u : Setup) (pass : ℕ) (file : File) (page
   pub admitted : refusal u j.entries (history j.entries b.stream) (call.NcWrite file page) ≡ None
 
 -- the step that makes room
-abbrev pub next_of : Way → Next
+abbrev pub next_of : Way → WriteNext
 next_of (way.WentOut again) = next.WentOut
 next_of (way.Writes dirty again) = next.Writes dirty
 next_of (way.Stopped e) = next.Stopped e

@@ -8,8 +8,8 @@ ghost use Rattle.cc_model.specs.Setup.{Setup};
 ghost use Rattle.cc_step.specs.Step.{StandUnder};
 ghost use Rattle.cc_writes.specs.Hands.{HasBook, IsAtRest, SameDisk, Went, WentWith};
 ghost use Rattle.cc_ranges.specs.Stores.{places_kept};
-ghost use Rattle.cc_ranges.specs.Ends.{MayFinishHere, IsTidied, IsEnded, IsIdlePage, HasTidied, HasEndedWrite, HasFinished};
-ghost use Rattle.cc_ranges.specs.Ends.{HasFailedSince, HasFailedWrite, PlaceLeft};
+ghost use Rattle.cc_ranges.specs.Ends.{MayFinishHere, IsTidied, WriteIsEnded, IsIdlePage, HasTidied, HasEndedWrite, HasFinished};
+ghost use Rattle.cc_ranges.specs.Ends.{HasFailedSince, HasFailedWrite, PageOutPlaceLeft};
 
 use crate::dirty_page::is_dirty;
 use cc_book::Book;
@@ -150,7 +150,7 @@ fn end<Q>(
     requires stream { page.stream ≡ book.old.stream }
     requires may { (u : Setup) × MayFinishHere u pass file page book.old journal.old }
     ensures ended { (u : Setup) → MayFinishHere u pass file page book.old journal.old →
-        IsEnded u pass file page book.new journal.old journal.new }
+        WriteIsEnded u pass file page book.new journal.old journal.new }
     ensures stream { book.new.stream ≡ book.old.stream }
 {
     let call = Call::NcWrite {
@@ -191,7 +191,7 @@ fn tidy<Q>(
 
 // Whether there is a place for a page to go out: the one that was kept, or one that is reserved now.
 fn has_place<Q>(journal: &mut Journal<Q>, kept: bool) -> bool
-    ensures { PlaceLeft kept result journal.old journal.new }
+    ensures { PageOutPlaceLeft kept result journal.old journal.new }
 {
     if kept {
         return true;

@@ -10,9 +10,9 @@ ghost use Rattle.cc_writes.specs.Calls.{IsFullWriting};
 ghost use Rattle.cc_writes.specs.Hands.{HasBook, IsAtRest, SameDisk, Went, WentWith};
 ghost use Rattle.cc_writes.specs.Ways.{IsFull};
 ghost use Rattle.cc_writes.specs.Writes.{HasBoth};
-ghost use Rattle.cc_ranges.specs.Flush.{IsFlushing, IsAtSync, IsAtEnd, IsSyncTold, RoundBegins, RoundLeft, RoundWent, IsFullRound, IsRising, outcome_of, round_of};
+ghost use Rattle.cc_ranges.specs.Flush.{IsFlushing, IsAtSync, IsAtEnd, IsSyncTold, RoundBegins, FlushRoundLeft, RoundWent, IsFullFlushRound, FlushRoundRises, outcome_of, flush_round_of};
 
-use crate::flush_visits::{Step, finish_at, next_at, place_sync};
+use crate::flush_visits::{FlushStep, finish_at, next_flush_step, place_sync};
 use cc_book::Book;
 use cc_entry::{Call, CcError, End, FileId, Span};
 use cc_turns::{Turns, sync};
@@ -91,28 +91,28 @@ fn write_next<T: Turns>(
     ensures went { RoundWent result.1 (T.standing turns.old) (T.standing turns.new) }
     ensures left { (begun : List Entry) →
         IsFlushing (T.standing turns.old).number file span.now from begun (T.standing turns.old).seen →
-        RoundLeft (T.standing turns.old).setup (T.standing turns.old).number file span.now result.1
+        FlushRoundLeft (T.standing turns.old).setup (T.standing turns.old).number file span.now result.1
         begun (T.standing turns.new).seen }
     ensures ascending { RoundBegins (T.standing turns.old).number result.1 from
         (T.standing turns.old).seen (T.standing turns.new).seen }
-    ensures rising { IsRising result.1 from }
-    ensures full { IsFullRound (call.Flush file span.now) (T.standing turns.new) result.1 }
+    ensures rising { FlushRoundRises result.1 from }
+    ensures full { IsFullFlushRound (call.Flush file span.now) (T.standing turns.new) result.1 }
 {
-    match next_at(alloc, turns, &mut book, file, span, from) {
-        Step::Ended(error) => (book, Round::Ended(error)),
-        Step::Writes(page) => {
+    match next_flush_step(alloc, turns, &mut book, file, span, from) {
+        FlushStep::Ended(error) => (book, Round::Ended(error)),
+        FlushStep::Writes(page) => {
             let call = Call::Flush { file, span: *span };
             let (book, written) = write_for(alloc, turns, disk, book, call, page, false);
             (book, round_of(written, page))
         }
-        Step::Syncs => (book, Round::Syncs),
+        FlushStep::Syncs => (book, Round::Syncs),
     }
 }
 
 // How far a flush came that wrote a page, or failed.
 fn round_of(written: Result<Call, CcError>, page: u64) -> Round
     requires { page < 2 ^ 51 }
-    ensures { result ≡ round_of written page }
+    ensures { result ≡ flush_round_of written page }
 {
     match written {
         Ok(_) => Round::CameTo(page + 1),

@@ -4,7 +4,7 @@ ghost use Rattle.std.specs.Prelude.{◌≡◌, ◌≤◌, ◌<◌, ◌^◌, true
 ghost use Rattle.cc_entry.specs.declared.call.Call.TheVariants as call;
 ghost use Rattle.cc_model.specs.Setup.{Setup};
 ghost use Rattle.cc_step.specs.Step.{MayStep};
-ghost use Rattle.cc_ranges.specs.FlushSteps.{NextLeft, GoneOn, MayFinish, FinishLeft, HasEnded, IsNumbered, without_one};
+ghost use Rattle.cc_ranges.specs.FlushSteps.{FlushNextLeft, FlushGoneOn, FlushMayFinish, FlushFinishLeft, FlushHasEnded, FlushPageIsNumbered, without_one};
 
 use crate::dirty::next_dirty;
 use cc_book::Book;
@@ -14,7 +14,7 @@ use std::alloc::Global;
 
 /// What a flush does next on its book.
 #[derive(Drop)]
-pub(crate) enum Next {
+pub(crate) enum FlushNext {
     /// It was refused. Its entry has the refusal too.
     Refused(CcError),
     /// This page of the span is to be written, the least dirty one from where it has come to.
@@ -27,7 +27,7 @@ pub(crate) enum Next {
 
 /// How a flush ended that has synced.
 #[derive(Drop)]
-pub(crate) enum Finished {
+pub(crate) enum FlushEnd {
     /// It was done.
     Done,
     /// Others brought a refusal about meanwhile. Its entry has the refusal too.
@@ -45,15 +45,15 @@ pub(crate) fn next_step<Q>(
     file: FileId,
     span: &Option<Span>,
     from: u64,
-) -> Next
+) -> FlushNext
     requires may { (u : Setup) × MayStep u pass (call.Flush file span.now) book.old journal.old }
     ensures left { (u : Setup) → MayStep u pass (call.Flush file span.now) book.old journal.old →
-        NextLeft u pass file span.now from result book.old book.new journal.old journal.new }
-    ensures numbered { IsNumbered result }
+        FlushNextLeft u pass file span.now from result book.old book.new journal.old journal.new }
+    ensures numbered { FlushPageIsNumbered result }
 {
     match journal.reserve(1) {
         Ok(()) => go_on(alloc, book, journal, pass, file, span, from),
-        Err(error) => Next::Stopped(error),
+        Err(error) => FlushNext::Stopped(error),
     }
 }
 
@@ -66,12 +66,12 @@ fn go_on<Q>(
     file: FileId,
     span: &Option<Span>,
     from: u64,
-) -> Next
+) -> FlushNext
     requires reserved { 0 < journal.old.reserved }
     requires may { (u : Setup) × MayStep u pass (call.Flush file span.now) book.old (without_one journal.old) }
     ensures left { (u : Setup) → MayStep u pass (call.Flush file span.now) book.old (without_one journal.old) →
-        GoneOn u pass file span.now from result book.old book.new journal.old journal.new }
-    ensures numbered { IsNumbered result }
+        FlushGoneOn u pass file span.now from result book.old book.new journal.old journal.new }
+    ensures numbered { FlushPageIsNumbered result }
 {
     let call = Call::Flush { file, span: *span };
     match book.refusal(alloc, journal, &call) {
@@ -79,18 +79,18 @@ fn go_on<Q>(
             let owed = journal.owed_end(pass);
             book.fail(journal, pass, call, error);
             journal.release(owed);
-            Next::Refused(error)
+            FlushNext::Refused(error)
         }
         Ok(None) => match next_dirty(journal, book.stream(), *span, from) {
             Some(page) => {
                 journal.release(1);
-                Next::Writes(page)
+                FlushNext::Writes(page)
             }
-            None => Next::Syncs,
+            None => FlushNext::Syncs,
         },
         Err(NoMemory) => {
             journal.release(1);
-            Next::Stopped(CcError::NoMemory)
+            FlushNext::Stopped(CcError::NoMemory)
         }
     }
 }
@@ -103,14 +103,14 @@ pub(crate) fn finish<Q>(
     pass: u32,
     file: FileId,
     span: &Option<Span>,
-) -> Finished
-    requires may { (u : Setup) × MayFinish u pass file span.now book.old journal.old }
-    ensures { (u : Setup) → MayFinish u pass file span.now book.old journal.old →
-        FinishLeft u pass file span.now result book.old book.new journal.old journal.new }
+) -> FlushEnd
+    requires may { (u : Setup) × FlushMayFinish u pass file span.now book.old journal.old }
+    ensures { (u : Setup) → FlushMayFinish u pass file span.now book.old journal.old →
+        FlushFinishLeft u pass file span.now result book.old book.new journal.old journal.new }
 {
     match journal.reserve(1) {
         Ok(()) => end(alloc, book, journal, pass, file, span),
-        Err(error) => Finished::Stopped(error),
+        Err(error) => FlushEnd::Stopped(error),
     }
 }
 
@@ -122,11 +122,11 @@ fn end<Q>(
     pass: u32,
     file: FileId,
     span: &Option<Span>,
-) -> Finished
+) -> FlushEnd
     requires reserved { 0 < journal.old.reserved }
-    requires may { (u : Setup) × MayFinish u pass file span.now book.old (without_one journal.old) }
-    ensures { (u : Setup) → MayFinish u pass file span.now book.old (without_one journal.old) →
-        HasEnded u pass file span.now result book.old book.new journal.old journal.new }
+    requires may { (u : Setup) × FlushMayFinish u pass file span.now book.old (without_one journal.old) }
+    ensures { (u : Setup) → FlushMayFinish u pass file span.now book.old (without_one journal.old) →
+        FlushHasEnded u pass file span.now result book.old book.new journal.old journal.new }
 {
     let call = Call::Flush { file, span: *span };
     match book.refusal(alloc, journal, &call) {
@@ -134,24 +134,24 @@ fn end<Q>(
             let owed = journal.owed_end(pass);
             book.fail(journal, pass, call, error);
             journal.release(owed);
-            Finished::Refused(error)
+            FlushEnd::Refused(error)
         }
         Ok(None) => {
             let owed = journal.owed_end(pass);
             match book.done(alloc, journal, pass, call, Reply::Unit) {
                 Ok(()) => {
                     journal.release(owed);
-                    Finished::Done
+                    FlushEnd::Done
                 }
                 Err(NoMemory) => {
                     journal.release(1);
-                    Finished::Stopped(CcError::NoMemory)
+                    FlushEnd::Stopped(CcError::NoMemory)
                 }
             }
         }
         Err(NoMemory) => {
             journal.release(1);
-            Finished::Stopped(CcError::NoMemory)
+            FlushEnd::Stopped(CcError::NoMemory)
         }
     }
 }

@@ -14,9 +14,9 @@ ghost use Rattle.cc_effects.specs.Begins.{BeginsNone};
 ghost use Rattle.cc_writes.specs.Hands.{HasBook, IsAtRest, SameDisk, Went, WentWith};
 ghost use Rattle.cc_writes.specs.Visits.{HasPlaced};
 ghost use Rattle.cc_writes.specs.Ways.{IsFull};
-ghost use Rattle.cc_ranges.specs.Flush.{IsFlushing, StepLeft, StepWent, IsFullStep, IsAscending, HasSynced, answer_of, outcome_of, step_of};
+ghost use Rattle.cc_ranges.specs.Flush.{IsFlushing, FlushStepLeft, FlushStepWent, IsFullFlushStep, FlushStepAscends, FlushHasSynced, flush_answer, outcome_of, flush_step_of};
 
-use crate::flush_steps::{Finished, Next, finish, next_step};
+use crate::flush_steps::{FlushEnd, FlushNext, finish, next_step};
 use cc_book::Book;
 use cc_entry::{CcError, End, Entry, FileId, Span, StreamId};
 use cc_turns::Turns;
@@ -24,7 +24,7 @@ use std::alloc::Global;
 
 /// What a flush does next.
 #[derive(Drop)]
-pub(crate) enum Step {
+pub(crate) enum FlushStep {
     /// It failed.
     Ended(CcError),
     /// This page of the span is to be written.
@@ -34,28 +34,28 @@ pub(crate) enum Step {
 }
 
 /// Takes the next step of a flush that has come to a page, with its stream's disk in hand.
-pub(crate) fn next_at<T: Turns>(
+pub(crate) fn next_flush_step<T: Turns>(
     alloc: Global,
     turns: &mut T,
     book: &mut Book,
     file: FileId,
     span: &Option<Span>,
     from: u64,
-) -> Step
+) -> FlushStep
     requires book { HasBook (T.standing turns.old) file.stream book.old }
     requires rest { IsAtRest (T.standing turns.old) file.stream }
     requires none { (T.standing turns.old).in_flight ≡ 0 }
     ensures book { HasBook (T.standing turns.new) file.stream book.new }
     ensures rest { IsAtRest (T.standing turns.new) file.stream }
-    ensures went { StepWent result (T.standing turns.old) (T.standing turns.new) }
+    ensures went { FlushStepWent result (T.standing turns.old) (T.standing turns.new) }
     ensures disk { SameDisk (T.standing turns.old).seen (T.standing turns.new).seen file.stream }
     ensures left { (begun : List Entry) →
         IsFlushing (T.standing turns.old).number file span.now from begun (T.standing turns.old).seen →
-        StepLeft (T.standing turns.old).setup (T.standing turns.old).number file span.now result
+        FlushStepLeft (T.standing turns.old).setup (T.standing turns.old).number file span.now result
         begun (T.standing turns.new).seen }
     ensures begun { BeginsNone (T.standing turns.old).number (T.standing turns.old).seen (T.standing turns.new).seen }
-    ensures ascending { IsAscending result from }
-    ensures full { IsFullStep (T.standing turns.new) result }
+    ensures ascending { FlushStepAscends result from }
+    ensures full { IsFullFlushStep (T.standing turns.new) result }
 {
     let mut journal = turns.take_journal();
     let pass = turns.me();
@@ -94,13 +94,13 @@ pub(crate) fn finish_at<T: Turns>(
     requires rest { IsAtRest (T.standing turns.old) file.stream }
     requires none { (T.standing turns.old).in_flight ≡ 0 }
     requires synced { (begun : List Entry) ×
-        HasSynced (T.standing turns.old).number file span.now begun (T.standing turns.old).seen }
+        FlushHasSynced (T.standing turns.old).number file span.now begun (T.standing turns.old).seen }
     ensures book { HasBook (T.standing turns.new) file.stream book.new }
     ensures rest { IsAtRest (T.standing turns.new) file.stream }
     ensures went { Went (T.standing turns.old) (T.standing turns.new) }
     ensures disk { SameDisk (T.standing turns.old).seen (T.standing turns.new).seen file.stream }
     ensures left { (begun : List Entry) →
-        HasSynced (T.standing turns.old).number file span.now begun (T.standing turns.old).seen →
+        FlushHasSynced (T.standing turns.old).number file span.now begun (T.standing turns.old).seen →
         CallLeft (T.standing turns.old).setup (T.standing turns.old).number (call.Flush file span.now)
         (outcome_of result) begun (T.standing turns.new).seen }
     ensures begun { BeginsNone (T.standing turns.old).number (T.standing turns.old).seen (T.standing turns.new).seen }
@@ -114,24 +114,24 @@ pub(crate) fn finish_at<T: Turns>(
 }
 
 // The step that was taken on the book.
-fn step_of(went: Next) -> Step
-    ensures { result ≡ step_of went }
+fn step_of(went: FlushNext) -> FlushStep
+    ensures { result ≡ flush_step_of went }
 {
     match went {
-        Next::Refused(error) => Step::Ended(error),
-        Next::Writes(page) => Step::Writes(page),
-        Next::Syncs => Step::Syncs,
-        Next::Stopped(error) => Step::Ended(error),
+        FlushNext::Refused(error) => FlushStep::Ended(error),
+        FlushNext::Writes(page) => FlushStep::Writes(page),
+        FlushNext::Syncs => FlushStep::Syncs,
+        FlushNext::Stopped(error) => FlushStep::Ended(error),
     }
 }
 
 // How the caller of a flush is answered that ended so.
-fn answer_of(ended: Finished) -> Result<(), CcError>
-    ensures { result ≡ answer_of ended }
+fn answer_of(ended: FlushEnd) -> Result<(), CcError>
+    ensures { result ≡ flush_answer ended }
 {
     match ended {
-        Finished::Done => Ok(()),
-        Finished::Refused(error) => Err(error),
-        Finished::Stopped(error) => Err(error),
+        FlushEnd::Done => Ok(()),
+        FlushEnd::Refused(error) => Err(error),
+        FlushEnd::Stopped(error) => Err(error),
     }
 }

@@ -8,9 +8,9 @@ ghost use Rattle.cc_model.specs.Covered.{IsLogged};
 ghost use Rattle.cc_model.specs.Passes.{is_the_page, store_of};
 ghost use Rattle.cc_writes.specs.Hands.{Went, WentWith};
 ghost use Rattle.cc_writes.specs.Ways.{IsAtWork};
-ghost use Rattle.cc_writes.specs.Transfers.{IsUnderWay};
+ghost use Rattle.cc_writes.specs.Transfers.{OwnTransferIsUnderWay};
 ghost use Rattle.cc_writes.specs.Writes.{HasBoth};
-ghost use Rattle.cc_ranges.specs.Pages.{FinishedLeft, PutLeft};
+ghost use Rattle.cc_ranges.specs.Pages.{FinishedLeft, ReadyWriteLeft};
 ghost use Rattle.cc_ranges.specs.Ends.{HasEndedTidy, IsTidyEnd};
 ghost use Rattle.cc_ranges.specs.Stores.{IsFullStoring, IsReadyToStore, places_kept};
 
@@ -45,7 +45,7 @@ pub(crate) fn put_page<T: Turns>(
     ensures went { Went (T.standing turns.old) (T.standing turns.new) }
     ensures left { (begun : List Entry) →
         IsAtWork (T.standing turns.old).number (Calls (call.NcStore file page.page bytes.now)) begun (T.standing turns.old).seen →
-        PutLeft (T.standing turns.old) file page.page bytes.now result.1 begun (T.standing turns.new).seen }
+        ReadyWriteLeft (T.standing turns.old) file page.page bytes.now result.1 begun (T.standing turns.new).seen }
     ensures full { IsFullStoring file page (T.standing turns.new) result.1 }
     ensures tidy { OnOk result.1 (IsTidyEnd (T.standing turns.old).setup (T.standing turns.old).most_others
         (T.standing turns.old).number file page (T.standing turns.old).seen (T.standing turns.new).seen) }
@@ -88,7 +88,7 @@ fn finish_page<T: Turns>(
     kept: bool,
 ) -> (Book, Result<usize, CcError>)
     requires known { page.stream < (T.standing turns.old).streams }
-    requires begun { IsUnderWay T.Disk.told T.Disk.faults (T.standing turns.old) page bytes.now book disk.old }
+    requires begun { OwnTransferIsUnderWay T.Disk.told T.Disk.faults (T.standing turns.old) page bytes.now book disk.old }
     requires kept { (T.standing turns.old).in_flight ≡ places_kept kept }
     requires here { file.stream ≡ page.stream }
     requires stored { is_the_page page (store_of (T.standing turns.old).seen (T.standing turns.old).number) ≡ true }

@@ -9,9 +9,9 @@ ghost use Rattle.cc_writes.specs.Alone.{NobodyElseChanged};
 ghost use Rattle.cc_writes.specs.Hands.{Went};
 ghost use Rattle.cc_writes.specs.Writes.{HasBoth};
 ghost use Rattle.cc_ranges.specs.Flush.{outcome_of};
-ghost use Rattle.cc_ranges.specs.Purge.{CameSoFar, HasLess, IsFullRound, IsRising, RoundLeft, RoundPlaced, WasEmptiedAlone, ended_of, round_of};
+ghost use Rattle.cc_ranges.specs.Purge.{PurgeCameSoFar, PurgeHasLess, IsFullPurgeRound, PurgeRoundRises, PurgeRoundLeft, RoundPlaced, WasEmptiedAlone, ended_of, purge_round_of};
 
-use crate::purge_visits::{Step, next_at};
+use crate::purge_visits::{PurgeStep, next_purge_step};
 use cc_book::Book;
 use cc_entry::{Call, CcError, FileId, Span};
 use cc_turns::Turns;
@@ -54,7 +54,7 @@ pub fn purge_held<T: Turns>(
         begun (T.standing turns.new).seen }
     ensures emptied { OnOk result.1 (WasEmptiedAlone (T.standing turns.old).number file.stream (T.standing turns.old).seen
         (T.standing turns.new).seen) }
-    ensures failed { IfErr result.1 (λ error. CameSoFar (T.standing turns.old).number file.stream
+    ensures failed { IfErr result.1 (λ error. PurgeCameSoFar (T.standing turns.old).number file.stream
         (T.standing turns.old).seen (T.standing turns.new).seen) }
     ensures full { IsFullWriting (call.Purge file span) (T.standing turns.new) result.1 }
 {
@@ -124,23 +124,23 @@ fn advance<T: Turns>(
     ensures went { Went (T.standing turns.old) (T.standing turns.new) }
     ensures left { (begun : List Entry) →
         IsUnderWay (T.standing turns.old).number (call.Purge file span.now) begun (T.standing turns.old).seen →
-        RoundLeft (T.standing turns.old).setup (T.standing turns.old).number file span.now result.1
+        PurgeRoundLeft (T.standing turns.old).setup (T.standing turns.old).number file span.now result.1
         begun (T.standing turns.new).seen }
-    ensures rising { IsRising result.1 from }
+    ensures rising { PurgeRoundRises result.1 from }
     ensures placed { RoundPlaced (T.standing turns.old).number book.stream from keeps result.1 (T.standing turns.old).seen
         (T.standing turns.new).seen }
     ensures lessens { keeps ≡ true → from ≡ 0 →
-        HasLess book.stream result.1 (T.standing turns.old).seen (T.standing turns.new).seen }
-    ensures full { IsFullRound (call.Purge file span.now) (T.standing turns.new) result.1 }
+        PurgeHasLess book.stream result.1 (T.standing turns.old).seen (T.standing turns.new).seen }
+    ensures full { IsFullPurgeRound (call.Purge file span.now) (T.standing turns.new) result.1 }
 {
-    match next_at(alloc, turns, &mut book, file, span, from) {
-        Step::Ended(answer) => (book, Round::Ended(answer)),
-        Step::Writes(page) => {
+    match next_purge_step(alloc, turns, &mut book, file, span, from) {
+        PurgeStep::Ended(answer) => (book, Round::Ended(answer)),
+        PurgeStep::Writes(page) => {
             let call = Call::Purge { file, span: *span };
             let (book, written) = write_for(alloc, turns, disk, book, call, page, keeps);
             (book, round_of(written, page))
         }
-        Step::GoesOn => (book, Round::GoesOn),
+        PurgeStep::GoesOn => (book, Round::GoesOn),
     }
 }
 
@@ -158,7 +158,7 @@ fn ended_of(came: Round) -> Option<Result<(), CcError>>
 // How far a purge came that wrote a page, or failed.
 fn round_of(written: Result<Call, CcError>, page: u64) -> Round
     requires { page < 2 ^ 51 }
-    ensures { result ≡ round_of written page }
+    ensures { result ≡ purge_round_of written page }
 {
     match written {
         Ok(_) => Round::CameTo(page + 1),

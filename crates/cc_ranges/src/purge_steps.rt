@@ -2,10 +2,10 @@
 
 ghost use Rattle.std.specs.Prelude.{◌≡◌, ◌<◌, ◌^◌};
 ghost use Rattle.cc_entry.specs.declared.call.Call.TheVariants as call;
-ghost use Rattle.cc_step.specs.Fill.{MayFill, page_of};
+ghost use Rattle.cc_step.specs.Fill.{MayFill, book_page};
 ghost use Rattle.cc_model.specs.Setup.{Setup};
 ghost use Rattle.cc_ranges.specs.FlushSteps.{without_one};
-ghost use Rattle.cc_ranges.specs.PurgeSteps.{NextLeft, GoneOn, MayEmpty, MayEnd, IsNumbered};
+ghost use Rattle.cc_ranges.specs.PurgeSteps.{PurgeNextLeft, PurgeGoneOn, MayEmpty, PurgeMayEnd, PurgePageIsNumbered};
 
 use crate::dirty::next_dirty;
 use crate::residents::least_resident;
@@ -16,7 +16,7 @@ use std::alloc::Global;
 
 /// What a purge does next on its book.
 #[derive(Drop)]
-pub(crate) enum Next {
+pub(crate) enum PurgeNext {
     /// It was done: no page of its span is resident.
     Done,
     /// It was refused. Its entry has the refusal too.
@@ -40,15 +40,15 @@ pub(crate) fn next_step<Q>(
     file: FileId,
     span: &Option<Span>,
     from: u64,
-) -> Next
+) -> PurgeNext
     requires may { (u : Setup) × MayFill u pass (call.Purge file span.now) book.old journal.old }
     ensures left { (u : Setup) → MayFill u pass (call.Purge file span.now) book.old journal.old →
-        NextLeft u pass file span.now from result book.old book.new journal.old journal.new }
-    ensures numbered { IsNumbered result }
+        PurgeNextLeft u pass file span.now from result book.old book.new journal.old journal.new }
+    ensures numbered { PurgePageIsNumbered result }
 {
     match journal.reserve(1) {
         Ok(()) => go_on(alloc, book, journal, pass, file, span, from),
-        Err(error) => Next::Stopped(error),
+        Err(error) => PurgeNext::Stopped(error),
     }
 }
 
@@ -61,12 +61,12 @@ fn go_on<Q>(
     file: FileId,
     span: &Option<Span>,
     from: u64,
-) -> Next
+) -> PurgeNext
     requires reserved { 0 < journal.old.reserved }
     requires may { (u : Setup) × MayFill u pass (call.Purge file span.now) book.old (without_one journal.old) }
     ensures left { (u : Setup) → MayFill u pass (call.Purge file span.now) book.old (without_one journal.old) →
-        GoneOn u pass file span.now from result book.old book.new journal.old journal.new }
-    ensures numbered { IsNumbered result }
+        PurgeGoneOn u pass file span.now from result book.old book.new journal.old journal.new }
+    ensures numbered { PurgePageIsNumbered result }
 {
     let call = Call::Purge { file, span: *span };
     match book.refusal(alloc, journal, &call) {
@@ -74,25 +74,25 @@ fn go_on<Q>(
             let owed = journal.owed_end(pass);
             book.fail(journal, pass, call, error);
             journal.release(owed);
-            Next::Refused(error)
+            PurgeNext::Refused(error)
         }
         Ok(None) => match next_dirty(journal, book.stream(), *span, from) {
             Some(page) => {
                 journal.release(1);
-                Next::Writes(page)
+                PurgeNext::Writes(page)
             }
             None => {
                 if from == 0 {
                     empty(alloc, book, journal, pass, file, span)
                 } else {
                     journal.release(1);
-                    Next::Cleaned
+                    PurgeNext::Cleaned
                 }
             }
         },
         Err(NoMemory) => {
             journal.release(1);
-            Next::Stopped(CcError::NoMemory)
+            PurgeNext::Stopped(CcError::NoMemory)
         }
     }
 }
@@ -105,18 +105,18 @@ fn empty<Q>(
     pass: u32,
     file: FileId,
     span: &Option<Span>,
-) -> Next
+) -> PurgeNext
     requires reserved { 0 < journal.old.reserved }
     requires may { (u : Setup) × MayEmpty u pass file span.now book.old journal.old }
     ensures left { (u : Setup) → MayEmpty u pass file span.now book.old journal.old →
-        GoneOn u pass file span.now 0 result book.old book.new journal.old journal.new }
-    ensures numbered { IsNumbered result }
+        PurgeGoneOn u pass file span.now 0 result book.old book.new journal.old journal.new }
+    ensures numbered { PurgePageIsNumbered result }
 {
     match least_resident(book, span) {
         Some(page) => {
             let going = page_id(book, page);
             book.take_out(journal, pass, going);
-            Next::WentOut
+            PurgeNext::WentOut
         }
         None => end(alloc, book, journal, pass, file, span),
     }
@@ -130,23 +130,23 @@ fn end<Q>(
     pass: u32,
     file: FileId,
     span: &Option<Span>,
-) -> Next
+) -> PurgeNext
     requires reserved { 0 < journal.old.reserved }
-    requires may { (u : Setup) × MayEnd u pass file span.now book.old journal.old }
-    ensures left { (u : Setup) → MayEnd u pass file span.now book.old journal.old →
-        GoneOn u pass file span.now 0 result book.old book.new journal.old journal.new }
-    ensures numbered { IsNumbered result }
+    requires may { (u : Setup) × PurgeMayEnd u pass file span.now book.old journal.old }
+    ensures left { (u : Setup) → PurgeMayEnd u pass file span.now book.old journal.old →
+        PurgeGoneOn u pass file span.now 0 result book.old book.new journal.old journal.new }
+    ensures numbered { PurgePageIsNumbered result }
 {
     let call = Call::Purge { file, span: *span };
     let owed = journal.owed_end(pass);
     match book.done(alloc, journal, pass, call, Reply::Unit) {
         Ok(()) => {
             journal.release(owed);
-            Next::Done
+            PurgeNext::Done
         }
         Err(NoMemory) => {
             journal.release(1);
-            Next::Stopped(CcError::NoMemory)
+            PurgeNext::Stopped(CcError::NoMemory)
         }
     }
 }
@@ -154,7 +154,7 @@ fn end<Q>(
 // A page of a book's stream.
 fn page_id(book: &Book, page: u64) -> PageId
     requires { page < 2 ^ 51 }
-    ensures { result ≡ page_of book.now page }
+    ensures { result ≡ book_page book.now page }
 {
     PageId::new(book.stream(), page).unwrap()
 }

@@ -5,9 +5,9 @@ ghost use Rattle.cc_entry.specs.declared.entry.Entry.{Entry};
 ghost use Rattle.cc_entry.specs.declared.call.Call.TheVariants as call;
 ghost use Rattle.cc_effects.specs.Calls.{IsUnderWay};
 ghost use Rattle.cc_writes.specs.Hands.{HasBook, IsAtRest, SameDisk, Went};
-ghost use Rattle.cc_ranges.specs.Purge.{IsAsking, IsFullStep, StepLeft, StepPlaced, step_of};
+ghost use Rattle.cc_ranges.specs.Purge.{PurgeStepAsks, IsFullPurgeStep, PurgeStepLeft, PurgeStepPlaced, purge_step_of};
 
-use crate::purge_steps::{Next, next_step};
+use crate::purge_steps::{PurgeNext, next_step};
 use cc_book::Book;
 use cc_entry::{CcError, FileId, Span};
 use cc_turns::Turns;
@@ -15,7 +15,7 @@ use std::alloc::Global;
 
 /// What a purge does next.
 #[derive(Drop)]
-pub(crate) enum Step {
+pub(crate) enum PurgeStep {
     /// It was done, or it failed.
     Ended(Result<(), CcError>),
     /// This page of the span is to be written.
@@ -25,14 +25,14 @@ pub(crate) enum Step {
 }
 
 /// Takes the next step of a purge that has come to a page, with its stream's disk in hand.
-pub(crate) fn next_at<T: Turns>(
+pub(crate) fn next_purge_step<T: Turns>(
     alloc: Global,
     turns: &mut T,
     book: &mut Book,
     file: FileId,
     span: &Option<Span>,
     from: u64,
-) -> Step
+) -> PurgeStep
     requires book { HasBook (T.standing turns.old) file.stream book.old }
     requires rest { IsAtRest (T.standing turns.old) file.stream }
     requires none { (T.standing turns.old).in_flight ≡ 0 }
@@ -42,11 +42,11 @@ pub(crate) fn next_at<T: Turns>(
     ensures disk { SameDisk (T.standing turns.old).seen (T.standing turns.new).seen file.stream }
     ensures left { (begun : List Entry) →
         IsUnderWay (T.standing turns.old).number (call.Purge file span.now) begun (T.standing turns.old).seen →
-        StepLeft (T.standing turns.old).setup (T.standing turns.old).number file span.now result
+        PurgeStepLeft (T.standing turns.old).setup (T.standing turns.old).number file span.now result
         begun (T.standing turns.new).seen }
-    ensures asking { IsAsking (T.standing turns.old).setup file span.now from result (T.standing turns.new).seen }
-    ensures placed { StepPlaced (T.standing turns.old) file span.now from result (T.standing turns.new).seen }
-    ensures full { IsFullStep (T.standing turns.new) result }
+    ensures asking { PurgeStepAsks (T.standing turns.old).setup file span.now from result (T.standing turns.new).seen }
+    ensures placed { PurgeStepPlaced (T.standing turns.old) file span.now from result (T.standing turns.new).seen }
+    ensures full { IsFullPurgeStep (T.standing turns.new) result }
 {
     let mut journal = turns.take_journal();
     let pass = turns.me();
@@ -56,15 +56,15 @@ pub(crate) fn next_at<T: Turns>(
 }
 
 // The step that was taken on the book.
-fn step_of(went: Next) -> Step
-    ensures { result ≡ step_of went }
+fn step_of(went: PurgeNext) -> PurgeStep
+    ensures { result ≡ purge_step_of went }
 {
     match went {
-        Next::Done => Step::Ended(Ok(())),
-        Next::Refused(error) => Step::Ended(Err(error)),
-        Next::Writes(page) => Step::Writes(page),
-        Next::Cleaned => Step::GoesOn,
-        Next::WentOut => Step::GoesOn,
-        Next::Stopped(error) => Step::Ended(Err(error)),
+        PurgeNext::Done => PurgeStep::Ended(Ok(())),
+        PurgeNext::Refused(error) => PurgeStep::Ended(Err(error)),
+        PurgeNext::Writes(page) => PurgeStep::Writes(page),
+        PurgeNext::Cleaned => PurgeStep::GoesOn,
+        PurgeNext::WentOut => PurgeStep::GoesOn,
+        PurgeNext::Stopped(error) => PurgeStep::Ended(Err(error)),
     }
 }

@@ -5,12 +5,12 @@ ghost use Rattle.std.specs.declared.option.Option.TheVariants.{None};
 ghost use Rattle.cc_entry.specs.declared.call.Call.TheVariants as call;
 ghost use Rattle.cc_book.specs.Book.{BookStands};
 ghost use Rattle.cc_effects.specs.Calls.{has_no_write};
-ghost use Rattle.cc_step.specs.Fill.{MayFill, page_of};
+ghost use Rattle.cc_step.specs.Fill.{MayFill, book_page};
 ghost use Rattle.cc_model.specs.History.{history};
 ghost use Rattle.cc_model.specs.Refusals.{refusal};
 ghost use Rattle.cc_model.specs.Setup.{Setup};
-ghost use Rattle.cc_model.specs.Touches.{size_of};
-ghost use Rattle.cc_ranges.specs.ReadSteps.{AdmittedLeft, GoneOn, HasEnded, MayEnd, NextLeft, without_one};
+ghost use Rattle.cc_ranges.specs.ReadSteps.{ReadAdmittedLeft, ReadGoneOn, ReadHasEnded, ReadMayEnd, ReadNextLeft};
+ghost use Rattle.cc_ranges.specs.FlushSteps.{without_one};
 
 use crate::dirty_page::is_dirty;
 use cc_book::Book;
@@ -20,7 +20,7 @@ use std::alloc::Global;
 
 /// What the read of a page does next on its book.
 #[derive(Drop)]
-pub(crate) enum Next {
+pub(crate) enum ReadNext {
     /// It was done: the page starts at the size or past it, and has no bytes.
     Done,
     /// It was refused. Its entry has the refusal too.
@@ -35,7 +35,7 @@ pub(crate) enum Next {
 
 /// How the read of a page ended that was read from the disk.
 #[derive(Drop)]
-pub(crate) enum Ended {
+pub(crate) enum ReadEnd {
     /// It was done. Its entry, the journal's last, has the bytes.
     Done,
     /// Others brought a refusal about meanwhile. Its entry has the refusal too.
@@ -54,14 +54,14 @@ pub(crate) fn next_step<Q>(
     file: FileId,
     page: u64,
     written: bool,
-) -> Next
+) -> ReadNext
     requires may { (u : Setup) × MayFill u pass (call.NcRead file page) book.old journal.old }
     ensures { (u : Setup) → MayFill u pass (call.NcRead file page) book.old journal.old →
-        NextLeft u pass file page written result book.old book.new journal.old journal.new }
+        ReadNextLeft u pass file page written result book.old book.new journal.old journal.new }
 {
     match journal.reserve(1) {
         Ok(()) => go_on(alloc, book, journal, pass, file, page, written),
-        Err(error) => Next::Stopped(error),
+        Err(error) => ReadNext::Stopped(error),
     }
 }
 
@@ -74,11 +74,11 @@ fn go_on<Q>(
     file: FileId,
     page: u64,
     written: bool,
-) -> Next
+) -> ReadNext
     requires reserved { 0 < journal.old.reserved }
     requires may { (u : Setup) × MayFill u pass (call.NcRead file page) book.old (without_one journal.old) }
     ensures { (u : Setup) → MayFill u pass (call.NcRead file page) book.old (without_one journal.old) →
-        GoneOn u pass file page written result book.old book.new journal.old journal.new }
+        ReadGoneOn u pass file page written result book.old book.new journal.old journal.new }
 {
     let call = Call::NcRead { file, page };
     match book.refusal(alloc, journal, &call) {
@@ -86,12 +86,12 @@ fn go_on<Q>(
             let owed = journal.owed_end(pass);
             book.fail(journal, pass, call, error);
             journal.release(owed);
-            Next::Refused(error)
+            ReadNext::Refused(error)
         }
         Ok(None) => admitted(alloc, book, journal, pass, file, page, written),
         Err(NoMemory) => {
             journal.release(1);
-            Next::Stopped(CcError::NoMemory)
+            ReadNext::Stopped(CcError::NoMemory)
         }
     }
 }
@@ -105,27 +105,27 @@ fn admitted<Q>(
     file: FileId,
     page: u64,
     written: bool,
-) -> Next
+) -> ReadNext
     requires reserved { 0 < journal.old.reserved }
     requires may { (u : Setup) × MayFill u pass (call.NcRead file page) book.old (without_one journal.old)
         × (refusal u journal.old.entries (history journal.old.entries book.old.stream) (call.NcRead file page) ≡ None) }
     ensures { (u : Setup) → MayFill u pass (call.NcRead file page) book.old (without_one journal.old) →
         refusal u journal.old.entries (history journal.old.entries book.old.stream) (call.NcRead file page) ≡ None →
-        AdmittedLeft u pass file page written result book.old book.new journal.old journal.new }
+        ReadAdmittedLeft u pass file page written result book.old book.new journal.old journal.new }
 {
     if !written && is_to_write(book, journal, page) {
         journal.release(1);
-        return Next::Writes;
+        return ReadNext::Writes;
     }
     match book.start_of(page) {
-        Some(_) => Next::Reads,
+        Some(_) => ReadNext::Reads,
         None => {
             let call = Call::NcRead { file, page };
             let owed = journal.owed_end(pass);
             match book.done(alloc, journal, pass, call, Reply::Read(Bytes::new(alloc))) {
                 Ok(()) => {
                     journal.release(owed);
-                    Next::Done
+                    ReadNext::Done
                 }
                 Err(_) => unreachable!(),
             }
@@ -143,11 +143,11 @@ pub(crate) fn end<Q>(
     file: FileId,
     page: u64,
     raw: &[u8; 4096],
-) -> Ended
+) -> ReadEnd
     requires reserved { 0 < journal.old.reserved }
-    requires may { (u : Setup) × MayEnd u pass file page raw.now book.old (without_one journal.old) }
-    ensures { (u : Setup) → MayEnd u pass file page raw.now book.old (without_one journal.old) →
-        HasEnded u pass file page result book.old book.new journal.old journal.new }
+    requires may { (u : Setup) × ReadMayEnd u pass file page raw.now book.old (without_one journal.old) }
+    ensures { (u : Setup) → ReadMayEnd u pass file page raw.now book.old (without_one journal.old) →
+        ReadHasEnded u pass file page result book.old book.new journal.old journal.new }
 {
     let call = Call::NcRead { file, page };
     match book.refusal(alloc, journal, &call) {
@@ -155,7 +155,7 @@ pub(crate) fn end<Q>(
             let owed = journal.owed_end(pass);
             book.fail(journal, pass, call, error);
             journal.release(owed);
-            Ended::Refused(error)
+            ReadEnd::Refused(error)
         }
         Ok(None) => match book.read_noncached(alloc, page, raw) {
             Ok(bytes) => {
@@ -163,19 +163,19 @@ pub(crate) fn end<Q>(
                 match book.done(alloc, journal, pass, call, Reply::Read(bytes)) {
                     Ok(()) => {
                         journal.release(owed);
-                        Ended::Done
+                        ReadEnd::Done
                     }
                     Err(_) => unreachable!(),
                 }
             }
             Err(NoMemory) => {
                 journal.release(1);
-                Ended::Stopped
+                ReadEnd::Stopped
             }
         },
         Err(NoMemory) => {
             journal.release(1);
-            Ended::Stopped
+            ReadEnd::Stopped
         }
     }
 }
@@ -183,7 +183,7 @@ pub(crate) fn end<Q>(
 // Whether a page has bytes that can be written: it is dirty, and no pin owes it a stamp.
 fn is_to_write<Q>(book: &Book, journal: &Journal<Q>, page: u64) -> bool
     ensures { (opening : Option (ℕ → List ℕ)) → BookStands opening journal.now.entries book.now →
-        result ≡ not (has_no_write (page_of book.now page) journal.now.entries) }
+        result ≡ not (has_no_write (book_page book.now page) journal.now.entries) }
 {
     is_dirty(journal, book.stream(), page) && !book.is_unstamped(page)
 }

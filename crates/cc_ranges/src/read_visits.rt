@@ -14,9 +14,9 @@ ghost use Rattle.cc_writes.specs.Told.{FitsLast, ToldLast};
 ghost use Rattle.cc_writes.specs.Visits.{HasPlaced};
 ghost use Rattle.cc_writes.specs.Ways.{IsFull, IsHalted};
 ghost use Rattle.cc_ranges.specs.ReadVisits.{FitsEnded, IsAtRead, IsBelow, IsFullLook, IsReading, LookAsks, LookLeft};
-ghost use Rattle.cc_ranges.specs.ReadVisits.{LookWent, ReadEnded, ToldEnded, WasReadHere, count_of, look_of, page_in};
+ghost use Rattle.cc_ranges.specs.ReadVisits.{LookWent, ReadEnded, ToldEnded, WasReadHere, told_count, look_of, file_page};
 
-use crate::read_steps::{Ended, Next, end, next_step};
+use crate::read_steps::{ReadEnd, ReadNext, end, next_step};
 use cc_book::Book;
 use cc_entry::{CcError, Entry, FileId, PageId};
 use cc_journal::Journal;
@@ -124,33 +124,33 @@ pub(crate) fn unread_at<T: Turns>(turns: &mut T, book: &Book, file: FileId, page
 }
 
 // The step that was taken on the book.
-fn look_of(went: Next) -> Look
+fn look_of(went: ReadNext) -> Look
     ensures { result ≡ look_of went }
 {
     match went {
-        Next::Done => Look::Ended(Ok(0)),
-        Next::Refused(error) => Look::Ended(Err(error)),
-        Next::Writes => Look::Writes,
-        Next::Reads => Look::Reads,
-        Next::Stopped(error) => Look::Ended(Err(error)),
+        ReadNext::Done => Look::Ended(Ok(0)),
+        ReadNext::Refused(error) => Look::Ended(Err(error)),
+        ReadNext::Writes => Look::Writes,
+        ReadNext::Reads => Look::Reads,
+        ReadNext::Stopped(error) => Look::Ended(Err(error)),
     }
 }
 
 // How the read ended, with its bytes told where it was done.
-fn told_of<Q>(ended: Ended, journal: &Journal<Q>, out: &mut [u8]) -> Result<usize, CcError>
+fn told_of<Q>(ended: ReadEnd, journal: &Journal<Q>, out: &mut [u8]) -> Result<usize, CcError>
     requires fits { FitsEnded ended journal.now.entries out.old }
     ensures { ToldEnded ended result journal.now.entries out.old out.new }
 {
     match ended {
-        Ended::Done => Ok(count_of(tell_last(journal, out))),
-        Ended::Refused(error) => Err(error),
-        Ended::Stopped => Err(CcError::NoMemory),
+        ReadEnd::Done => Ok(count_of(tell_last(journal, out))),
+        ReadEnd::Refused(error) => Err(error),
+        ReadEnd::Stopped => Err(CcError::NoMemory),
     }
 }
 
 // How many bytes were told.
 fn count_of(told: Returned) -> usize
-    ensures { result ≡ count_of told }
+    ensures { result ≡ told_count told }
 {
     match told {
         Returned::Bytes(count) => count,
@@ -172,7 +172,7 @@ fn place_unread<Q>(journal: &mut Journal<Q>, pass: u32, file: FileId, page: u64)
 // A page of the stream of a file.
 fn page_id(file: FileId, page: u64) -> PageId
     requires { page < 2 ^ 51 }
-    ensures { result ≡ page_in file page }
+    ensures { result ≡ file_page file page }
 {
     PageId::new(file.stream(), page).unwrap()
 }

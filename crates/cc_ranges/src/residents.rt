@@ -8,7 +8,7 @@ ghost use Rattle.cc_model.specs.History.{history};
 ghost use Rattle.cc_model.specs.Ranges.{span_has};
 ghost use Rattle.cc_model.specs.Setup.{Setup};
 ghost use Rattle.cc_model.specs.Touches.{size_of};
-ghost use Rattle.cc_ranges.specs.Residents.{IsLeastIn, IsLeastOf};
+ghost use Rattle.cc_ranges.specs.Residents.{IsLeastOfSpanIn, IsLeastOf};
 
 use cc_book::Book;
 use cc_entry::Span;
@@ -54,7 +54,7 @@ fn end_block(book: &Book, span: Option<Span>) -> u64
 fn least_in(book: &Book, span: &Option<Span>, block: u64) -> Option<u64>
     requires { block < 2 ^ 46 }
     ensures { (opening : Option (ℕ → List ℕ)) (past : List Entry) → BookStands opening past book.now →
-        IsLeastIn (history past book.now.stream) span.now block result }
+        IsLeastOfSpanIn (history past book.now.stream) span.now block result }
 {
     if !book.is_block_mapped(block) {
         return None;

@@ -8,11 +8,12 @@ ghost use Rattle.cc_writes.specs.Hands.{Went};
 ghost use Rattle.cc_writes.specs.Writes.{HasBoth};
 ghost use Rattle.cc_ranges.specs.Ends.{IsTidyEnd};
 ghost use Rattle.cc_ranges.specs.Stores.{IsFullStoring};
-ghost use Rattle.cc_ranges.specs.WriteHeld.{IsFullRound, IsNearer, IsReadyAfter, PageLeft, RoomLeft, RoundLeft, RoundReady, round_of};
-ghost use Rattle.cc_ranges.specs.WriteVisits.{IsWriting, page_in};
+ghost use Rattle.cc_ranges.specs.WriteHeld.{IsFullWriteRound, WriteIsNearer, IsReadyAfter, WriteOfPageLeft, RoomLeft, WriteRoundLeft, RoundReady, write_round_of};
+ghost use Rattle.cc_ranges.specs.WriteVisits.{WriteIsUnderWay};
+ghost use Rattle.cc_ranges.specs.ReadVisits.{file_page};
 
 use crate::pages::put_page;
-use crate::write_visits::{Step, next_at};
+use crate::write_visits::{WriteStep, next_write_step};
 use cc_book::Book;
 use cc_entry::{Call, CcError, FileId, PageId};
 use cc_turns::Turns;
@@ -48,12 +49,12 @@ pub(crate) fn write_held<T: Turns>(
     ensures both { HasBoth T.Disk.told T.Disk.faults (T.standing turns.new) book.stream result.0 disk.new }
     ensures went { Went (T.standing turns.old) (T.standing turns.new) }
     ensures left { (begun : List Entry) →
-        IsWriting (T.standing turns.old).number file page begun (T.standing turns.old).seen →
-        PageLeft (T.standing turns.old).setup (T.standing turns.old).number file page bytes.now result.1
+        WriteIsUnderWay (T.standing turns.old).number file page begun (T.standing turns.old).seen →
+        WriteOfPageLeft (T.standing turns.old).setup (T.standing turns.old).number file page bytes.now result.1
         begun (T.standing turns.new).seen }
-    ensures full { IsFullStoring file (page_in file page) (T.standing turns.new) result.1 }
+    ensures full { IsFullStoring file (file_page file page) (T.standing turns.new) result.1 }
     ensures tidy { OnOk result.1 (IsTidyEnd (T.standing turns.old).setup (T.standing turns.old).most_others
-        (T.standing turns.old).number file (page_in file page) (T.standing turns.old).seen (T.standing turns.new).seen) }
+        (T.standing turns.old).number file (file_page file page) (T.standing turns.old).seen (T.standing turns.new).seen) }
 {
     let (book, room) = make_room(alloc, turns, disk, book, file, page);
     match room {
@@ -80,7 +81,7 @@ fn make_room<T: Turns>(
     ensures both { HasBoth T.Disk.told T.Disk.faults (T.standing turns.new) book.stream result.0 disk.new }
     ensures went { Went (T.standing turns.old) (T.standing turns.new) }
     ensures left { (begun : List Entry) →
-        IsWriting (T.standing turns.old).number file page begun (T.standing turns.old).seen →
+        WriteIsUnderWay (T.standing turns.old).number file page begun (T.standing turns.old).seen →
         RoomLeft (T.standing turns.old).setup (T.standing turns.old).number file page result.1
         begun (T.standing turns.new).seen }
     ensures ready { OnOk result.1 (IsReadyAfter (T.standing turns.new) file page) }
@@ -115,19 +116,19 @@ fn advance<T: Turns>(
     ensures both { HasBoth T.Disk.told T.Disk.faults (T.standing turns.new) book.stream result.0 disk.new }
     ensures went { Went (T.standing turns.old) (T.standing turns.new) }
     ensures left { (begun : List Entry) →
-        IsWriting (T.standing turns.old).number file page begun (T.standing turns.old).seen →
-        RoundLeft (T.standing turns.old).setup (T.standing turns.old).number file page result.1
+        WriteIsUnderWay (T.standing turns.old).number file page begun (T.standing turns.old).seen →
+        WriteRoundLeft (T.standing turns.old).setup (T.standing turns.old).number file page result.1
         begun (T.standing turns.new).seen }
     ensures ready { RoundReady (T.standing turns.new) file page result.1 }
-    ensures nearer { IsNearer file page result.1 rounds.old rounds.new
+    ensures nearer { WriteIsNearer file page result.1 rounds.old rounds.new
         (T.standing turns.old).seen (T.standing turns.new).seen }
-    ensures full { IsFullRound file page (T.standing turns.new) result.1 }
+    ensures full { IsFullWriteRound file page (T.standing turns.new) result.1 }
 {
-    match next_at(alloc, turns, &mut book, file, page) {
-        Step::Ended(error) => (book, Round::Ended(error)),
-        Step::Ready => (book, Round::Ready),
-        Step::GoesOn => (book, Round::GoesOn),
-        Step::Writes(dirty) => {
+    match next_write_step(alloc, turns, &mut book, file, page) {
+        WriteStep::Ended(error) => (book, Round::Ended(error)),
+        WriteStep::Ready => (book, Round::Ready),
+        WriteStep::GoesOn => (book, Round::GoesOn),
+        WriteStep::Writes(dirty) => {
             let keeps = rounds.keeps_for_write(dirty);
             let call = Call::NcWrite { file, page };
             let (book, written) = write_for(alloc, turns, disk, book, call, dirty, keeps);
@@ -138,7 +139,7 @@ fn advance<T: Turns>(
 
 // How the write stands for which a page was written, or failed.
 fn round_of(written: Result<Call, CcError>) -> Round
-    ensures { result ≡ round_of written }
+    ensures { result ≡ write_round_of written }
 {
     match written {
         Ok(_) => Round::GoesOn,
@@ -164,12 +165,12 @@ fn write_ready<T: Turns>(
     ensures both { HasBoth T.Disk.told T.Disk.faults (T.standing turns.new) book.stream result.0 disk.new }
     ensures went { Went (T.standing turns.old) (T.standing turns.new) }
     ensures left { (begun : List Entry) →
-        IsWriting (T.standing turns.old).number file page begun (T.standing turns.old).seen →
-        PageLeft (T.standing turns.old).setup (T.standing turns.old).number file page bytes.now result.1
+        WriteIsUnderWay (T.standing turns.old).number file page begun (T.standing turns.old).seen →
+        WriteOfPageLeft (T.standing turns.old).setup (T.standing turns.old).number file page bytes.now result.1
         begun (T.standing turns.new).seen }
-    ensures full { IsFullStoring file (page_in file page) (T.standing turns.new) result.1 }
+    ensures full { IsFullStoring file (file_page file page) (T.standing turns.new) result.1 }
     ensures tidy { OnOk result.1 (IsTidyEnd (T.standing turns.old).setup (T.standing turns.old).most_others
-        (T.standing turns.old).number file (page_in file page) (T.standing turns.old).seen (T.standing turns.new).seen) }
+        (T.standing turns.old).number file (file_page file page) (T.standing turns.old).seen (T.standing turns.new).seen) }
 {
     let stored = PageId::new(file.stream(), page).unwrap();
     match flush_log(turns, &book, stored) {

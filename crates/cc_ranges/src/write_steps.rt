@@ -4,10 +4,10 @@ ghost use Rattle.std.specs.Prelude.{◌≡◌, ◌<◌};
 ghost use Rattle.std.specs.declared.option.Option.TheVariants.{None};
 ghost use Rattle.cc_entry.specs.declared.call.Call.TheVariants as call;
 ghost use Rattle.cc_step.specs.Fill.{MakesWay, MayFill};
-ghost use Rattle.cc_model.specs.History.{history};
 ghost use Rattle.cc_model.specs.Refusals.{refusal};
 ghost use Rattle.cc_model.specs.Setup.{Setup};
-ghost use Rattle.cc_ranges.specs.WriteSteps.{MayMakeRoom, NextLeft, next_of, without_one};
+ghost use Rattle.cc_ranges.specs.WriteSteps.{MayMakeRoom, WriteNextLeft, next_of};
+ghost use Rattle.cc_ranges.specs.FlushSteps.{without_one};
 
 use cc_book::Book;
 use cc_entry::{Call, CcError, FileId, NoMemory};
@@ -17,7 +17,7 @@ use std::alloc::Global;
 
 /// What the write of a page does next on its book.
 #[derive(Drop)]
-pub(crate) enum Next {
+pub(crate) enum WriteNext {
     /// It was refused. Its entry has the refusal too.
     Refused(CcError),
     /// There is room for the block of its page, which is ready to be stored.
@@ -38,14 +38,14 @@ pub(crate) fn next_step<Q>(
     pass: u32,
     file: FileId,
     page: u64,
-) -> Next
+) -> WriteNext
     requires may { (u : Setup) × MayFill u pass (call.NcWrite file page) book.old journal.old }
     ensures { (u : Setup) → MayFill u pass (call.NcWrite file page) book.old journal.old →
-        NextLeft u pass file page result book.old book.new journal.old journal.new }
+        WriteNextLeft u pass file page result book.old book.new journal.old journal.new }
 {
     match journal.reserve(1) {
         Ok(()) => go_on(alloc, book, journal, pass, file, page),
-        Err(error) => Next::Stopped(error),
+        Err(error) => WriteNext::Stopped(error),
     }
 }
 
@@ -57,11 +57,11 @@ fn go_on<Q>(
     pass: u32,
     file: FileId,
     page: u64,
-) -> Next
+) -> WriteNext
     requires reserved { 0 < journal.old.reserved }
     requires may { (u : Setup) × MayFill u pass (call.NcWrite file page) book.old (without_one journal.old) }
     ensures { (u : Setup) → MayFill u pass (call.NcWrite file page) book.old (without_one journal.old) →
-        NextLeft u pass file page result book.old book.new (without_one journal.old) journal.new }
+        WriteNextLeft u pass file page result book.old book.new (without_one journal.old) journal.new }
 {
     let call = Call::NcWrite { file, page };
     match book.refusal(alloc, journal, &call) {
@@ -69,7 +69,7 @@ fn go_on<Q>(
             let owed = journal.owed_end(pass);
             book.fail(journal, pass, call, error);
             journal.release(owed);
-            Next::Refused(error)
+            WriteNext::Refused(error)
         }
         Ok(None) => {
             journal.release(1);
@@ -77,7 +77,7 @@ fn go_on<Q>(
         }
         Err(NoMemory) => {
             journal.release(1);
-            Next::Stopped(CcError::NoMemory)
+            WriteNext::Stopped(CcError::NoMemory)
         }
     }
 }
@@ -90,27 +90,27 @@ fn admitted<Q>(
     pass: u32,
     file: FileId,
     page: u64,
-) -> Next
+) -> WriteNext
     requires may { (u : Setup) × MayMakeRoom u pass file page book.old journal.old }
     ensures { (u : Setup) → MayMakeRoom u pass file page book.old journal.old →
-        NextLeft u pass file page result book.old book.new journal.old journal.new }
+        WriteNextLeft u pass file page result book.old book.new journal.old journal.new }
 {
     if has_room(book, page) {
-        return Next::Ready;
+        return WriteNext::Ready;
     }
     let call = Call::NcWrite { file, page };
     next_of(make_room(alloc, book, journal, pass, call))
 }
 
 // The step that makes room.
-fn next_of(way: Way) -> Next
+fn next_of(way: Way) -> WriteNext
     requires { MakesWay way }
     ensures { result ≡ next_of way }
 {
     match way {
-        Way::WentOut(_call) => Next::WentOut,
-        Way::Writes(page, _call) => Next::Writes(page),
-        Way::Stopped(error) => Next::Stopped(error),
+        Way::WentOut(_call) => WriteNext::WentOut,
+        Way::Writes(page, _call) => WriteNext::Writes(page),
+        Way::Stopped(error) => WriteNext::Stopped(error),
         _ => unreachable!(),
     }
 }

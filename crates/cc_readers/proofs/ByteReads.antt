@@ -15,14 +15,14 @@ use Rattle.cc_model.specs.Sizes.{stored_range}
 use Rattle.cc_model.specs.Ranges.{span_has}
 use Rattle.cc_model.specs.Touches.{size_of, valid_of, is_dirty}
 use Rattle.cc_model.specs.Bytes.{content, on_disk, byte_of, answer, page_size}
-use Rattle.cc_readers.specs.Effects.{effects, AreSizes}
+use Rattle.cc_readers.specs.Effects.{effects, AreSizesOverJournal}
 use Rattle.cc_events.specs.Events.{event_of_act}
-use Rattle.cc_readers.specs.Changes.{filled, change_by}
-use Rattle.cc_events.specs.declared.event.Event.TheVariants as event
+use Rattle.cc_readers.specs.Changes.{filled_page, change_by}
+use Rattle.cc_events.specs.declared.event.StreamEvent.TheVariants as event
 use Rattle.cc_readers.specs.declared.bytes.Origin.{Origin}
 use Rattle.cc_readers.specs.declared.bytes.Origin.TheVariants as origin
-use Rattle.cc_readers.specs.declared.bytes.Found.{Found}
-use Rattle.cc_readers.specs.declared.bytes.Found.TheVariants as found
+use Rattle.cc_readers.specs.declared.bytes.FoundByte.{FoundByte}
+use Rattle.cc_readers.specs.declared.bytes.FoundByte.TheVariants as found
 use Rattle.cc_readers.specs.ByteOrigins.{byte_from, look_in_changes, look_on_disk, look}
 use Rattle.cc_laws.proofs.ActSteps.{content_by, content-done}
 use Rattle.cc_readers.proofs.ReaderSteps.{effects_back}
@@ -30,7 +30,7 @@ use Rattle.cc_readers.proofs.TouchReads.{size_at}
 use Rattle.cc_readers.proofs.TransferSteps.{not_transferred}
 
 -- the byte at i where an effect told this of it
-abbrev pub byte_by : Found → (ℕ → List ℕ) → List Effect → ℕ → ℕ
+abbrev pub byte_by : FoundByte → (ℕ → List ℕ) → List Effect → ℕ → ℕ
 byte_by (found.Byte byte) pages h i = byte
 byte_by (found.Before it) pages h i = byte_from it pages h i
 
@@ -76,14 +76,14 @@ byte-event pages (origin.Disk ended) (Some (Began pass page)) h i = on_disk-bega
 byte-event pages (origin.Disk ended) (Some (Ended pass page how)) h i = refl
 byte-event pages (origin.Disk ended) (Some (Synced pass how)) h i = refl
 
-pub byte_back : (pages : ℕ → List ℕ) (journal rest : List Entry) (last : Entry) (s i : ℕ) (it : Origin) (tells : Found) → journal ≡ rest ++ last ∷ [] → tells ≡ look it (effect_of last s) (effects rest s) i → byte_from it pages (effects journal s) i ≡ byte_by tells pages (effects rest s) i
+pub byte_back : (pages : ℕ → List ℕ) (journal rest : List Entry) (last : Entry) (s i : ℕ) (it : Origin) (tells : FoundByte) → journal ≡ rest ++ last ∷ [] → tells ≡ look it (effect_of last s) (effects rest s) i → byte_from it pages (effects journal s) i ≡ byte_by tells pages (effects rest s) i
 byte_back pages journal rest last s i it tells is gives =
     ap (λ (h : List Effect). byte_from it pages h i) (effects_back journal rest last s is)
     ∙ (byte-event pages it (effect_of last s) (effects rest s) i
-    ∙ ap (λ (f : Found). byte_by f pages (effects rest s) i) (sym gives))
+    ∙ ap (λ (f : FoundByte). byte_by f pages (effects rest s) i) (sym gives))
 
-pub byte_none : (journal : List Entry) (s fill i : ℕ) (it : Origin) → journal ≡ [] → byte_from it (filled fill) (effects journal s) i ≡ fill
-unfolding content on_disk history filled page_size
+pub byte_none : (journal : List Entry) (s fill i : ℕ) (it : Origin) → journal ≡ [] → byte_from it (filled_page fill) (effects journal s) i ≡ fill
+unfolding content on_disk history filled_page page_size
 byte_none journal s fill i origin.Changes is = rw is (get_or-replicate 4096 (i % 4096) fill 0 (omega arith))
 byte_none journal s fill i (origin.Disk ended) is = rw is (get_or-replicate 4096 (i % 4096) fill 0 (omega arith))
 
@@ -106,5 +106,5 @@ read_done pages h at n i end full top size bytes past cut fits ends same is =
     let cut_there : min i end - at ≡ min (at + n) size - at = omega arith in
     is ∙ ap (λ (k : ℕ). map (byte_of pages h) (range_with_len at k)) (cut_there ∙ ap (λ (z : ℕ). min (at + n) z - at) same)
 
-pub size_now : (found : List ℕ) (journal : List Entry) (s size : ℕ) → AreSizes found journal s → size ≡ slice_index_or found (length journal) size → size ≡ size_of (effects journal s)
+pub size_now : (found : List ℕ) (journal : List Entry) (s size : ℕ) → AreSizesOverJournal found journal s → size ≡ slice_index_or found (length journal) size → size ≡ size_of (effects journal s)
 size_now found journal s size are is = is ∙ (get_or_default_zero found (length journal) size are.long ∙ size_at found journal s are)

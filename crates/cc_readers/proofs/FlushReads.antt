@@ -15,7 +15,7 @@ use Rattle.cc_model.specs.Touches.{touches}
 use Rattle.cc_readers.specs.Effects.{effects}
 use Rattle.cc_events.specs.declared.touching.Touching.{Touching}
 use Rattle.cc_events.specs.declared.touching.Touching.TheVariants as touching
-use Rattle.cc_events.specs.Events.{event_in}
+use Rattle.cc_events.specs.Events.{event_on}
 use Rattle.cc_events.specs.Touchings.{touching_of, touches_after}
 use Rattle.cc_readers.specs.FlushReads.{came_after}
 use Rattle.cc_readers.proofs.ReaderSteps.{effects_back, effects_more}
@@ -83,7 +83,7 @@ flushed_from journal upto seen me s span counted is =
 
 -- whether the touches of a page came later
 
-pub touches_by : (seen : ℕ) (journal rest : List Entry) (last : Entry) (s p : ℕ) (what : Touching) (ended : Bool) → journal ≡ rest ++ last ∷ [] → what ≡ touching_of (event_in last s) (effects rest s) p → came_after seen (touches ended (effects journal s) p) ≡ came_after seen (touches_after what ended (effects rest s) p)
+pub touches_by : (seen : ℕ) (journal rest : List Entry) (last : Entry) (s p : ℕ) (what : Touching) (ended : Bool) → journal ≡ rest ++ last ∷ [] → what ≡ touching_of (event_on last s) (effects rest s) p → came_after seen (touches ended (effects journal s) p) ≡ came_after seen (touches_after what ended (effects rest s) p)
 touches_by seen journal rest last s p what ended is happens = ap (came_after seen) (touches_back journal rest last s what ended p is happens)
 
 pub touch_early : (seen n : ℕ) (lsn : Option ℕ) (ended : Bool) (h : List Effect) (p : ℕ) → n ≡ length h → n < seen → came_after seen (touches_after (touching.Touches lsn) ended h p) ≡ false

@@ -4,7 +4,7 @@ use Rattle.std.specs.List.{cons_option}
 use Rattle.std.proofs.Common.{ap, sym, ◌∙◌, get_or}
 use Rattle.std.proofs.lemmas.List.{reverse-append, take_more}
 use Rattle.cc_entry.specs.declared.entry.Entry.{Entry}
-use Rattle.cc_events.specs.declared.event.Event.{Event}
+use Rattle.cc_events.specs.declared.event.StreamEvent.{StreamEvent}
 use Rattle.cc_model.specs.History.{effect_of, history}
 use Rattle.cc_model.specs.Objects.{objects}
 use Rattle.cc_readers.specs.Effects.{effects}
@@ -24,9 +24,9 @@ effects_more journal i d s in_range = ap (λ (es : List Entry). history (reverse
 pub objects_more : (journal : List Entry) (i : ℕ) (d : Entry) (s : ℕ) → i < length journal → objects (effects (take (i + 1) journal) s) ≡ objects_after (event_of (effect_of (get_or journal i d) s)) (objects (effects (take i journal) s))
 objects_more journal i d s in_range = ap objects (effects_more journal i d s in_range) ∙ objects-event (effect_of (get_or journal i d) s) (effects (take i journal) s)
 
-pub objects_next : (journal : List Entry) (i : ℕ) (item : Entry) (s : ℕ) (what : Event) (before : List ℕ) → item ≡ get_or journal i item → i < length journal → what ≡ event_of (effect_of item s) → before ≡ objects (effects (take i journal) s) → objects_after what before ≡ objects (effects (take (i + 1) journal) s)
+pub objects_next : (journal : List Entry) (i : ℕ) (item : Entry) (s : ℕ) (what : StreamEvent) (before : List ℕ) → item ≡ get_or journal i item → i < length journal → what ≡ event_of (effect_of item s) → before ≡ objects (effects (take i journal) s) → objects_after what before ≡ objects (effects (take (i + 1) journal) s)
 objects_next journal i item s what before is in_range happens was =
-    ap (λ (e : Event). objects_after e before) happens
+    ap (λ (e : StreamEvent). objects_after e before) happens
     ∙ (ap (λ (x : Entry). objects_after (event_of (effect_of x s)) before) is
     ∙ (ap (λ (b : List ℕ). objects_after (event_of (effect_of (get_or journal i item) s)) b) was
     ∙ sym (objects_more journal i item s in_range)))

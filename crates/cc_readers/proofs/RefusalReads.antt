@@ -13,9 +13,9 @@ use Rattle.cc_model.specs.Objects.{had_map}
 use Rattle.cc_readers.specs.Effects.{effects}
 use Rattle.cc_events.specs.Events.{event_of, event_of_act}
 use Rattle.cc_entry.specs.declared.call.Call.{Call}
-use Rattle.cc_model.specs.Refusals.{first_of, refusal}
+use Rattle.cc_model.specs.Refusals.{first_of, refusal, argument_reasons}
 use Rattle.cc_readers.specs.MapReads.{is_opening}
-use Rattle.cc_readers.specs.RefusalReads.{argument_reasons, use_reasons}
+use Rattle.cc_readers.specs.RefusalReads.{use_reasons}
 use Rattle.cc_readers.proofs.ReaderSteps.{effects_back}
 
 pub had-event : (o : Option Effect) (h : List Effect) → had_map (cons_option o h) ≡ (is_opening (event_of o) || had_map h)

@@ -14,12 +14,12 @@ use Rattle.cc_model.specs.Touches.{size_of, is_mapped}
 use Rattle.cc_model.specs.Residency.{below, moved_by, residents, is_resident}
 use Rattle.cc_readers.specs.Effects.{effects}
 use Rattle.cc_events.specs.Events.{event_of, event_of_act}
-use Rattle.cc_readers.specs.Changes.{left_by, resident_after}
+use Rattle.cc_readers.specs.Changes.{stays_resident, resident_after}
 use Rattle.cc_readers.proofs.ReaderSteps.{effects_back}
 use Rattle.cc_laws.proofs.ResidencySteps.{residents-mapped, residents-unmapped}
 use Rattle.cc_laws.proofs.PlacesResident.{among-filtered, among-without, among-in}
 
-left : (o : Option ℕ) (p : ℕ) (pages : List ℕ) → is_among p (below o pages) ≡ left_by o p (is_among p pages)
+left : (o : Option ℕ) (p : ℕ) (pages : List ℕ) → is_among p (below o pages) ≡ stays_resident o p (is_among p pages)
 left None p pages = refl
 left (Some to) p pages = among-filtered (λ q. nat_lt (4096 * q) to) p pages
 

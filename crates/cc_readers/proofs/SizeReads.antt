@@ -6,7 +6,7 @@ use Rattle.std.proofs.lemmas.List.{take-append-le, length-append, length-take, t
 use Rattle.cc_entry.specs.declared.entry.Entry.{Entry}
 use Rattle.cc_model.specs.History.{effect_of, history}
 use Rattle.cc_model.specs.Touches.{sizes, size_of, valid_of}
-use Rattle.cc_readers.specs.Effects.{effects, AreSizes}
+use Rattle.cc_readers.specs.Effects.{effects, AreSizesOverJournal}
 use Rattle.cc_events.specs.Events.{event_of, size_after, valid_after}
 use Rattle.cc_readers.proofs.ReaderSteps.{effects_back}
 use Rattle.cc_readers.proofs.TouchReads.{entries_next}
@@ -22,7 +22,7 @@ pub valid_none : (journal : List Entry) (s : ℕ) → journal ≡ [] → valid_o
 unfolding sizes history
 valid_none journal s is = rw is refl
 
-pub sizes_more : (found : List ℕ) (journal rest : List Entry) (last : Entry) (s size : ℕ) → journal ≡ rest ++ last ∷ [] → AreSizes found rest s → length found ≡ length rest + 1 → size ≡ size_after (event_of (effect_of last s)) (effects rest s) → AreSizes (found ++ size ∷ []) journal s
+pub sizes_more : (found : List ℕ) (journal rest : List Entry) (last : Entry) (s size : ℕ) → journal ≡ rest ++ last ∷ [] → AreSizesOverJournal found rest s → length found ≡ length rest + 1 → size ≡ size_after (event_of (effect_of last s)) (effects rest s) → AreSizesOverJournal (found ++ size ∷ []) journal s
 sizes_more found journal rest last s size is are count now = record {
   long = omega (arith, ap length is, length-append rest (last ∷ []), length-append found (size ∷ []));
   each = λ i within. go i within (nat_le i (length rest)) refl;
@@ -39,7 +39,7 @@ sizes_more found journal rest last s size is are count now = record {
         get_or_push found size 0 i (sym at)
         ∙ (now ∙ (sym (size_back journal rest last s is) ∙ ap (λ (es : List Entry). size_of (effects es s)) (sym (take_all i journal all))))
 
-pub sizes_none : (found : List ℕ) (journal : List Entry) (s : ℕ) → journal ≡ [] → found ≡ 0 ∷ [] → AreSizes found journal s
+pub sizes_none : (found : List ℕ) (journal : List Entry) (s : ℕ) → journal ≡ [] → found ≡ 0 ∷ [] → AreSizesOverJournal found journal s
 unfolding sizes history
 sizes_none found journal s is one = record {
   long = rw (is, one) (omega arith);
@@ -49,9 +49,9 @@ sizes_none found journal s is one = record {
     go : (i : ℕ) → i ≤ 0 → slice_index (0 ∷ []) i ≡ size_of (effects (take i []) s)
     go i within = let zero : i ≡ 0 = omega arith in rw zero refl
 
-pub sizes_next : (found now : List ℕ) (journal : List Entry) (i : ℕ) (entry : Entry) (s size : ℕ) → entry ≡ get_or journal i entry → i < length journal → AreSizes found (take i journal) s → length found ≡ i + 1 → size ≡ size_after (event_of (effect_of entry s)) (effects (take i journal) s) → now ≡ found ++ size ∷ [] → AreSizes now (take (i + 1) journal) s
+pub sizes_next : (found now : List ℕ) (journal : List Entry) (i : ℕ) (entry : Entry) (s size : ℕ) → entry ≡ get_or journal i entry → i < length journal → AreSizesOverJournal found (take i journal) s → length found ≡ i + 1 → size ≡ size_after (event_of (effect_of entry s)) (effects (take i journal) s) → now ≡ found ++ size ∷ [] → AreSizesOverJournal now (take (i + 1) journal) s
 sizes_next found now journal i entry s size is in_range are count after pushed =
-    subst (λ (xs : List ℕ). AreSizes xs (take (i + 1) journal) s) (sym pushed)
+    subst (λ (xs : List ℕ). AreSizesOverJournal xs (take (i + 1) journal) s) (sym pushed)
     (sizes_more found (take (i + 1) journal) (take i journal) entry s size (entries_next journal i entry is in_range) are (omega (arith, length-take i journal)) after)
 
 pub valid_next : (journal : List Entry) (i : ℕ) (entry : Entry) (s now : ℕ) → entry ≡ get_or journal i entry → i < length journal → now ≡ valid_after (event_of (effect_of entry s)) (effects (take i journal) s) → now ≡ valid_of (effects (take (i + 1) journal) s)

@@ -13,7 +13,7 @@ use Rattle.cc_model.specs.History.{Effect, effect_of, history}
 use Rattle.cc_model.specs.Objects.{truncation}
 use Rattle.cc_model.specs.Sizes.{Touch}
 use Rattle.cc_model.specs.Touches.{touches, size_of}
-use Rattle.cc_readers.specs.Effects.{effects, AreSizes}
+use Rattle.cc_readers.specs.Effects.{effects, AreSizesOverJournal}
 use Rattle.cc_events.specs.Events.{event_of}
 use Rattle.cc_events.specs.Touchings.{touching_of, touches_after}
 use Rattle.cc_readers.proofs.ReaderSteps.{effects_back}
@@ -34,7 +34,7 @@ unfolding touches history
 touches_none journal s ended p is = rw is refl
 
 -- the sizes of the entries before the last one
-pub sizes_back : (sizes : List ℕ) (journal rest : List Entry) (last : Entry) (s : ℕ) → journal ≡ rest ++ last ∷ [] → AreSizes sizes journal s → AreSizes sizes rest s
+pub sizes_back : (sizes : List ℕ) (journal rest : List Entry) (last : Entry) (s : ℕ) → journal ≡ rest ++ last ∷ [] → AreSizesOverJournal sizes journal s → AreSizesOverJournal sizes rest s
 sizes_back sizes journal rest last s is are = record {
   long = omega (arith, are.long, ap length is, length-append rest (last ∷ []));
   each = λ i within.
@@ -42,7 +42,7 @@ sizes_back sizes journal rest last s is are = record {
       ∙ ap (λ (es : List Entry). size_of (effects es s)) (ap (λ (es : List Entry). take i es) is ∙ take-append-le i rest (last ∷ []) within);
 }
 
-pub size_at : (sizes : List ℕ) (rest : List Entry) (s : ℕ) → AreSizes sizes rest s → slice_index sizes (length rest) ≡ size_of (effects rest s)
+pub size_at : (sizes : List ℕ) (rest : List Entry) (s : ℕ) → AreSizesOverJournal sizes rest s → slice_index sizes (length rest) ≡ size_of (effects rest s)
 size_at sizes rest s are = are.each (length rest) (omega arith) ∙ ap (λ (es : List Entry). size_of (effects es s)) (take_all (length rest) rest (omega arith))
 
 pub counts : (opened left : List ℕ) (size to object : ℕ) (truncate : Option ℕ) → truncate ≡ Some to → is_among object opened ≡ true → left ≡ without object opened → length left ≡ 0 → to < size → Some to ≡ truncation opened size (record { stream = 0; object = object }) truncate

@@ -16,7 +16,7 @@ use Rattle.cc_model.specs.Touches.{sizes, valid_of}
 use Rattle.cc_model.specs.Images.{begun, image_after, image}
 use Rattle.cc_model.specs.Discards.{is_known, least_valid, low_since}
 use Rattle.cc_readers.specs.Effects.{effects}
-use Rattle.cc_events.specs.Events.{event_of, event_of_act, event_in}
+use Rattle.cc_events.specs.Events.{event_of, event_of_act, event_on}
 use Rattle.cc_readers.specs.MapReads.{is_opening}
 use Rattle.cc_readers.specs.TransferReads.{is_begin_of, end_of_page, ended_before}
 use Rattle.cc_readers.proofs.ReaderSteps.{effects_back}
@@ -73,7 +73,7 @@ begun-event (Some (Began pass page)) h p = begun-began pass page h p (page == p)
 begun-event (Some (Ended pass page how)) h p = refl
 begun-event (Some (Synced pass how)) h p = refl
 
-pub begun_back : (journal rest : List Entry) (last : Entry) (s p : ℕ) (begins : Bool) → journal ≡ rest ++ last ∷ [] → begins ≡ is_begin_of (event_in last s) p → is_some (begun (effects journal s) p) ≡ (begins || is_some (begun (effects rest s) p))
+pub begun_back : (journal rest : List Entry) (last : Entry) (s p : ℕ) (begins : Bool) → journal ≡ rest ++ last ∷ [] → begins ≡ is_begin_of (event_on last s) p → is_some (begun (effects journal s) p) ≡ (begins || is_some (begun (effects rest s) p))
 begun_back journal rest last s p begins is happens =
     ap (λ (h : List Effect). is_some (begun h p)) (effects_back journal rest last s is)
     ∙ (begun-event (effect_of last s) (effects rest s) p
@@ -110,7 +110,7 @@ known-event (Some (Began pass page)) h p = refl
 known-event (Some (Ended pass page how)) h p = known-ended pass page how h p (page == p) refl
 known-event (Some (Synced pass how)) h p = refl
 
-pub known_back : (journal rest : List Entry) (last : Entry) (s p : ℕ) (ends : Option Bool) → journal ≡ rest ++ last ∷ [] → ends ≡ end_of_page (event_in last s) p → is_known (effects journal s) p ≡ known_after ends (effects rest s) p
+pub known_back : (journal rest : List Entry) (last : Entry) (s p : ℕ) (ends : Option Bool) → journal ≡ rest ++ last ∷ [] → ends ≡ end_of_page (event_on last s) p → is_known (effects journal s) p ≡ known_after ends (effects rest s) p
 known_back journal rest last s p ends is happens =
     ap (λ (h : List Effect). is_known h p) (effects_back journal rest last s is)
     ∙ (known-event (effect_of last s) (effects rest s) p
@@ -185,11 +185,11 @@ low-event (Some (Began pass page)) ended h p = low-began ended pass page h p (en
 low-event (Some (Ended pass page how)) ended h p = refl
 low-event (Some (Synced pass how)) ended h p = refl
 
-pub low_back : (journal rest : List Entry) (last : Entry) (s p : ℕ) (ended : Bool) (before : Option Bool) → journal ≡ rest ++ last ∷ [] → before ≡ ended_before (event_in last s) p ended → low_since ended (effects journal s) p ≡ low_after before (effects rest s) (valid_of (effects journal s)) p
+pub low_back : (journal rest : List Entry) (last : Entry) (s p : ℕ) (ended : Bool) (before : Option Bool) → journal ≡ rest ++ last ∷ [] → before ≡ ended_before (event_on last s) p ended → low_since ended (effects journal s) p ≡ low_after before (effects rest s) (valid_of (effects journal s)) p
 low_back journal rest last s p ended before is happens =
     ap (λ (h : List Effect). low_since ended h p) (effects_back journal rest last s is)
     ∙ (low-event (effect_of last s) ended (effects rest s) p
-    ∙ (ap (λ (h : List Effect). low_after (ended_before (event_in last s) p ended) (effects rest s) (valid_of h) p) (sym (effects_back journal rest last s is))
+    ∙ (ap (λ (h : List Effect). low_after (ended_before (event_on last s) p ended) (effects rest s) (valid_of h) p) (sym (effects_back journal rest last s is))
     ∙ ap (λ (o : Option Bool). low_after o (effects rest s) (valid_of (effects journal s)) p) (sym happens)))
 
 pub low_none : (journal : List Entry) (s p : ℕ) (ended : Bool) → journal ≡ [] → low_since ended (effects journal s) p ≡ 0

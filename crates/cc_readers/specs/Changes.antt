@@ -2,8 +2,8 @@
 use Rattle.std.specs.Prelude.{ℕ, ◌+◌, ◌-◌, ◌*◌, Bool, not, ◌==◌, ◌&&◌, ◌||◌, nat_lt, List, length, replicate, slice_index, if◌then◌else◌}
 use Rattle.std.specs.declared.option.Option.{Option}
 use Rattle.std.specs.declared.option.Option.TheVariants.{Some, None}
-use Rattle.cc_events.specs.declared.event.Event.{Event}
-use Rattle.cc_events.specs.declared.event.Event.TheVariants as event
+use Rattle.cc_events.specs.declared.event.StreamEvent.{StreamEvent}
+use Rattle.cc_events.specs.declared.event.StreamEvent.TheVariants as event
 use Rattle.cc_entry.specs.Pages.{has_byte}
 use Rattle.cc_model.specs.History.{Effect, Did}
 use Rattle.cc_model.specs.Acts.{Act, act_of, Writes, Zeroes, Stores}
@@ -15,8 +15,8 @@ use Rattle.cc_model.specs.Bytes.{page_size}
 use Rattle.cc_events.specs.Events.{truncation_by}
 
 -- the pages of a disk whose bytes all have this value
-unfoldable pub filled : ℕ → ℕ → List ℕ
-filled fill page = replicate page_size fill
+unfoldable pub filled_page : ℕ → ℕ → List ℕ
+filled_page fill page = replicate page_size fill
 
 -- what an act changes the byte at i to, where it changes it, given the size before it
 abbrev pub change_by : Act → ℕ → ℕ → Option ℕ
@@ -33,16 +33,16 @@ change_of (Some (Did pass call reply)) size i = change_by (act_of call) size i
 change_of other size i = None
 
 -- whether a page that was resident or not is so after a size step, where there is one
-abbrev pub left_by : Option ℕ → ℕ → Bool → Bool
-left_by None p was = was
-left_by (Some to) p was = nat_lt (4096 * p) to && was
+abbrev pub stays_resident : Option ℕ → ℕ → Bool → Bool
+stays_resident None p was = was
+stays_resident (Some to) p was = nat_lt (4096 * p) to && was
 
 -- whether a page is resident after an event that leaves a map, given the stream before it and whether
 -- it was resident then
-abbrev pub resident_after : Event → List Effect → ℕ → Bool → Bool
+abbrev pub resident_after : StreamEvent → List Effect → ℕ → Bool → Bool
 resident_after (event.Closes object truncate) h p was =
-    left_by (truncation_by object truncate (objects h) (size_of h)) p was
-resident_after (event.Resizes size) h p was = left_by (Some size) p was
+    stays_resident (truncation_by object truncate (objects h) (size_of h)) p was
+resident_after (event.Resizes size) h p was = stays_resident (Some size) p was
 resident_after (event.Discards span) h p was = not (span_has span p) && was
 resident_after (event.Stores page) h p was = page == p || was
 resident_after (event.CameIn page) h p was = page == p || was

@@ -9,6 +9,6 @@ abbrev pub effects : List Entry → ℕ → List Effect
 effects journal s = history (reverse journal) s
 
 -- a stream's size before each entry of a journal, and after the last one
-pub record AreSizes (sizes : List ℕ) (journal : List Entry) (s : ℕ) : Type 0 where
+pub record AreSizesOverJournal (sizes : List ℕ) (journal : List Entry) (s : ℕ) : Type 0 where
   pub long : length journal < length sizes
   pub each : (i : ℕ) → i ≤ length journal → slice_index sizes i ≡ size_of (effects (take i journal) s)

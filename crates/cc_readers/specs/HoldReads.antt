@@ -12,8 +12,8 @@ use Rattle.cc_entry.specs.declared.hold.HoldKind.TheVariants as kind
 use Rattle.cc_readers.specs.declared.holds.Reach.{Reach}
 use Rattle.cc_readers.specs.declared.holds.Owed.{Owed}
 use Rattle.cc_readers.specs.declared.holds.OpenHold.{OpenHold}
-use Rattle.cc_readers.specs.declared.holds.Change.{Change}
-use Rattle.cc_readers.specs.declared.holds.Change.TheVariants as change
+use Rattle.cc_readers.specs.declared.holds.HoldChange.{HoldChange}
+use Rattle.cc_readers.specs.declared.holds.HoldChange.TheVariants as change
 use Rattle.cc_model.specs.History.{Effect, Did}
 use Rattle.cc_model.specs.Holds.{Hold, hold_at, changed_at, made, repinned, held_after, id_of}
 
@@ -30,8 +30,8 @@ abbrev pub range_owed : Owed → Range
 range_owed owed = record { from = owed.at; to = owed.at + owed.len }
 
 -- the hold that a reader's stands for
-abbrev pub hold_of : OpenHold → Hold
-hold_of it = record {
+abbrev pub hold_of_reader : OpenHold → Hold
+hold_of_reader it = record {
   id = it.id;
   pass = it.pass;
   file = it.file;
@@ -44,7 +44,7 @@ hold_of it = record {
 
 -- the holds that a reader's stand for
 abbrev pub holds_in : List OpenHold → List Hold
-holds_in holds = map hold_of holds
+holds_in holds = map hold_of_reader holds
 
 -- a hold that owes no stamp, given its file object, its place and its length
 abbrev pub new_hold : ℕ → ℕ → File × ℕ × ℕ → HoldKind → Bool → Hold
@@ -62,37 +62,37 @@ new_hold id pass place its_kind exclusive = record {
 -- the holds that one stands for, where there is one
 abbrev pub kept_hold : Option OpenHold → List Hold
 kept_hold None = []
-kept_hold (Some it) = hold_of it ∷ []
+kept_hold (Some it) = hold_of_reader it ∷ []
 
 -- the file object, the place and the length of a hold
 abbrev pub spot_of : Hold → File × ℕ × ℕ
 spot_of hold = (hold.file, hold.at, hold.len)
 
 -- the same holds with those of this id changed
-abbrev pub changed_by : Change → ℕ → List Hold → List Hold
+abbrev pub changed_by : HoldChange → ℕ → List Hold → List Hold
 changed_by (change.Pins exclusive) id holds = changed_at id (λ it. record it { kind = kind.Pin; exclusive = exclusive }) holds
 changed_by (change.Owes at len) id holds = changed_at id (λ it. record it { owed = record { from = at; to = at + len } ∷ it.owed }) holds
 changed_by change.Stamps id holds = changed_at id (λ it. record it { owed = [] }) holds
 changed_by change.Ends id holds = filter (λ it. not (it.id == id)) holds
 
 -- what a prepare owes a stamp for: its range, where it zeroes it
-abbrev pub zeroed : Bool → ℕ → ℕ → List Range
-zeroed true at len = record { from = at; to = at + len } ∷ []
-zeroed false at len = []
+abbrev pub owed_by_prepare : Bool → ℕ → ℕ → List Range
+owed_by_prepare true at len = record { from = at; to = at + len } ∷ []
+owed_by_prepare false at len = []
 
 -- the pin that a done call of the pass makes, whose reply has this id, where it makes one
 abbrev pub pin_by : ℕ → Call → ℕ → List Hold
 pin_by pass (call.PinRead file at len exclusive) id = made id pass file at len kind.Pin exclusive [] []
 pin_by pass (call.PreparePin file at len zero exclusive) id =
-    made id pass file at len kind.Pin exclusive (zeroed zero at len) []
+    made id pass file at len kind.Pin exclusive (owed_by_prepare zero at len) []
 pin_by pass other id = []
 
 -- the hold that it makes of a range that it names
-abbrev pub made_by : ℕ → Call → ℕ → List Hold
-made_by pass (call.Map file at len) id = made id pass file at len kind.Map false [] []
-made_by pass (call.MdlRead file at len) id = made id pass file at len kind.ReadChain false [] []
-made_by pass (call.MdlWrite file at len) id = made id pass file at len kind.WriteChain false [] []
-made_by pass other id = pin_by pass other id
+abbrev pub range_hold_made_by : ℕ → Call → ℕ → List Hold
+range_hold_made_by pass (call.Map file at len) id = made id pass file at len kind.Map false [] []
+range_hold_made_by pass (call.MdlRead file at len) id = made id pass file at len kind.ReadChain false [] []
+range_hold_made_by pass (call.MdlWrite file at len) id = made id pass file at len kind.WriteChain false [] []
+range_hold_made_by pass other id = pin_by pass other id
 
 -- the other holds after it: those before it, as it changed them, and a repin of one
 abbrev pub changed_after : ℕ → Call → ℕ → List Hold → List Hold

@@ -6,28 +6,13 @@ use Rattle.cc_entry.specs.declared.error.CcError.{CcError}
 use Rattle.cc_entry.specs.declared.entry.Entry.{Entry}
 use Rattle.cc_model.specs.Setup.{Setup}
 use Rattle.cc_model.specs.History.{Effect}
-use Rattle.cc_model.specs.Acts.{file_of}
 use Rattle.cc_model.specs.Holds.{holds_of}
 use Rattle.cc_model.specs.Touches.{size_of, valid_of}
 use Rattle.cc_model.specs.Ranges.{range_of}
-use Rattle.cc_model.specs.Reasons.{not_cached, cached_file, too_long, view_boundary, bad_sizes, bad_granularity, no_log, beyond_size, beyond_valid}
 use Rattle.cc_model.specs.Conflicts.{held, busy}
 use Rattle.cc_model.specs.Views.{viewed, no_views, no_vacbs, not_resident}
 use Rattle.cc_model.specs.Discards.{unsettled, grown}
-use Rattle.cc_model.specs.Refusals.{first_of, refusal}
-
--- those in the arguments of a call, and in the sizes, maps and logs that it meets
-abbrev pub argument_reasons : Setup → List Effect → Call → List (Option CcError)
-argument_reasons u h call =
-    not_cached h (cached_file call (file_of call))
-    ∷ too_long call
-    ∷ view_boundary call
-    ∷ bad_sizes h call
-    ∷ bad_granularity call
-    ∷ no_log u call
-    ∷ beyond_size (size_of h) call
-    ∷ beyond_valid (valid_of h) call
-    ∷ []
+use Rattle.cc_model.specs.Refusals.{argument_reasons, first_of, refusal}
 
 -- by the view blocks of a call's range
 abbrev pub no_views_for : List Effect → Call → Option CcError

@@ -4,8 +4,8 @@ ghost use Rattle.std.specs.Prelude.{◌≡◌, ◌+◌, IfOk, length, slice_inde
 ghost use Rattle.cc_model.specs.Acts.{act_of, Writes, Zeroes, Stores};
 ghost use Rattle.cc_model.specs.Bytes.{byte_of, answer};
 ghost use Rattle.cc_readers.specs.ByteOrigins.{byte_from, look};
-ghost use Rattle.cc_readers.specs.Changes.{filled, change_by, change_of};
-ghost use Rattle.cc_readers.specs.Effects.{effects, AreSizes};
+ghost use Rattle.cc_readers.specs.Changes.{filled_page, change_by, change_of};
+ghost use Rattle.cc_readers.specs.Effects.{effects, AreSizesOverJournal};
 ghost use Rattle.cc_model.specs.History.{effect_of};
 ghost use Rattle.cc_entry.specs.Pages.{has_byte};
 ghost use Rattle.cc_model.specs.Touches.{valid_of};
@@ -14,7 +14,7 @@ use crate::dirty::is_unwritten;
 use crate::sizes::{sizes, valid_with};
 use crate::transfers::ended_from;
 use cc_entry::{Bytes, Call, Entry, NoMemory, Outcome, StreamId};
-use cc_events::{Event, event_on, span_has, stored_end};
+use cc_events::{StreamEvent, event_on, span_has, stored_end};
 use std::alloc::Global;
 
 /// Where a byte comes from.
@@ -28,7 +28,7 @@ pub enum Origin {
 
 /// What an entry tells of a byte that is looked for.
 #[derive(Clone, Copy)]
-pub enum Found {
+pub enum FoundByte {
     /// Its value.
     Byte(u8),
     /// It is the one that this origin has after the entries before.
@@ -43,7 +43,7 @@ pub fn byte(
     fill: u8,
     at: u64,
 ) -> Result<u8, NoMemory>
-    ensures { IfOk result (λ byte. byte ≡ byte_of (filled fill) (effects journal.now stream) at) }
+    ensures { IfOk result (λ byte. byte ≡ byte_of (filled_page fill) (effects journal.now stream) at) }
 {
     let found = sizes(alloc, journal, stream)?;
     let valid = valid_with(alloc, journal, &found, stream)?;
@@ -60,7 +60,7 @@ pub fn answer(
     at: u64,
     len: u64,
 ) -> Result<Vec<u8>, NoMemory>
-    ensures { IfOk result (λ bytes. bytes.items ≡ answer (filled fill) (effects journal.now stream) at len) }
+    ensures { IfOk result (λ bytes. bytes.items ≡ answer (filled_page fill) (effects journal.now stream) at len) }
 {
     let found = sizes(alloc, journal, stream)?;
     let valid = valid_with(alloc, journal, &found, stream)?;
@@ -84,9 +84,9 @@ fn byte_at(
     fill: u8,
     at: u64,
 ) -> Result<u8, NoMemory>
-    requires sizes { AreSizes sizes.now journal.now stream }
+    requires sizes { AreSizesOverJournal sizes.now journal.now stream }
     requires valid { valid ≡ valid_of (effects journal.now stream) }
-    ensures { IfOk result (λ byte. byte ≡ byte_of (filled fill) (effects journal.now stream) at) }
+    ensures { IfOk result (λ byte. byte ≡ byte_of (filled_page fill) (effects journal.now stream) at) }
 {
     if u128::from(at) < valid {
         byte_from(alloc, journal, sizes, stream, fill, Origin::Changes, at)
@@ -105,15 +105,15 @@ fn byte_from(
     origin: Origin,
     at: u64,
 ) -> Result<u8, NoMemory>
-    requires { AreSizes sizes.now journal.now stream }
-    ensures { IfOk result (λ byte. byte ≡ byte_from origin (filled fill) (effects journal.now stream) at) }
+    requires { AreSizesOverJournal sizes.now journal.now stream }
+    ensures { IfOk result (λ byte. byte ≡ byte_from origin (filled_page fill) (effects journal.now stream) at) }
 {
     let Some((last, rest)) = journal.split_last() else {
         return Ok(fill);
     };
     match look(alloc, last, rest, sizes, stream, origin, at)? {
-        Found::Byte(byte) => Ok(byte),
-        Found::Before(origin) => byte_from(alloc, rest, sizes, stream, fill, origin, at),
+        FoundByte::Byte(byte) => Ok(byte),
+        FoundByte::Before(origin) => byte_from(alloc, rest, sizes, stream, fill, origin, at),
     }
 }
 
@@ -126,8 +126,8 @@ fn look(
     stream: StreamId,
     origin: Origin,
     at: u64,
-) -> Result<Found, NoMemory>
-    requires { AreSizes sizes.now rest.now stream }
+) -> Result<FoundByte, NoMemory>
+    requires { AreSizesOverJournal sizes.now rest.now stream }
     ensures { IfOk result (λ found. found ≡ look origin (effect_of last.now stream) (effects rest.now stream) at) }
 {
     match origin {
@@ -144,23 +144,23 @@ fn look_in_changes(
     sizes: &[u64],
     stream: StreamId,
     at: u64,
-) -> Result<Found, NoMemory>
-    requires { AreSizes sizes.now rest.now stream }
+) -> Result<FoundByte, NoMemory>
+    requires { AreSizesOverJournal sizes.now rest.now stream }
     ensures { IfOk result (λ found. found ≡ look Origin.Changes (effect_of last.now stream) (effects rest.now stream) at) }
 {
     match event_on(last, stream) {
-        Event::Discards { span } => {
+        StreamEvent::Discards { span } => {
             let page = u128::from(at / 4096);
             let dirty = is_unwritten(alloc, rest, sizes, stream, page, false)?;
             if span_has(span, page) && dirty {
-                Ok(Found::Before(Origin::Disk { ended: false }))
+                Ok(FoundByte::Before(Origin::Disk { ended: false }))
             } else {
-                Ok(Found::Before(Origin::Changes))
+                Ok(FoundByte::Before(Origin::Changes))
             }
         }
         _ => match change_on(last, stream, sizes[rest.len()], at) {
-            Some(byte) => Ok(Found::Byte(byte)),
-            None => Ok(Found::Before(Origin::Changes)),
+            Some(byte) => Ok(FoundByte::Byte(byte)),
+            None => Ok(FoundByte::Before(Origin::Changes)),
         },
     }
 }
@@ -175,18 +175,18 @@ fn look_on_disk(
     stream: StreamId,
     ended: bool,
     at: u64,
-) -> Result<Found, NoMemory>
-    requires { AreSizes sizes.now rest.now stream }
+) -> Result<FoundByte, NoMemory>
+    requires { AreSizesOverJournal sizes.now rest.now stream }
     ensures { IfOk result (λ found. found ≡ look (Origin.Disk ended) (effect_of last.now stream) (effects rest.now stream) at) }
 {
     match ended_from(event_on(last, stream), at / 4096, ended) {
-        Some(ended) => Ok(Found::Before(Origin::Disk { ended })),
+        Some(ended) => Ok(FoundByte::Before(Origin::Disk { ended })),
         None => {
             let valid = valid_with(alloc, rest, sizes, stream)?;
             if u128::from(at) < valid {
-                Ok(Found::Before(Origin::Changes))
+                Ok(FoundByte::Before(Origin::Changes))
             } else {
-                Ok(Found::Byte(0))
+                Ok(FoundByte::Byte(0))
             }
         }
     }

@@ -8,7 +8,7 @@ ghost use Rattle.cc_model.specs.Ranges.{span_has};
 ghost use Rattle.cc_entry.specs.Kinds.{is_pin};
 ghost use Rattle.cc_readers.specs.Effects.{effects};
 ghost use Rattle.cc_model.specs.Conflicts.{has_page_of, held, held_by};
-ghost use Rattle.cc_readers.specs.HoldReads.{hold_of, range_of_reach, range_owed, holds_in, range_if};
+ghost use Rattle.cc_readers.specs.HoldReads.{hold_of_reader, range_of_reach, range_owed, holds_in, range_if};
 ghost use Rattle.cc_readers.specs.BarReads.{bars_by};
 
 use crate::holds::{OpenHold, Owed, Reach, open_holds};
@@ -86,7 +86,7 @@ pub fn pins(kind: HoldKind) -> bool
 
 // Whether an open hold is in the way.
 fn bars(hold: &OpenHold, bar: Bar) -> bool
-    ensures { result ≡ bars_by bar (hold_of hold.now) }
+    ensures { result ≡ bars_by bar (hold_of_reader hold.now) }
 {
     let from = u128::from(hold.at);
     let to = from + u128::from(hold.len);

@@ -4,14 +4,14 @@ ghost use Rattle.std.specs.Prelude.{◌≡◌, ◌++◌, not, IfOk};
 ghost use Rattle.std.specs.List.{list_any, filter};
 ghost use Rattle.cc_model.specs.Numbers.{is_empty};
 ghost use Rattle.cc_model.specs.Touches.{touches, touched, is_dirty, dirty_pages, is_mapped};
-ghost use Rattle.cc_readers.specs.Effects.{effects, AreSizes};
-ghost use Rattle.cc_events.specs.Events.{event_in, touched_pages};
+ghost use Rattle.cc_readers.specs.Effects.{effects, AreSizesOverJournal};
+ghost use Rattle.cc_events.specs.Events.{event_on, touched_pages};
 
 use crate::maps::{hold_place, open_objects};
 use crate::pages::{range_before, sorted};
 use crate::touches::touching_by;
 use cc_entry::{Entry, NoMemory, StreamId};
-use cc_events::{Event, Touching, event_on};
+use cc_events::{StreamEvent, Touching, event_on};
 use std::alloc::Global;
 
 /// Whether a page has a touch that is neither written nor cut, where `ended` says whether its transfer
@@ -24,7 +24,7 @@ pub fn is_unwritten(
     page: u128,
     mut ended: bool,
 ) -> Result<bool, NoMemory>
-    requires { AreSizes sizes.now journal.now stream }
+    requires { AreSizesOverJournal sizes.now journal.now stream }
     ensures { IfOk result (λ dirty. dirty ≡ not (is_empty (touches ended (effects journal.now stream) page))) }
 {
     let mut left = journal;
@@ -49,7 +49,7 @@ pub fn dirty_pages(
     sizes: &[u64],
     stream: StreamId,
 ) -> Result<Vec<u64>, NoMemory>
-    requires { AreSizes sizes.now journal.now stream }
+    requires { AreSizesOverJournal sizes.now journal.now stream }
     ensures { IfOk result (λ pages. pages.items ≡ dirty_pages (effects journal.now stream)) }
 {
     let touched = touched(alloc, journal, stream)?;
@@ -64,7 +64,7 @@ pub fn has_map(
     sizes: &[u64],
     stream: StreamId,
 ) -> Result<bool, NoMemory>
-    requires { AreSizes sizes.now journal.now stream }
+    requires { AreSizesOverJournal sizes.now journal.now stream }
     ensures { IfOk result (λ mapped. mapped ≡ is_mapped (effects journal.now stream)) }
 {
     let found = open_objects(alloc, journal, stream)?;
@@ -94,31 +94,31 @@ fn touched_then(
     stream: StreamId,
     before: Vec<u64>,
 ) -> Result<Vec<u64>, NoMemory>
-    ensures { IfOk result (λ pages. pages.items ≡ touched_pages (event_in last.now stream) (effects rest.now stream) ++ before.items) }
+    ensures { IfOk result (λ pages. pages.items ≡ touched_pages (event_on last.now stream) (effects rest.now stream) ++ before.items) }
 {
     match event_on(last, stream) {
-        Event::Changes { from, to } => range_before(alloc, from, to, before),
-        Event::Stores { page } => {
+        StreamEvent::Changes { from, to } => range_before(alloc, from, to, before),
+        StreamEvent::Stores { page } => {
             let mut then = before;
             then.insert(0, page)?;
             Ok(then)
         }
-        Event::Stamps { hold, .. } => match hold_place(rest, stream, hold) {
+        StreamEvent::Stamps { hold, .. } => match hold_place(rest, stream, hold) {
             Some((at, len)) => {
                 let from = u128::from(at);
                 range_before(alloc, from, from + u128::from(len), before)
             }
             None => Ok(before),
         },
-        Event::Rests
-        | Event::Opens { .. }
-        | Event::Closes { .. }
-        | Event::Resizes { .. }
-        | Event::Discards { .. }
-        | Event::CameIn { .. }
-        | Event::WentOut { .. }
-        | Event::Began { .. }
-        | Event::Ended { .. } => Ok(before),
+        StreamEvent::Rests
+        | StreamEvent::Opens { .. }
+        | StreamEvent::Closes { .. }
+        | StreamEvent::Resizes { .. }
+        | StreamEvent::Discards { .. }
+        | StreamEvent::CameIn { .. }
+        | StreamEvent::WentOut { .. }
+        | StreamEvent::Began { .. }
+        | StreamEvent::Ended { .. } => Ok(before),
     }
 }
 
@@ -130,7 +130,7 @@ fn is_any_dirty(
     stream: StreamId,
     pages: &[u64],
 ) -> Result<bool, NoMemory>
-    requires { AreSizes sizes.now journal.now stream }
+    requires { AreSizesOverJournal sizes.now journal.now stream }
     ensures { IfOk result (λ any. any ≡ list_any (is_dirty (effects journal.now stream)) pages.now) }
 {
     for page in pages {
@@ -149,7 +149,7 @@ fn dirty_among(
     stream: StreamId,
     pages: &[u64],
 ) -> Result<Vec<u64>, NoMemory>
-    requires { AreSizes sizes.now journal.now stream }
+    requires { AreSizesOverJournal sizes.now journal.now stream }
     ensures { IfOk result (λ dirty. dirty.items ≡ filter (is_dirty (effects journal.now stream)) pages.now) }
 {
     let mut dirty = Vec::new(alloc);

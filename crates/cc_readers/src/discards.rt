@@ -5,7 +5,7 @@ ghost use Rattle.std.specs.List.{find};
 ghost use Rattle.std.specs.Option.{option_map};
 ghost use Rattle.cc_model.specs.Ranges.{span_has};
 ghost use Rattle.cc_model.specs.Discards.{is_known, least_valid, low_since, has_grown, unsettled, grown};
-ghost use Rattle.cc_readers.specs.Effects.{effects, AreSizes};
+ghost use Rattle.cc_readers.specs.Effects.{effects, AreSizesOverJournal};
 ghost use Rattle.cc_readers.specs.HoldReads.{range_if};
 
 use crate::conflicts::{has, reach_of};
@@ -104,7 +104,7 @@ fn first_grown(
     pages: &[u64],
     span: Option<Reach>,
 ) -> Result<Option<u64>, NoMemory>
-    requires { AreSizes sizes.now journal.now stream }
+    requires { AreSizesOverJournal sizes.now journal.now stream }
     ensures { IfOk result (λ page. page ≡ find (λ p. span_has (range_if span) p && has_grown (effects journal.now stream) p) pages.now) }
 {
     let Some((first, rest)) = pages.split_first() else {
@@ -125,7 +125,7 @@ fn is_grown(
     stream: StreamId,
     page: u64,
 ) -> Result<bool, NoMemory>
-    requires { AreSizes sizes.now journal.now stream }
+    requires { AreSizesOverJournal sizes.now journal.now stream }
     ensures { IfOk result (λ grown. grown ≡ has_grown (effects journal.now stream) page) }
 {
     let low = lowest_since(alloc, journal, sizes, stream, page, false)?;
@@ -144,7 +144,7 @@ fn lowest_since(
     page: u64,
     ended: bool,
 ) -> Result<u128, NoMemory>
-    requires { AreSizes sizes.now journal.now stream }
+    requires { AreSizesOverJournal sizes.now journal.now stream }
     ensures { IfOk result (λ low. low ≡ low_since ended (effects journal.now stream) page) }
 {
     let Some((last, rest)) = journal.split_last() else {

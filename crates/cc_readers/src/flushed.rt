@@ -4,7 +4,7 @@ ghost use Rattle.std.specs.Prelude.{◌≡◌, ◌&&◌, is_some, length, revers
 ghost use Rattle.cc_model.specs.Flushed.{is_flushed, is_ok_sync_of, settled_since, synced_after};
 ghost use Rattle.cc_model.specs.History.{effect_of};
 ghost use Rattle.cc_model.specs.Touches.{unwritten};
-ghost use Rattle.cc_readers.specs.Effects.{effects, AreSizes};
+ghost use Rattle.cc_readers.specs.Effects.{effects, AreSizesOverJournal};
 ghost use Rattle.cc_readers.specs.FlushReads.{are_settled, came_after};
 
 use crate::dirty::dirty_pages;
@@ -151,7 +151,7 @@ fn are_pages_settled(
     flush: &Flush,
     pages: &[u64],
 ) -> Result<bool, NoMemory>
-    requires { AreSizes sizes.now journal.now flush.now.stream }
+    requires { AreSizesOverJournal sizes.now journal.now flush.now.stream }
     ensures { IfOk result (λ settled. settled
         ≡ are_settled flush.now.seen (effects journal.now flush.now.stream) flush.now.span pages.now) }
 {
@@ -172,7 +172,7 @@ fn is_page_settled(
     flush: &Flush,
     page: u128,
 ) -> Result<bool, NoMemory>
-    requires { AreSizes sizes.now journal.now flush.now.stream }
+    requires { AreSizesOverJournal sizes.now journal.now flush.now.stream }
     ensures { IfOk result (λ settled. settled
         ≡ came_after flush.now.seen (unwritten (effects journal.now flush.now.stream) page)) }
 {

@@ -5,7 +5,7 @@ ghost use Rattle.std.specs.Option.{option_map};
 ghost use Rattle.cc_model.specs.History.{effect_of};
 ghost use Rattle.cc_model.specs.Holds.{holds_of, held_after, hold_at, repinned};
 ghost use Rattle.cc_readers.specs.Effects.{effects};
-ghost use Rattle.cc_readers.specs.HoldReads.{hold_of, holds_in, new_hold, spot_of, kept_hold, pin_by, made_by, changed_by, changed_after, held_by_effect};
+ghost use Rattle.cc_readers.specs.HoldReads.{hold_of_reader, holds_in, new_hold, spot_of, kept_hold, pin_by, range_hold_made_by, changed_by, changed_after, held_by_effect};
 
 use cc_entry::{Call, Entry, FileId, HoldKind, NoMemory, Outcome, StreamId};
 use cc_events::id_in;
@@ -40,7 +40,7 @@ pub struct OpenHold {
 
 /// What a call does to the open hold that it names.
 #[derive(Clone, Copy)]
-pub enum Change {
+pub enum HoldChange {
     /// It becomes a pin.
     Pins { exclusive: bool },
     /// It owes a stamp for so many bytes from a place on.
@@ -119,7 +119,7 @@ fn new_hold(
     kind: HoldKind,
     exclusive: bool,
 ) -> OpenHold
-    ensures { hold_of result ≡ new_hold id pass place kind exclusive }
+    ensures { hold_of_reader result ≡ new_hold id pass place kind exclusive }
 {
     OpenHold {
         id,
@@ -135,7 +135,7 @@ fn new_hold(
 
 // The holds with one more.
 fn with(mut holds: Vec<OpenHold>, hold: OpenHold) -> Result<Vec<OpenHold>, NoMemory>
-    ensures { IfOk result (λ then. holds_in then.items ≡ hold_of hold ∷ holds_in holds.items) }
+    ensures { IfOk result (λ then. holds_in then.items ≡ hold_of_reader hold ∷ holds_in holds.items) }
 {
     holds.insert(0, hold)?;
     Ok(holds)
@@ -160,7 +160,7 @@ fn holds_after(
 
 // The hold that a call makes of a range that it names.
 fn hold_made(alloc: Global, pass: u32, call: &Call, id: u64) -> Result<Option<OpenHold>, NoMemory>
-    ensures { IfOk result (λ made. kept_hold made ≡ made_by pass call.now id) }
+    ensures { IfOk result (λ made. kept_hold made ≡ range_hold_made_by pass call.now id) }
 {
     match call {
         Call::Map { file, at, len } => {
@@ -225,17 +225,17 @@ fn holds_changed(
     match call {
         Call::PinMapped { hold, exclusive } => {
             let exclusive = *exclusive;
-            changed(alloc, before, *hold, Change::Pins { exclusive })
+            changed(alloc, before, *hold, HoldChange::Pins { exclusive })
         }
         Call::PinnedWrite { hold, at, bytes } => {
-            let owes = Change::Owes {
+            let owes = HoldChange::Owes {
                 at: *at,
                 len: bytes.len(),
             };
             changed(alloc, before, *hold, owes)
         }
-        Call::SetDirty { hold, .. } => changed(alloc, before, *hold, Change::Stamps),
-        Call::EndHold { hold } => changed(alloc, before, *hold, Change::Ends),
+        Call::SetDirty { hold, .. } => changed(alloc, before, *hold, HoldChange::Stamps),
+        Call::EndHold { hold } => changed(alloc, before, *hold, HoldChange::Ends),
         Call::Repin { hold } => repin(alloc, before, id, pass, *hold),
         _ => Ok(before),
     }
@@ -273,7 +273,7 @@ fn changed(
     alloc: Global,
     holds: Vec<OpenHold>,
     id: u64,
-    change: Change,
+    change: HoldChange,
 ) -> Result<Vec<OpenHold>, NoMemory>
     ensures { IfOk result (λ then. holds_in then.items ≡ changed_by change id (holds_in holds.items)) }
 {
@@ -291,27 +291,27 @@ fn one_changed(
     alloc: Global,
     mut hold: OpenHold,
     id: u64,
-    change: Change,
+    change: HoldChange,
 ) -> Result<Option<OpenHold>, NoMemory>
-    ensures { IfOk result (λ kept. kept_hold kept ≡ changed_by change id (hold_of hold ∷ [])) }
+    ensures { IfOk result (λ kept. kept_hold kept ≡ changed_by change id (hold_of_reader hold ∷ [])) }
 {
     if hold.id != id {
         return Ok(Some(hold));
     }
     match change {
-        Change::Pins { exclusive } => {
+        HoldChange::Pins { exclusive } => {
             hold.kind = HoldKind::Pin;
             hold.exclusive = exclusive;
             Ok(Some(hold))
         }
-        Change::Owes { at, len } => {
+        HoldChange::Owes { at, len } => {
             hold.owed.insert(0, Owed { at, len })?;
             Ok(Some(hold))
         }
-        Change::Stamps => {
+        HoldChange::Stamps => {
             hold.owed = Vec::new(alloc);
             Ok(Some(hold))
         }
-        Change::Ends => Ok(None),
+        HoldChange::Ends => Ok(None),
     }
 }

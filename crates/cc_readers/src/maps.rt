@@ -9,7 +9,7 @@ ghost use Rattle.cc_events.specs.Events.{objects_after};
 ghost use Rattle.cc_events.specs.Holdings.{place_in};
 
 use cc_entry::{Entry, NoMemory, StreamId};
-use cc_events::{Event, Holding, event_on, holding_on};
+use cc_events::{Holding, StreamEvent, event_on, holding_on};
 use std::alloc::Global;
 
 /// The file objects that have a private cache map, the newest first. Answers `NoMemory` where memory is wanting.
@@ -24,26 +24,26 @@ pub fn open_objects(alloc: Global, journal: &[Entry], stream: StreamId) -> Resul
 }
 
 // The objects after an event.
-fn objects_then(alloc: Global, before: Vec<u8>, event: Event) -> Result<Vec<u8>, NoMemory>
+fn objects_then(alloc: Global, before: Vec<u8>, event: StreamEvent) -> Result<Vec<u8>, NoMemory>
     ensures { IfOk result (λ then. then.items ≡ objects_after event before.items) }
 {
     match event {
-        Event::Opens { object, .. } => {
+        StreamEvent::Opens { object, .. } => {
             let mut then = others(alloc, &before, object)?;
             then.insert(0, object)?;
             Ok(then)
         }
-        Event::Closes { object, .. } => others(alloc, &before, object),
-        Event::Rests
-        | Event::Resizes { .. }
-        | Event::Changes { .. }
-        | Event::Stores { .. }
-        | Event::Stamps { .. }
-        | Event::Discards { .. }
-        | Event::CameIn { .. }
-        | Event::WentOut { .. }
-        | Event::Began { .. }
-        | Event::Ended { .. } => Ok(before),
+        StreamEvent::Closes { object, .. } => others(alloc, &before, object),
+        StreamEvent::Rests
+        | StreamEvent::Resizes { .. }
+        | StreamEvent::Changes { .. }
+        | StreamEvent::Stores { .. }
+        | StreamEvent::Stamps { .. }
+        | StreamEvent::Discards { .. }
+        | StreamEvent::CameIn { .. }
+        | StreamEvent::WentOut { .. }
+        | StreamEvent::Began { .. }
+        | StreamEvent::Ended { .. } => Ok(before),
     }
 }
 

@@ -11,7 +11,7 @@ use crate::dirty::has_map;
 use crate::maps::open_objects;
 use crate::sizes::{sizes, valid};
 use cc_entry::{Call, CcError, Entry, NoMemory, StreamId};
-use cc_events::{Event, event_on};
+use cc_events::{StreamEvent, event_on};
 use cc_reasons::{are_allocated, breaks_rules, cached_file, refuse};
 use std::alloc::Global;
 
@@ -45,11 +45,11 @@ pub fn was_mapped(journal: &[Entry], stream: StreamId) -> bool
 }
 
 // Whether a private cache map is made.
-fn opens(event: Event) -> bool
+fn opens(event: StreamEvent) -> bool
     ensures { result ≡ is_opening event }
 {
     match event {
-        Event::Opens { .. } => true,
+        StreamEvent::Opens { .. } => true,
         _ => false,
     }
 }

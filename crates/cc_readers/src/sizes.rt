@@ -2,18 +2,18 @@
 
 ghost use Rattle.std.specs.Prelude.{◌≡◌, ◌+◌, IfOk, length, vec_len};
 ghost use Rattle.cc_model.specs.Touches.{size_of, valid_of, is_dirty};
-ghost use Rattle.cc_readers.specs.Effects.{effects, AreSizes};
-ghost use Rattle.cc_events.specs.Events.{event_in, size_after, valid_after};
+ghost use Rattle.cc_readers.specs.Effects.{effects, AreSizesOverJournal};
+ghost use Rattle.cc_events.specs.Events.{event_on, size_after, valid_after};
 
 use crate::dirty::{has_map, is_unwritten};
 use crate::touches::truncation_at;
 use cc_entry::{Entry, NoMemory, StreamId};
-use cc_events::{Event, event_on, stored_end};
+use cc_events::{StreamEvent, event_on, stored_end};
 use std::alloc::Global;
 
 /// The size before each entry of a journal, and after the last one. Answers `NoMemory` where memory is wanting.
 pub fn sizes(alloc: Global, journal: &[Entry], stream: StreamId) -> Result<Vec<u64>, NoMemory>
-    ensures each { IfOk result (λ found. AreSizes found.items journal.now stream) }
+    ensures each { IfOk result (λ found. AreSizesOverJournal found.items journal.now stream) }
     ensures count { IfOk result (λ found. length found.items ≡ length journal.now + 1) }
 {
     let mut found = Vec::new(alloc);
@@ -33,34 +33,34 @@ fn size_then(
     sizes: &[u64],
     stream: StreamId,
 ) -> Result<u64, NoMemory>
-    requires { AreSizes sizes.now rest.now stream }
-    ensures { IfOk result (λ size. size ≡ size_after (event_in last.now stream) (effects rest.now stream)) }
+    requires { AreSizesOverJournal sizes.now rest.now stream }
+    ensures { IfOk result (λ size. size ≡ size_after (event_on last.now stream) (effects rest.now stream)) }
 {
     let size = sizes[rest.len()];
     match event_on(last, stream) {
-        Event::Opens { size: given, .. } => {
+        StreamEvent::Opens { size: given, .. } => {
             if has_map(alloc, rest, sizes, stream)? {
                 Ok(size)
             } else {
                 Ok(given)
             }
         }
-        Event::Closes { object, truncate } => {
+        StreamEvent::Closes { object, truncate } => {
             match truncation_at(alloc, rest, stream, size, object, truncate)? {
                 Some(to) => Ok(to),
                 None => Ok(size),
             }
         }
-        Event::Resizes { size: to } => Ok(to),
-        Event::Rests
-        | Event::Changes { .. }
-        | Event::Stores { .. }
-        | Event::Stamps { .. }
-        | Event::Discards { .. }
-        | Event::CameIn { .. }
-        | Event::WentOut { .. }
-        | Event::Began { .. }
-        | Event::Ended { .. } => Ok(size),
+        StreamEvent::Resizes { size: to } => Ok(to),
+        StreamEvent::Rests
+        | StreamEvent::Changes { .. }
+        | StreamEvent::Stores { .. }
+        | StreamEvent::Stamps { .. }
+        | StreamEvent::Discards { .. }
+        | StreamEvent::CameIn { .. }
+        | StreamEvent::WentOut { .. }
+        | StreamEvent::Began { .. }
+        | StreamEvent::Ended { .. } => Ok(size),
     }
 }
 
@@ -101,7 +101,7 @@ pub fn valid_with(
     sizes: &[u64],
     stream: StreamId,
 ) -> Result<u128, NoMemory>
-    requires { AreSizes sizes.now journal.now stream }
+    requires { AreSizesOverJournal sizes.now journal.now stream }
     ensures { IfOk result (λ valid. valid ≡ valid_of (effects journal.now stream)) }
 {
     let mut valid = 0;
@@ -120,34 +120,34 @@ fn valid_then(
     before: u128,
     stream: StreamId,
 ) -> Result<u128, NoMemory>
-    requires sizes { AreSizes sizes.now rest.now stream }
+    requires sizes { AreSizesOverJournal sizes.now rest.now stream }
     requires before { before ≡ valid_of (effects rest.now stream) }
-    ensures { IfOk result (λ valid. valid ≡ valid_after (event_in last.now stream) (effects rest.now stream)) }
+    ensures { IfOk result (λ valid. valid ≡ valid_after (event_on last.now stream) (effects rest.now stream)) }
 {
     let size = sizes[rest.len()];
     match event_on(last, stream) {
-        Event::Opens { valid: given, .. } => {
+        StreamEvent::Opens { valid: given, .. } => {
             if has_map(alloc, rest, sizes, stream)? {
                 Ok(before)
             } else {
                 Ok(u128::from(given))
             }
         }
-        Event::Closes { object, truncate } => {
+        StreamEvent::Closes { object, truncate } => {
             match truncation_at(alloc, rest, stream, size, object, truncate)? {
                 Some(to) => Ok(before.min(u128::from(to))),
                 None => Ok(before),
             }
         }
-        Event::Resizes { size: to } => Ok(before.min(u128::from(to))),
-        Event::Changes { to, .. } => Ok(before.max(to)),
-        Event::Stores { page } => Ok(before.max(stored_end(page, size))),
-        Event::Rests
-        | Event::Stamps { .. }
-        | Event::Discards { .. }
-        | Event::CameIn { .. }
-        | Event::WentOut { .. }
-        | Event::Began { .. }
-        | Event::Ended { .. } => Ok(before),
+        StreamEvent::Resizes { size: to } => Ok(before.min(u128::from(to))),
+        StreamEvent::Changes { to, .. } => Ok(before.max(to)),
+        StreamEvent::Stores { page } => Ok(before.max(stored_end(page, size))),
+        StreamEvent::Rests
+        | StreamEvent::Stamps { .. }
+        | StreamEvent::Discards { .. }
+        | StreamEvent::CameIn { .. }
+        | StreamEvent::WentOut { .. }
+        | StreamEvent::Began { .. }
+        | StreamEvent::Ended { .. } => Ok(before),
     }
 }

@@ -2,9 +2,9 @@
 
 ghost use Rattle.std.specs.Prelude.{◌≡◌, min, max, IfOk};
 ghost use Rattle.cc_model.specs.Touches.{touches};
-ghost use Rattle.cc_entry.specs.Lsns.{joined, alone};
+ghost use Rattle.cc_entry.specs.Lsns.{joined, lsn_alone};
 ghost use Rattle.cc_model.specs.Stamps.{lsns_among, lsns_of};
-ghost use Rattle.cc_readers.specs.Effects.{effects, AreSizes};
+ghost use Rattle.cc_readers.specs.Effects.{effects, AreSizesOverJournal};
 
 use crate::sizes::sizes;
 use crate::touches::touching_by;
@@ -35,7 +35,7 @@ fn lsns_unwritten(
     page: u128,
     ended: bool,
 ) -> Result<Option<(Lsn, Lsn)>, NoMemory>
-    requires { AreSizes sizes.now journal.now stream }
+    requires { AreSizesOverJournal sizes.now journal.now stream }
     ensures { IfOk result (λ lsns. lsns ≡ lsns_among (touches ended (effects journal.now stream) page)) }
 {
     let Some((last, rest)) = journal.split_last() else {
@@ -61,7 +61,7 @@ fn lsns_unwritten(
 
 // The least and the greatest of one LSN.
 fn alone(lsn: Option<Lsn>) -> Option<(Lsn, Lsn)>
-    ensures { result ≡ alone lsn }
+    ensures { result ≡ lsn_alone lsn }
 {
     match lsn {
         Some(lsn) => Some((lsn, lsn)),

@@ -7,12 +7,12 @@ ghost use Rattle.cc_entry.specs.Pages.{has_page};
 ghost use Rattle.cc_model.specs.Sizes.{stored_range};
 ghost use Rattle.cc_model.specs.Touches.{size_of};
 ghost use Rattle.cc_readers.specs.Effects.{effects};
-ghost use Rattle.cc_events.specs.Events.{event_in, truncation_by};
+ghost use Rattle.cc_events.specs.Events.{event_on, truncation_by};
 ghost use Rattle.cc_events.specs.Touchings.{cut_by, touch_if, touching_of};
 
 use crate::maps::{hold_place, open_objects, others};
 use cc_entry::{Entry, Lsn, NoMemory, StreamId};
-use cc_events::{Event, Touching, cut_at, event_on, range_has, span_has, stored_end, touch};
+use cc_events::{StreamEvent, Touching, cut_at, event_on, range_has, span_has, stored_end, touch};
 use std::alloc::Global;
 
 /// What an entry does to the touches of a page, given the entries before it and the size before it. Answers `NoMemory`
@@ -26,50 +26,51 @@ pub fn touching_by(
     page: u128,
 ) -> Result<Touching, NoMemory>
     requires { size ≡ size_of (effects rest.now stream) }
-    ensures { IfOk result (λ what. what ≡ touching_of (event_in last.now stream) (effects rest.now stream) page) }
+    ensures { IfOk result (λ what. what ≡ touching_of (event_on last.now stream) (effects rest.now stream) page) }
 {
     match event_on(last, stream) {
-        Event::Closes { object, truncate } => {
+        StreamEvent::Closes { object, truncate } => {
             let to = truncation_at(alloc, rest, stream, size, object, truncate)?;
             Ok(cut_at(to, page))
         }
-        Event::Resizes { size } => Ok(cut_at(Some(size), page)),
-        Event::Changes { from, to } => Ok(touch(range_has(from, to, page), None)),
-        Event::Stores { page: stored } => {
+        StreamEvent::Resizes { size } => Ok(cut_at(Some(size), page)),
+        StreamEvent::Changes { from, to } => Ok(touch(range_has(from, to, page), None)),
+        StreamEvent::Stores { page: stored } => {
             let from = 4096 * u128::from(stored);
             Ok(touch(range_has(from, stored_end(stored, size), page), None))
         }
-        Event::Stamps { hold, lsn } => Ok(stamp(rest, stream, hold, lsn, page)),
-        Event::Discards { span } => {
+        StreamEvent::Stamps { hold, lsn } => Ok(stamp(rest, stream, hold, lsn, page)),
+        StreamEvent::Discards { span } => {
             if span_has(span, page) {
                 Ok(Touching::Cuts)
             } else {
                 Ok(Touching::Rests)
             }
         }
-        Event::Began { page: begun } => {
+        StreamEvent::Began { page: begun } => {
             if u128::from(begun) == page {
                 Ok(Touching::Begins)
             } else {
                 Ok(Touching::Rests)
             }
         }
-        Event::Ended { page: ended, ok } => {
+        StreamEvent::Ended { page: ended, ok } => {
             if u128::from(ended) == page && ok {
                 Ok(Touching::Ends)
             } else {
                 Ok(Touching::Rests)
             }
         }
-        Event::Rests | Event::Opens { .. } | Event::CameIn { .. } | Event::WentOut { .. } => {
-            Ok(Touching::Rests)
-        }
+        StreamEvent::Rests
+        | StreamEvent::Opens { .. }
+        | StreamEvent::CameIn { .. }
+        | StreamEvent::WentOut { .. } => { Ok(Touching::Rests) }
     }
 }
 
 // What a set-dirty of a hold does to a page.
 fn stamp(rest: &[Entry], stream: StreamId, hold: u64, lsn: Option<Lsn>, page: u128) -> Touching
-    ensures { result ≡ touching_of (Event.Stamps hold lsn) (effects rest.now stream) page }
+    ensures { result ≡ touching_of (StreamEvent.Stamps hold lsn) (effects rest.now stream) page }
 {
     match hold_place(rest, stream, hold) {
         Some((at, len)) => {

@@ -7,7 +7,7 @@ ghost use Rattle.cc_readers.specs.Effects.{effects};
 ghost use Rattle.cc_readers.specs.TransferReads.{is_begin_of, end_of_page, ended_before};
 
 use cc_entry::{Entry, StreamId};
-use cc_events::{Event, event_on};
+use cc_events::{StreamEvent, event_on};
 
 /// Whether the image of a page is known: its last transfer that ended did not fail.
 pub fn is_image_known(journal: &[Entry], stream: StreamId, page: u64) -> bool
@@ -42,39 +42,39 @@ fn has_begun(journal: &[Entry], stream: StreamId, page: u64) -> bool
 }
 
 // Whether a transfer of a page begins.
-fn begins(event: Event, page: u64) -> bool
+fn begins(event: StreamEvent, page: u64) -> bool
     ensures { result ≡ is_begin_of event page }
 {
     match event {
-        Event::Began { page: begun } => begun == page,
+        StreamEvent::Began { page: begun } => begun == page,
         _ => false,
     }
 }
 
 // Whether a transfer of a page ended ok, where it ends.
-fn end_of(event: Event, page: u64) -> Option<bool>
+fn end_of(event: StreamEvent, page: u64) -> Option<bool>
     ensures { result ≡ end_of_page event page }
 {
     match event {
-        Event::Ended { page: ended, ok } => { if ended == page { Some(ok) } else { None } }
+        StreamEvent::Ended { page: ended, ok } => { if ended == page { Some(ok) } else { None } }
         _ => None,
     }
 }
 
 /// Whether a transfer of a page ended ok after the entries before an event, given whether one did after
 /// it; none where the event is the begin of that transfer.
-pub fn ended_from(event: Event, page: u64, ended: bool) -> Option<bool>
+pub fn ended_from(event: StreamEvent, page: u64, ended: bool) -> Option<bool>
     ensures { result ≡ ended_before event page ended }
 {
     match event {
-        Event::Began { page: begun } => {
+        StreamEvent::Began { page: begun } => {
             if ended && begun == page {
                 None
             } else {
                 Some(ended)
             }
         }
-        Event::Ended { page: of, ok } => Some(ended || (of == page && ok)),
+        StreamEvent::Ended { page: of, ok } => Some(ended || (of == page && ok)),
         _ => Some(ended),
     }
 }

@@ -7,7 +7,7 @@ ghost use Rattle.cc_model.specs.Ranges.{cut_range};
 ghost use Rattle.cc_model.specs.Residency.{is_resident};
 ghost use Rattle.cc_model.specs.Settings.{quota_of};
 ghost use Rattle.cc_model.specs.Cache.{views_of, views_taken};
-ghost use Rattle.cc_readers.specs.Effects.{effects, AreSizes};
+ghost use Rattle.cc_readers.specs.Effects.{effects, AreSizesOverJournal};
 ghost use Rattle.cc_model.specs.Views.{no_vacbs, not_resident};
 ghost use Rattle.cc_readers.specs.ViewReads.{first_absent, read_refusal};
 ghost use Rattle.cc_readers.specs.QuotaReads.{quota_asked, quota_given};
@@ -74,7 +74,7 @@ pub fn quota(
     sizes: &[u64],
     stream: StreamId,
 ) -> Result<u8, NoMemory>
-    requires { AreSizes sizes.now journal.now stream }
+    requires { AreSizesOverJournal sizes.now journal.now stream }
     ensures { IfOk result (λ quota. quota ≡ quota_of (effects journal.now stream)) }
 {
     let Some((last, rest)) = journal.split_last() else {

@@ -10,7 +10,7 @@ use Rattle.cc_entry.specs.declared.entry.End.{End}
 use Rattle.cc_entry.specs.declared.entry.Entry.{Entry}
 use Rattle.cc_entry.specs.declared.entry.Entry.TheVariants as entry
 use Rattle.cc_format.proofs.Numbers.{spelled_once}
-use Rattle.cc_format.specs.Spelling.{IsReadAs, Spells}
+use Rattle.cc_format.specs.Spelling.{IsReadAs, SpellsStreamRecord}
 use Rattle.cc_format.specs.declared.record.StreamRecord.{StreamRecord}
 use Rattle.cc_format.specs.declared.record.StreamRecord.TheVariants.{V1, V2}
 use Rattle.cc_model.specs.Allowed.{IsAllowedSoFar}
@@ -19,7 +19,7 @@ use Rattle.cc_model.specs.Good.{IsGoodSoFar}
 use Rattle.cc_model.specs.History.{Effect, effect_of, history}
 use Rattle.cc_model.specs.Images.{crash_pages}
 use Rattle.cc_model.specs.Objects.{had_map}
-use Rattle.cc_model.specs.Records.{first_valid, is_settled, MayRecord, MayTell, record_page, is_record_stored, last_alone, record_settled, crash_records}
+use Rattle.cc_model.specs.Records.{first_valid, is_settled, MayRecord, MayTellValid, record_page, is_record_stored, last_alone, record_settled, crash_records}
 use Rattle.cc_model.specs.Setup.{Setup}
 use Rattle.cc_model.specs.Sizes.{ended_ok}
 use Rattle.cc_model.specs.Touches.{size_of, valid_of}

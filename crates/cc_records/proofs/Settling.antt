@@ -18,7 +18,7 @@ use Rattle.cc_model.specs.Flushed.{settled_since}
 use Rattle.cc_model.specs.Good.{IsGoodSoFar}
 use Rattle.cc_model.specs.History.{Effect, Did, CameIn, WentOut, Began, Ended, Synced, effect_of, history}
 use Rattle.cc_model.specs.Objects.{had_map}
-use Rattle.cc_model.specs.Records.{first_valid, is_stored, is_settled, MayTell}
+use Rattle.cc_model.specs.Records.{first_valid, is_stored, is_settled, MayTellValid}
 use Rattle.cc_model.specs.Sizes.{Touch, ended_ok}
 use Rattle.cc_model.specs.Touches.{touches, valid_of, is_dirty, dirty_pages, unwritten}
 use Rattle.cc_laws.proofs.DirtyAmong.{dirty-among}
@@ -186,7 +186,7 @@ module _ (u : Setup) (pass s : ℕ) (old later since : List Entry)
       (kept-first u old s p (good-rest u later old good-flushed) (omega (arith, some, before)) reached (omega (arith, here, before))))
 
   -- the lesser of what is valid now and what was valid as the flush began may be told
-  pub may-tell : (valid : ℕ) → valid ≤ valid_of (history old s) → valid ≤ valid_of (history (since ++ entry.Sync pass s how.Good ∷ (later ++ old)) s) → MayTell (history (since ++ entry.Sync pass s how.Good ∷ (later ++ old)) s) valid
+  pub may-tell : (valid : ℕ) → valid ≤ valid_of (history old s) → valid ≤ valid_of (history (since ++ entry.Sync pass s how.Good ∷ (later ++ old)) s) → MayTellValid (history (since ++ entry.Sync pass s how.Good ∷ (later ++ old)) s) valid
   may-tell valid before after p some reached here = go (had_map (history old s)) refl
     where
       steady : IsSteady (history old s)

@@ -21,8 +21,8 @@ use Rattle.cc_model.specs.Ranges.{span_has}
 use Rattle.cc_model.specs.Records.{first_valid, is_stored}
 use Rattle.cc_model.specs.Sizes.{Sizes, Touch, ended_ok}
 use Rattle.cc_model.specs.Touches.{sizes, touches, valid_of, is_dirty}
-use Rattle.cc_laws.specs.ByPlaces.{act_discards, ends, ends_well}
-use Rattle.cc_laws.specs.ByPlacesDirty.{IsWritten}
+use Rattle.cc_laws.specs.ByPlaces.{act_discards, ends_page_transfer, ends_well}
+use Rattle.cc_laws.specs.ByPlacesDirty.{IsTransferredSince}
 use Rattle.cc_laws.specs.ByPlacesGrown.{GrownByte}
 use Rattle.cc_laws.proofs.ImageSteps.{begun-began_page, image-ended_bad, image-ended_other}
 use Rattle.cc_laws.proofs.KeptBytes.{IsKeptByte-done}
@@ -56,21 +56,21 @@ open-begun (Synced by how ∷ h) pass p under = open-begun h pass p under
 -- whether a transfer of the page ended
 abbrev has_end : List Effect → ℕ → Bool
 has_end [] p = false
-has_end (e ∷ h) p = ends p e || has_end h p
+has_end (e ∷ h) p = ends_page_transfer p e || has_end h p
 
-has_end-at : (after : List Effect) (e : Effect) (front : List Effect) (p : ℕ) → ends p e ≡ true → has_end (after ++ e ∷ front) p ≡ true
+has_end-at : (after : List Effect) (e : Effect) (front : List Effect) (p : ℕ) → ends_page_transfer p e ≡ true → has_end (after ++ e ∷ front) p ≡ true
 has_end-at [] e front p is = rw is refl
-has_end-at (first ∷ after) e front p is = or_right (ends p first) _ (has_end-at after e front p is)
+has_end-at (first ∷ after) e front p is = or_right (ends_page_transfer p first) _ (has_end-at after e front p is)
 
 has_end-before : (later before : List Effect) (p : ℕ) → has_end later p ≡ true → has_end (later ++ before) p ≡ true
 has_end-before [] before p is = absurd (cc)
-has_end-before (e ∷ later) before p is = go (ends p e) refl (has_end-before later before p)
+has_end-before (e ∷ later) before p is = go (ends_page_transfer p e) refl (has_end-before later before p)
   where
-    go : (b : Bool) → ends p e ≡ b → (has_end later p ≡ true → has_end (later ++ before) p ≡ true) → (ends p e || has_end (later ++ before) p) ≡ true
+    go : (b : Bool) → ends_page_transfer p e ≡ b → (has_end later p ≡ true → has_end (later ++ before) p ≡ true) → (ends_page_transfer p e || has_end (later ++ before) p) ≡ true
     go true here rest = rw here refl
     go false away rest = rw away (rest (ap (λ b. b || has_end later p) (sym away) ∙ is))
 
-ended-well : (e : Effect) (p : ℕ) → ends_well p e ≡ true → ends p e ≡ true
+ended-well : (e : Effect) (p : ℕ) → ends_well p e ≡ true → ends_page_transfer p e ≡ true
 ended-well (Ended pass page how) p is = (and_parts (page == p) (ended_ok how) is).0
 ended-well (Did pass call reply) p is = absurd (cc)
 ended-well (CameIn pass page from_disk) p is = absurd (cc)
@@ -78,7 +78,7 @@ ended-well (WentOut pass page) p is = absurd (cc)
 ended-well (Began pass page) p is = absurd (cc)
 ended-well (Synced pass how) p is = absurd (cc)
 
-written-ends : (h later before : List Effect) (p : ℕ) → h ≡ later ++ before → IsWritten later p → has_end h p ≡ true
+written-ends : (h later before : List Effect) (p : ℕ) → h ≡ later ++ before → IsTransferredSince later p → has_end h p ≡ true
 written-ends h later before p places written =
     let within : has_end later p ≡ true = ap (λ l. has_end l p) written.places ∙ has_end-at written.after written.ok_end _ p (ended-well written.ok_end p written.ends_it) in
     ap (λ l. has_end l p) places ∙ has_end-before later before p within

@@ -66,7 +66,7 @@ RecordStopped me s first (error.WriteFault page) old new =
 RecordStopped me s first other old new = ⊥
 
 -- The state of a file was told, and then, from the moment `begun` on, its whole stream was flushed.
-pub record HasFlushed (u : Setup) (me : ℕ) (file : File) (told : FileState) (begun old new : List Entry) : Type 0 where
+pub record StreamHasFlushed (u : Setup) (me : ℕ) (file : File) (told : FileState) (begun old new : List Entry) : Type 0 where
   pub stated : List Entry
   pub state : CallLeft u me (call.State file) (outcome.Done (reply.State told)) old stated
   pub idle : IsIdle me stated begun
@@ -75,11 +75,11 @@ pub record HasFlushed (u : Setup) (me : ℕ) (file : File) (told : FileState) (b
 -- A stream was settled: its state was told, it was flushed, and its record was written and the disk synced. The record tells the
 -- size of its front, and the lesser of the valid data lengths there and as the flush began; these are answered, and else what
 -- the state had.
-pub record IsSettled (u : Setup) (me : ℕ) (file : File) (answer : FileState) (old new : List Entry) : Type 0 where
+pub record StreamIsSettled (u : Setup) (me : ℕ) (file : File) (answer : FileState) (old new : List Entry) : Type 0 where
   pub told : FileState
   pub begun : List Entry
   pub flushed : List Entry
-  pub has_flushed : HasFlushed u me file told begun old flushed
+  pub has_flushed : StreamHasFlushed u me file told begun old flushed
   pub recorded :
       SyncedRecord me file.stream (valid_of (history begun file.stream)) answer.sizes.size answer.sizes.valid how.Good flushed new
   pub allocation : answer.sizes.allocation ≡ told.sizes.allocation
@@ -99,13 +99,13 @@ pub record IsUnrecorded (u : Setup) (me : ℕ) (file : File) (e : CcError) (old 
   pub told : FileState
   pub begun : List Entry
   pub flushed : List Entry
-  pub has_flushed : HasFlushed u me file told begun old flushed
+  pub has_flushed : StreamHasFlushed u me file told begun old flushed
   pub stopped : RecordStopped me file.stream (valid_of (history begun file.stream)) e flushed new
 
 -- What the settling of a stream leaves, by cases over its answer: it was settled; or its state was refused, or its flush failed,
 -- or its record.
 abbrev pub SettleLeft : Setup → ℕ → File → Result FileState CcError → Between
-SettleLeft u me file (Ok answer) old new = IsSettled u me file answer old new
+SettleLeft u me file (Ok answer) old new = StreamIsSettled u me file answer old new
 SettleLeft u me file (Err e) old new =
     CallLeft u me (call.State file) (outcome.Failed e) old new
     ⊎ (IsUnflushed u me file e old new ⊎ IsUnrecorded u me file e old new)

@@ -10,7 +10,7 @@ ghost use Rattle.cc_model.specs.Flushed.{settled_since};
 ghost use Rattle.cc_model.specs.Good.{IsGoodSoFar};
 ghost use Rattle.cc_model.specs.History.{history};
 ghost use Rattle.cc_model.specs.Images.{crash_pages};
-ghost use Rattle.cc_model.specs.Records.{crash_records, first_valid, is_stored, MayTell};
+ghost use Rattle.cc_model.specs.Records.{crash_records, first_valid, is_stored, MayTellValid};
 ghost use Rattle.cc_model.specs.Setup.{Setup};
 ghost use Rattle.cc_model.specs.Touches.{valid_of, is_dirty};
 ghost use Rattle.cc_records.specs.Calm.{IsCalm};
@@ -33,7 +33,7 @@ pub fn flushed_lengths_may_be_told()
         settled_since (length (history old s)) (history (later ++ old) s) None ≡ true → (valid : ℕ) →
         valid ≤ valid_of (history old s) →
         valid ≤ valid_of (history (since ++ entry.Sync pass s how.Good ∷ (later ++ old)) s) →
-        MayTell (history (since ++ entry.Sync pass s how.Good ∷ (later ++ old)) s) valid }
+        MayTellValid (history (since ++ entry.Sync pass s how.Good ∷ (later ++ old)) s) valid }
 {}
 
 /// Whatever a crash leaves of a stream's record page and of a page of its disk: each byte of the page below the valid data

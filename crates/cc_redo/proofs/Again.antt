@@ -5,7 +5,7 @@ use Rattle.std.specs.declared.option.Option.TheVariants.{Some, None}
 use Rattle.std.proofs.Common.{ap, sym, ◌∙◌, arith}
 use Rattle.cc_redo.specs.declared.redo.Redo.{Redo}
 use Rattle.cc_redo.specs.declared.scan.ReadEntry.{ReadEntry}
-use Rattle.cc_redo.specs.Heard.{Change, change_said, end_of, raised, valid_behind}
+use Rattle.cc_redo.specs.Heard.{Change, change_said, end_of_change, raised_by_change, valid_behind}
 use Rattle.cc_redo.specs.Changes.{byte_after, bytes_after, page_after}
 use Rattle.cc_redo.proofs.Patches.{after-cons, after-none}
 
@@ -22,7 +22,7 @@ byte-again [] (suc n) page place byte = refl
 byte-again (change ∷ changes) zero page place byte = refl
 byte-again (change ∷ changes) (suc n) page place byte =
     once_more
-    (nat_lt place 4096 && (nat_le change.at (4096 * page + place) && nat_lt (4096 * page + place) (end_of change)))
+    (nat_lt place 4096 && (nat_le change.at (4096 * page + place) && nat_lt (4096 * page + place) (end_of_change change)))
     (slice_index change.bytes (4096 * page + place - change.at))
     byte
     (byte_after changes page place) (byte_after (take n changes) page place) (byte-again changes n page place)
@@ -53,11 +53,11 @@ page-from (change ∷ changes) (suc k) (suc n) page bytes le =
     ∙ sym (after-cons change changes page 0 bytes)
 
 -- the same of the greatest of a number and the ends of changes
-raised-least : (valid : ℕ) (change : Option Change) → valid ≤ raised valid change
+raised-least : (valid : ℕ) (change : Option Change) → valid ≤ raised_by_change valid change
 raised-least valid None = omega arith
 raised-least valid (Some change) = omega arith
 
-raised-again : (reached valid : ℕ) (change : Option Change) → raised valid change ≤ reached → raised reached change ≡ reached
+raised-again : (reached valid : ℕ) (change : Option Change) → raised_by_change valid change ≤ reached → raised_by_change reached change ≡ reached
 raised-again reached valid None h = refl
 raised-again reached valid (Some change) h = omega arith
 
@@ -65,15 +65,15 @@ behind-least : (entries : List ReadEntry) (redo : Redo) (valid : ℕ) → valid 
 behind-least [] redo valid = omega arith
 behind-least (entry ∷ entries) redo valid =
     let first = raised-least valid (change_said redo entry.says) in
-    let rest = behind-least entries redo (raised valid (change_said redo entry.says)) in
+    let rest = behind-least entries redo (raised_by_change valid (change_said redo entry.says)) in
     omega arith
 
 pub valid-again : (entries : List ReadEntry) (redo : Redo) (valid : ℕ) →
     valid_behind entries redo (valid_behind entries redo valid) ≡ valid_behind entries redo valid
 valid-again [] redo valid = refl
 valid-again (entry ∷ entries) redo valid =
-    let here = raised valid (change_said redo entry.says) in
+    let here = raised_by_change valid (change_said redo entry.says) in
     let reached = valid_behind entries redo here in
-    let same : raised reached (change_said redo entry.says) ≡ reached =
+    let same : raised_by_change reached (change_said redo entry.says) ≡ reached =
     raised-again reached valid (change_said redo entry.says) (behind-least entries redo here) in
     ap (λ (v : ℕ). valid_behind entries redo v) same ∙ valid-again entries redo here

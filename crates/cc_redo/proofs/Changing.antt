@@ -11,10 +11,10 @@ use Rattle.cc_traits.specs.Told.{Both, IfTold}
 use Rattle.cc_traits.specs.Disk.{Disk, page_of}
 use Rattle.cc_redo.specs.declared.redo.Redo.{Redo}
 use Rattle.cc_redo.specs.declared.scan.ReadEntry.{ReadEntry}
-use Rattle.cc_redo.specs.Heard.{Change, change_said, end_of, redone_by, redone_of}
+use Rattle.cc_redo.specs.Heard.{Change, change_said, end_of_change, redone_by, redone_of}
 use Rattle.cc_redo.specs.Changes.{page_after}
 use Rattle.cc_redo.specs.Disks.{changed_page}
-use Rattle.cc_redo.specs.Scanned.{Holds, IsWriting}
+use Rattle.cc_redo.specs.Scanned.{HoldsMadePages, IsPartlyWritten}
 use Rattle.cc_redo.proofs.Keeping.{told-both, told-map}
 use Rattle.cc_redo.proofs.Options.{both-if, both-same, chosen, passed}
 use Rattle.cc_redo.proofs.Patches.{after-cons, after-none, empty-stays, untouched}
@@ -51,7 +51,7 @@ changing-step change n old now new disk changing changed others = record {
 abbrev pub IsChanged : Change → (ℕ → Option (List ℕ)) → (ℕ → Option (List ℕ)) → Disk → Type 0
 IsChanged change old now disk = (page : ℕ) → page_by now disk page ≡ page_after (change ∷ []) page (page_by old disk page)
 
-pub changing-done : (change : Change) (n : ℕ) (old now : ℕ → Option (List ℕ)) (disk : Disk) → end_of change ≤ 4096 * n → IsChanging change n old now disk →
+pub changing-done : (change : Change) (n : ℕ) (old now : ℕ → Option (List ℕ)) (disk : Disk) → end_of_change change ≤ 4096 * n → IsChanging change n old now disk →
     IsChanged change old now disk
 changing-done change n old now disk last changing = λ page. page_at page (cases_lt page n)
   where
@@ -88,7 +88,7 @@ pub redoing-done : (redo : Redo) (from : ℕ) (entries : List ReadEntry) (kept :
 redoing-done redo from entries kept disk redoing = λ page. sym (after-none page 0 (page_by kept disk page)) ∙ redoing page
 
 -- pages that are to be written, by what is made of them
-pub writing-same : (made other : ℕ → List ℕ) (old new : Disk) → ((page : ℕ) → made page ≡ other page) → IsWriting made old new → IsWriting other old new
+pub writing-same : (made other : ℕ → List ℕ) (old new : Disk) → ((page : ℕ) → made page ≡ other page) → IsPartlyWritten made old new → IsPartlyWritten other old new
 writing-same made other old new same writing = record {
   pages = record {
     holds = writing.pages.holds;
@@ -97,7 +97,7 @@ writing-same made other old new same writing = record {
   stands = writing.stands;
 }
 
-pub holds-same : (made other : ℕ → List ℕ) (new : Disk) → ((page : ℕ) → made page ≡ other page) → Holds made new → Holds other new
+pub holds-same : (made other : ℕ → List ℕ) (new : Disk) → ((page : ℕ) → made page ≡ other page) → HoldsMadePages made new → HoldsMadePages other new
 holds-same made other new same holds = λ page. holds page ∙ same page
 
 -- the entries one by one
@@ -162,20 +162,20 @@ entries-done told redo from i entries kept all redoing =
 -- the pages that are kept are written
 pub redo-writing : (old mid new : Option Disk) (kept : ℕ → Option (List ℕ)) (changes : List Change) → mid ≡ old →
     IfTold old (λ disk. (page : ℕ) → page_by kept disk page ≡ changed_page changes disk page) →
-    Both mid new (λ o n. IsWriting (page_by kept o) o n) → Both old new (λ o n. IsWriting (changed_page changes o) o n)
+    Both mid new (λ o n. IsPartlyWritten (page_by kept o) o n) → Both old new (λ o n. IsPartlyWritten (changed_page changes o) o n)
 redo-writing old mid new kept changes same made writing =
-    both-if (λ disk. (page : ℕ) → page_by kept disk page ≡ changed_page changes disk page) (λ o n. IsWriting (page_by kept o) o n) (λ o n. IsWriting (changed_page changes o) o n) old new
+    both-if (λ disk. (page : ℕ) → page_by kept disk page ≡ changed_page changes disk page) (λ o n. IsPartlyWritten (page_by kept o) o n) (λ o n. IsPartlyWritten (changed_page changes o) o n) old new
     (λ o n is w. writing-same (page_by kept o) (changed_page changes o) o n is w)
-    made (subst (λ (m : Option Disk). Both m new (λ o n. IsWriting (page_by kept o) o n)) same writing)
+    made (subst (λ (m : Option Disk). Both m new (λ o n. IsPartlyWritten (page_by kept o) o n)) same writing)
 
 pub redo-written : {A E : Type 0} (answer : Result A E) (old mid new : Option Disk) (kept : ℕ → Option (List ℕ)) (changes : List Change) → mid ≡ old →
     IfTold old (λ disk. (page : ℕ) → page_by kept disk page ≡ changed_page changes disk page) →
-    OnOk answer (Both mid new (λ o n. Holds (page_by kept o) n)) → OnOk answer (Both old new (λ o n. Holds (changed_page changes o) n))
+    OnOk answer (Both mid new (λ o n. HoldsMadePages (page_by kept o) n)) → OnOk answer (Both old new (λ o n. HoldsMadePages (changed_page changes o) n))
 redo-written (Err e) old mid new kept changes same made holds = tt
 redo-written (Ok a) old mid new kept changes same made holds =
-    both-if (λ disk. (page : ℕ) → page_by kept disk page ≡ changed_page changes disk page) (λ o n. Holds (page_by kept o) n) (λ o n. Holds (changed_page changes o) n) old new
+    both-if (λ disk. (page : ℕ) → page_by kept disk page ≡ changed_page changes disk page) (λ o n. HoldsMadePages (page_by kept o) n) (λ o n. HoldsMadePages (changed_page changes o) n) old new
     (λ o n is h. holds-same (page_by kept o) (changed_page changes o) n is h)
-    made (subst (λ (m : Option Disk). Both m new (λ o n. Holds (page_by kept o) n)) same holds)
+    made (subst (λ (m : Option Disk). Both m new (λ o n. HoldsMadePages (page_by kept o) n)) same holds)
 
-pub redo-begun : (old new : Option Disk) (changes : List Change) → new ≡ old → Both old new (λ o n. IsWriting (changed_page changes o) o n)
-redo-begun old new changes same = both-same (λ o n. IsWriting (changed_page changes o) o n) old new (λ a. writing-begun (changed_page changes a) a) same
+pub redo-begun : (old new : Option Disk) (changes : List Change) → new ≡ old → Both old new (λ o n. IsPartlyWritten (changed_page changes o) o n)
+redo-begun old new changes same = both-same (λ o n. IsPartlyWritten (changed_page changes o) o n) old new (λ a. writing-begun (changed_page changes a) a) same

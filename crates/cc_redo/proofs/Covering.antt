@@ -14,16 +14,16 @@ use Rattle.cc_traits.specs.Told.{Both}
 use Rattle.cc_traits.specs.Disk.{Disk, Settled, WriteFailed, Wrote}
 use Rattle.cc_redo.specs.declared.redo.Redo.{Redo}
 use Rattle.cc_redo.specs.declared.scan.ReadEntry.{ReadEntry}
-use Rattle.cc_redo.specs.Heard.{Change, end_of, redone_by, redone_of}
-use Rattle.cc_redo.specs.Changes.{covers, is_changed}
+use Rattle.cc_redo.specs.Heard.{Change, end_of_change, redone_by, redone_of}
+use Rattle.cc_redo.specs.Changes.{change_covers, is_changed}
 use Rattle.cc_redo.specs.Disks.{record_number}
 use Rattle.cc_redo.specs.Scanned.{DataIsSettled, IsPagesRefusal, IsReadRefusal, IsSettleRefusal, IsWriteRefusal, write_refusal_of}
 use Rattle.cc_redo.proofs.Options.{both-then}
 use Rattle.cc_redo.proofs.Writes.{all-settled, settling-behind, settling-failed, settling-wrote}
 
 -- a page in which a change that has bytes ends and begins
-pub covers-within : (change : Change) (page : ℕ) → change.at < end_of change → change.at < 4096 * page + 4096 → 4096 * page < end_of change →
-    covers change page ≡ true
+pub covers-within : (change : Change) (page : ℕ) → change.at < end_of_change change → change.at < 4096 * page + 4096 → 4096 * page < end_of_change change →
+    change_covers change page ≡ true
 covers-within change page some begins ends = grind (arith, nat_tests)
 
 or-right : (b c : Bool) → c ≡ true → (b || c) ≡ true
@@ -42,15 +42,15 @@ changed-behind redo from first rest page None none later =
     ap (λ (l : List Change). is_changed l page) same ∙ later
 changed-behind redo from first rest page (Some change) some later =
     let same : redone_of redo from (first ∷ rest) ≡ change ∷ redone_of redo from rest = rw some refl in
-    ap (λ (l : List Change). is_changed l page) same ∙ or-right (covers change page) (is_changed (redone_of redo from rest) page) later
+    ap (λ (l : List Change). is_changed l page) same ∙ or-right (change_covers change page) (is_changed (redone_of redo from rest) page) later
 
 pub changed-by : (redo : Redo) (from : ℕ) (entries : List ReadEntry) (i : ℕ) (entry : ReadEntry) (change : Change) (page : ℕ) → i < length entries →
-    entry ≡ get_or entries i entry → redone_by redo from entry ≡ Some change → covers change page ≡ true → is_changed (redone_of redo from entries) page ≡ true
+    entry ≡ get_or entries i entry → redone_by redo from entry ≡ Some change → change_covers change page ≡ true → is_changed (redone_of redo from entries) page ≡ true
 changed-by redo from [] i entry change page below is some covered = absurd (omega arith)
 changed-by redo from (first ∷ rest) zero entry change page below is some covered =
     let here : redone_by redo from first ≡ Some change = ap (redone_by redo from) (sym is) ∙ some in
     let same : redone_of redo from (first ∷ rest) ≡ change ∷ redone_of redo from rest = rw here refl in
-    ap (λ (l : List Change). is_changed l page) same ∙ or-left (covers change page) (is_changed (redone_of redo from rest) page) covered
+    ap (λ (l : List Change). is_changed l page) same ∙ or-left (change_covers change page) (is_changed (redone_of redo from rest) page) covered
 changed-by redo from (first ∷ rest) (suc i) entry change page below is some covered =
     changed-behind redo from first rest page (redone_by redo from first) refl (changed-by redo from rest i entry change page (omega arith) is some covered)
 
@@ -60,24 +60,24 @@ unchanged true e t = absurd (cc)
 unchanged false e t = absurd (cc)
 
 pub spared-by : (redo : Redo) (from : ℕ) (entries : List ReadEntry) (i : ℕ) (entry : ReadEntry) (change : Change) (page : ℕ) → i < length entries →
-    entry ≡ get_or entries i entry → redone_by redo from entry ≡ Some change → is_changed (redone_of redo from entries) page ≡ false → covers change page ≡ false
-spared-by redo from entries i entry change page below is some none = by (covers change page) refl
+    entry ≡ get_or entries i entry → redone_by redo from entry ≡ Some change → is_changed (redone_of redo from entries) page ≡ false → change_covers change page ≡ false
+spared-by redo from entries i entry change page below is some none = by (change_covers change page) refl
   where
-    by : (b : Bool) → covers change page ≡ b → covers change page ≡ false
+    by : (b : Bool) → change_covers change page ≡ b → change_covers change page ≡ false
     by false e = e
     by true e = absurd (unchanged (is_changed (redone_of redo from entries) page) none (changed-by redo from entries i entry change page below is some e))
 
 -- pages that are kept, of a change and of entries
 abbrev pub IsApart : Change → BTreeMap ℕ (List ℕ) → BTreeMap ℕ (List ℕ) → Type 0
-IsApart change old now = (page : ℕ) → covers change page ≡ false → get nat_cmp now page ≡ get nat_cmp old page
+IsApart change old now = (page : ℕ) → change_covers change page ≡ false → get nat_cmp now page ≡ get nat_cmp old page
 
 abbrev pub AreChanged : List Change → BTreeMap ℕ (List ℕ) → Type 0
 AreChanged changes kept = (page : ℕ) → is_changed changes page ≡ false → get nat_cmp kept page ≡ None
 
-pub apart-step : (change : Change) (k : ℕ) (old now new : BTreeMap ℕ (List ℕ)) → covers change k ≡ true →
+pub apart-step : (change : Change) (k : ℕ) (old now new : BTreeMap ℕ (List ℕ)) → change_covers change k ≡ true →
     ((q : ℕ) → q ≢ k → get nat_cmp new q ≡ get nat_cmp now q) → IsApart change old now → IsApart change old new
 apart-step change k old now new covered others before = λ page e.
-    others page (λ same. unchanged (covers change page) e (subst (λ (p : ℕ). covers change p ≡ true) (sym same) covered)) ∙ before page e
+    others page (λ same. unchanged (change_covers change page) e (subst (λ (p : ℕ). change_covers change p ≡ true) (sym same) covered)) ∙ before page e
 
 pub changed-kept : (changes : List Change) (kept : BTreeMap ℕ (List ℕ)) (page : ℕ) → AreChanged changes kept → is_some (get nat_cmp kept page) ≡ true →
     is_changed changes page ≡ true

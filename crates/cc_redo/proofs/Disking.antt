@@ -6,7 +6,7 @@ use Rattle.std.proofs.lemmas.Bool.{cases_lt}
 use Rattle.std.proofs.lemmas.Option.{same_Some, slice_get_within}
 use Rattle.cc_redo.specs.declared.redo.Redo.{Redo}
 use Rattle.cc_redo.specs.Ends.{DisksDiffer, EachDisk, OneFailed}
-use Rattle.cc_redo.specs.Stages.{IsReached}
+use Rattle.cc_redo.specs.Stages.{StageIsReached}
 
 pub get-set_same : {D : Type 0} (xs : List D) (i : ℕ) (y : D) → i < length xs → slice_get (set xs i y) i ≡ Some y
 get-set_same [] i y inside = absurd (omega arith)
@@ -27,7 +27,7 @@ pub record Changed {D : Type 0} (k : ℕ) (here next : D) (now new : List D) : T
   pub others : (other : ℕ) → k ≢ other → slice_get new other ≡ slice_get now other
   pub count : length new ≡ length now
 
-pub reached-begun : {D : Type 0} (streams : List Redo) (P : Redo → D → D → Type 0) (old : List D) → IsReached streams 0 P old old
+pub reached-begun : {D : Type 0} (streams : List Redo) (P : Redo → D → D → Type 0) (old : List D) → StageIsReached streams 0 P old old
 reached-begun streams P old = record {
   behind = λ i redo was here below _ _ _. absurd (omega arith);
   ahead = λ i redo _ _. refl;
@@ -42,12 +42,12 @@ disks-apart streams i j one other differ is also apart = λ same. apart (differ 
 
 -- what a stream's disk was as the first ones were reached
 pub reached-was : {D : Type 0} (streams : List Redo) (n : ℕ) (P : Redo → D → D → Type 0) (old now : List D) (redo : Redo) (here : D) →
-    slice_get streams n ≡ Some redo → IsReached streams n P old now → slice_get now redo.disk ≡ Some here → slice_get old redo.disk ≡ Some here
+    slice_get streams n ≡ Some redo → StageIsReached streams n P old now → slice_get now redo.disk ≡ Some here → slice_get old redo.disk ≡ Some here
 reached-was streams n P old now redo here is reached held = sym (reached.ahead n redo (omega arith) is) ∙ held
 
 pub reached-step : {D : Type 0} (streams : List Redo) (n : ℕ) (P : Redo → D → D → Type 0) (old now new : List D) (redo : Redo) (here next : D) →
-    DisksDiffer streams → slice_get streams n ≡ Some redo → IsReached streams n P old now → Changed redo.disk here next now new → P redo here next →
-    IsReached streams (n + 1) P old new
+    DisksDiffer streams → slice_get streams n ≡ Some redo → StageIsReached streams n P old now → Changed redo.disk here next now new → P redo here next →
+    StageIsReached streams (n + 1) P old new
 reached-step {D} streams n P old now new redo here next differ is reached changed holds = record {
   behind = λ i one was last below of old_is new_is. behind_at i one was last below of old_is new_is (cases_lt i n);
   ahead = λ i one after of. changed.others one.disk (disks-apart streams n i redo one differ is of (λ e. omega arith)) ∙ reached.ahead i one (omega arith) of;
@@ -69,7 +69,7 @@ reached-step {D} streams n P old now new redo here next differ is reached change
 
 -- all were reached
 pub reached-all : {D : Type 0} (streams : List Redo) (n : ℕ) (P : Redo → D → D → Type 0) (old now : List D) → length streams ≤ n →
-    IsReached streams n P old now → EachDisk streams P old now
+    StageIsReached streams n P old now → EachDisk streams P old now
 reached-all streams n P old now all reached = record {
   given = λ i redo was here is old_is now_is. reached.behind i redo was here (let inside = slice_get_within streams i redo is in omega arith) is old_is now_is;
   others = reached.others;
@@ -79,7 +79,7 @@ reached-all streams n P old now all reached = record {
 -- some were, and the others are as they were
 pub reached-some : {D : Type 0} (streams : List Redo) (n : ℕ) (P Q : Redo → D → D → Type 0) (old now : List D) →
     ((redo : Redo) (was here : D) → P redo was here → Q redo was here) → ((redo : Redo) (d : D) → Q redo d d) →
-    IsReached streams n P old now → EachDisk streams Q old now
+    StageIsReached streams n P old now → EachDisk streams Q old now
 reached-some {D} streams n P Q old now weaker itself reached = record {
   given = λ i redo was here is old_is now_is. given_at i redo was here is old_is now_is (cases_lt i n);
   others = reached.others;
@@ -124,7 +124,7 @@ each-same {D} streams Q old new same itself = subst (λ (l : List D). EachDisk s
 
 -- a disk that failed behind disks that were reached and did not
 pub failed-at : {D : Type 0} (faults : D → ℕ) (Q : Redo → D → D → Type 0) (streams : List Redo) (n : ℕ) (P : Redo → D → D → Type 0) (old now new : List D)
-    (redo : Redo) (here next : D) → slice_get streams n ≡ Some redo → IsReached streams n P old now → Changed redo.disk here next now new →
+    (redo : Redo) (here next : D) → slice_get streams n ≡ Some redo → StageIsReached streams n P old now → Changed redo.disk here next now new →
     faults next ≡ faults here + 1 → Q redo here next → OneFailed faults Q streams old new
 failed-at faults Q streams n P old now new redo here next is reached changed failed of_it =
     (n, redo, here, next, is, reached-was streams n P old now redo here is reached changed.was, changed.is, failed, of_it)

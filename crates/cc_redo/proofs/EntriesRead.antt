@@ -4,7 +4,7 @@ use Rattle.std.specs.declared.option.Option.{Option}
 use Rattle.std.specs.declared.option.Option.TheVariants.{Some, None}
 use Rattle.std.proofs.Common.{ap, sym, subst, ◌∙◌, arith}
 use Rattle.cc_traits.specs.Told.{IfTold}
-use Rattle.cc_traits.specs.Log.{Log, LogEntry, Holds, IsRead}
+use Rattle.cc_traits.specs.Log.{Log, LogEntry, HoldsEntry, LogEntryIsRead}
 use Rattle.cc_redo.specs.declared.scan.ReadEntry.{ReadEntry}
 use Rattle.cc_redo.specs.Heard.{reading, readings}
 use Rattle.cc_redo.specs.Reading.{said_by}
@@ -41,7 +41,7 @@ take-all {A} (y ∷ xs) (suc n) h = ap (λ (l : List A). y ∷ l) (take-all xs n
 
 -- one more
 read-one : (log : Log) (n lsn : ℕ) (bytes : List ℕ) (items : List ReadEntry) (held : Option LogEntry) → slice_get log.entries n ≡ held →
-    IsRead held (Some lsn) bytes → HasRead n items log → HasRead (suc n) (items ++ record { lsn = lsn; says = said_by bytes } ∷ []) log
+    LogEntryIsRead held (Some lsn) bytes → HasRead n items log → HasRead (suc n) (items ++ record { lsn = lsn; says = said_by bytes } ∷ []) log
 read-one log n lsn bytes items None is read has = absurd (cc)
 read-one log n lsn bytes items (Some entry) is read has =
     let its_lsn : lsn ≡ entry.lsn = cc in
@@ -58,7 +58,7 @@ read-one log n lsn bytes items (Some entry) is read has =
     one : {lsn : ℕ} {bytes : List ℕ} {entry : LogEntry} → lsn ≡ entry.lsn → bytes ≡ entry.bytes → (let r : ReadEntry = record { lsn = lsn; says = said_by bytes } in r) ≡ reading entry
     one {lsn} {bytes} {entry} its_lsn its_bytes = rw (its_lsn, its_bytes) refl
 
-pub read-more : (told : Option Log) (n lsn : ℕ) (bytes : List ℕ) (items : List ReadEntry) → IfTold told (HasRead n items) → IfTold told (Holds n (Some lsn) bytes) →
+pub read-more : (told : Option Log) (n lsn : ℕ) (bytes : List ℕ) (items : List ReadEntry) → IfTold told (HasRead n items) → IfTold told (HoldsEntry n (Some lsn) bytes) →
     IfTold told (HasRead (n + 1) (items ++ record { lsn = lsn; says = said_by bytes } ∷ []))
 read-more None n lsn bytes items has holds = tt
 read-more (Some log) n lsn bytes items has holds =
@@ -68,13 +68,13 @@ read-more (Some log) n lsn bytes items has holds =
 
 -- no more
 read-end : (log : Log) (n : ℕ) (bytes : List ℕ) (items : List ReadEntry) (held : Option LogEntry) → slice_get log.entries n ≡ held →
-    IsRead held None bytes → HasRead n items log → (items ≡ readings log.entries) × (length log.entries ≤ n)
+    LogEntryIsRead held None bytes → HasRead n items log → (items ≡ readings log.entries) × (length log.entries ≤ n)
 read-end log n bytes items None is read has =
     let short : length log.entries ≤ n = past log.entries n is in
     (has.so_far ∙ ap readings (take-all log.entries n short), short)
 read-end log n bytes items (Some entry) is read has = absurd (cc)
 
-pub read-all : (told : Option Log) (n : ℕ) (bytes : List ℕ) (items : List ReadEntry) → n ≤ 4194304 → IfTold told (HasRead n items) → IfTold told (Holds n None bytes) →
+pub read-all : (told : Option Log) (n : ℕ) (bytes : List ℕ) (items : List ReadEntry) → n ≤ 4194304 → IfTold told (HasRead n items) → IfTold told (HoldsEntry n None bytes) →
     IfTold told (λ log. (items ≡ readings log.entries) × (length log.entries ≤ 4194304))
 read-all None n bytes items few has holds = tt
 read-all (Some log) n bytes items few has holds =
@@ -82,10 +82,10 @@ read-all (Some log) n bytes items few has holds =
     (end.0, let short = end.1 in omega arith)
 
 -- too many
-read-past : (log : Log) (n lsn : ℕ) (bytes : List ℕ) (held : Option LogEntry) → slice_get log.entries n ≡ held → IsRead held (Some lsn) bytes → n < length log.entries
+read-past : (log : Log) (n lsn : ℕ) (bytes : List ℕ) (held : Option LogEntry) → slice_get log.entries n ≡ held → LogEntryIsRead held (Some lsn) bytes → n < length log.entries
 read-past log n lsn bytes None is read = absurd (cc)
 read-past log n lsn bytes (Some entry) is read = inside log.entries n entry is
 
-pub read-too_many : (told : Option Log) (n lsn : ℕ) (bytes : List ℕ) → IfTold told (Holds n (Some lsn) bytes) → IfTold told (λ log. n < length log.entries)
+pub read-too_many : (told : Option Log) (n lsn : ℕ) (bytes : List ℕ) → IfTold told (HoldsEntry n (Some lsn) bytes) → IfTold told (λ log. n < length log.entries)
 read-too_many None n lsn bytes holds = tt
 read-too_many (Some log) n lsn bytes holds = read-past log n lsn bytes (slice_get log.entries n) refl holds

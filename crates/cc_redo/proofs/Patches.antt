@@ -6,7 +6,7 @@ use Rattle.std.proofs.lemmas.Bool.Decides.{nat_tests}
 use Rattle.std.proofs.lemmas.List.{take-append-drop, length-take, length-drop, drop-drop}
 use Rattle.std.proofs.Math.Seq.{drop-cons}
 use borrow.Rule.Slice.PartMut.{put_mid}
-use Rattle.cc_redo.specs.Heard.{Change, end_of}
+use Rattle.cc_redo.specs.Heard.{Change, end_of_change}
 use Rattle.cc_redo.specs.Changes.{byte_after, byte_by, bytes_after, page_after}
 
 -- the changes of a list are made one after the other
@@ -38,10 +38,10 @@ after-append changes page place (x ∷ xs) ys =
 
 -- a byte that the change does not cover, and one that it covers
 byte-out : (change : Change) (page place byte : ℕ) →
-    ((4096 ≤ place) ⊎ (4096 * page + place < change.at)) ⊎ (end_of change ≤ 4096 * page + place) → byte_by change page place byte ≡ byte
+    ((4096 ≤ place) ⊎ (4096 * page + place < change.at)) ⊎ (end_of_change change ≤ 4096 * page + place) → byte_by change page place byte ≡ byte
 byte-out change page place byte out = grind (arith, nat_tests)
 
-byte-in : (change : Change) (page place byte : ℕ) → place < 4096 → change.at ≤ 4096 * page + place → 4096 * page + place < end_of change →
+byte-in : (change : Change) (page place byte : ℕ) → place < 4096 → change.at ≤ 4096 * page + place → 4096 * page + place < end_of_change change →
     byte_by change page place byte ≡ slice_index change.bytes (4096 * page + place - change.at)
 byte-in change page place byte below begins ends = grind (arith, nat_tests)
 
@@ -54,7 +54,7 @@ before change page place (byte ∷ bytes) h =
     let rest = before change page (place + 1) bytes (omega arith) in
     rw (first, rest) refl
 
-behind : (change : Change) (page place : ℕ) (bytes : List ℕ) → end_of change ≤ 4096 * page + place → bytes_after (change ∷ []) page place bytes ≡ bytes
+behind : (change : Change) (page place : ℕ) (bytes : List ℕ) → end_of_change change ≤ 4096 * page + place → bytes_after (change ∷ []) page place bytes ≡ bytes
 unfolding bytes_after
 behind change page place [] h = refl
 behind change page place (byte ∷ bytes) h =
@@ -75,20 +75,20 @@ beyond : (change : Change) (page place : ℕ) (bytes : List ℕ) → 4096 * page
 unfolding bytes_after
 beyond change page place [] h = refl
 beyond change page place (byte ∷ bytes) h =
-    let out : ((4096 ≤ place) ⊎ (4096 * page + place < change.at)) ⊎ (end_of change ≤ 4096 * page + place) =
+    let out : ((4096 ≤ place) ⊎ (4096 * page + place < change.at)) ⊎ (end_of_change change ≤ 4096 * page + place) =
     ⊎_elim (λ (b : place < 4096). inl (inr (omega arith))) (λ (p : 4096 ≤ place). inl (inl p)) (cases_lt place 4096) in
     let first = byte-out change page place byte out in
     let rest = beyond change page (place + 1) bytes h in
     rw (first, rest) refl
 
 pub untouched : (change : Change) (page : ℕ) (bytes : List ℕ) →
-    (4096 * page + 4096 ≤ change.at) ⊎ (end_of change ≤ 4096 * page) → page_after (change ∷ []) page bytes ≡ bytes
+    (4096 * page + 4096 ≤ change.at) ⊎ (end_of_change change ≤ 4096 * page) → page_after (change ∷ []) page bytes ≡ bytes
 untouched change page bytes (inl before_it) = beyond change page 0 bytes before_it
 untouched change page bytes (inr behind_it) = behind change page 0 bytes (omega arith)
 
 -- bytes that it covers
 within : (change : Change) (page place : ℕ) (bytes : List ℕ) → change.at ≤ 4096 * page + place →
-    4096 * page + place + length bytes ≤ end_of change → place + length bytes ≤ 4096 →
+    4096 * page + place + length bytes ≤ end_of_change change → place + length bytes ≤ 4096 →
     bytes_after (change ∷ []) page place bytes ≡ take (length bytes) (drop (4096 * page + place - change.at) change.bytes)
 unfolding bytes_after
 within change page place [] begins ends below = refl
@@ -110,8 +110,8 @@ nothing-stays change page (b ∷ bs) long = absurd (omega arith)
 
 -- a page of which a part is covered: the front stays, the part is that of the change, and the rest stays
 pub patched : (change : Change) (page from to : ℕ) (bytes : List ℕ) → length bytes ≡ 4096 → from ≤ to → to ≤ 4096 →
-    change.at ≤ 4096 * page + from → 4096 * page + to ≤ end_of change →
-    (from ≡ 0) ⊎ (4096 * page + from ≡ change.at) → (to ≡ 4096) ⊎ (4096 * page + to ≡ end_of change) →
+    change.at ≤ 4096 * page + from → 4096 * page + to ≤ end_of_change change →
+    (from ≡ 0) ⊎ (4096 * page + from ≡ change.at) → (to ≡ 4096) ⊎ (4096 * page + to ≡ end_of_change change) →
     page_after (change ∷ []) page bytes
     ≡ take from bytes ++ (take (to - from) (drop (4096 * page + from - change.at) change.bytes) ++ drop to bytes)
 patched change page from to bytes long order fits begins ends starts stops =
@@ -144,7 +144,7 @@ patched change page from to bytes long order fits begins ends starts stops =
     front-stays change page from front long (inl none) = nothing-stays change page front (long ∙ none)
     front-stays change page from front long (inr at) = before change page 0 front (omega arith)
 
-    rest-stays : (change : Change) (page to : ℕ) (rest : List ℕ) → (to ≡ 4096) ⊎ (4096 * page + to ≡ end_of change) →
+    rest-stays : (change : Change) (page to : ℕ) (rest : List ℕ) → (to ≡ 4096) ⊎ (4096 * page + to ≡ end_of_change change) →
         bytes_after (change ∷ []) page to rest ≡ rest
     rest-stays change page to rest (inl all) = past change page to rest (omega arith)
     rest-stays change page to rest (inr end) = behind change page to rest (omega arith)
@@ -154,7 +154,7 @@ pub empty-stays : (change : Change) (page place : ℕ) (bytes : List ℕ) → le
 unfolding bytes_after
 empty-stays change page place [] none = refl
 empty-stays change page place (byte ∷ bytes) none =
-    let out : ((4096 ≤ place) ⊎ (4096 * page + place < change.at)) ⊎ (end_of change ≤ 4096 * page + place) =
+    let out : ((4096 ≤ place) ⊎ (4096 * page + place < change.at)) ⊎ (end_of_change change ≤ 4096 * page + place) =
     ⊎_elim (λ (b : 4096 * page + place < change.at). inl (inr b)) (λ (a : change.at ≤ 4096 * page + place). inr (omega arith)) (cases_lt (4096 * page + place) change.at) in
     let first = byte-out change page place byte out in
     let rest = empty-stays change page (place + 1) bytes none in
@@ -165,7 +165,7 @@ same-part a b n m l e f = rw (e, f) refl
 
 -- what is copied into a page from the first place of a change in it to the last
 pub patch-whole : (change : Change) (page first last : ℕ) (bytes copied : List ℕ) → length bytes ≡ 4096 → first ≡ max change.at (4096 * page) →
-    last ≡ min (end_of change) (4096 * page + 4096) → change.at < 4096 * page + 4096 → 4096 * page < end_of change →
+    last ≡ min (end_of_change change) (4096 * page + 4096) → change.at < 4096 * page + 4096 → 4096 * page < end_of_change change →
     copied ≡ take (last - change.at - (first - change.at)) (drop (first - change.at) change.bytes) →
     put_mid (first - 4096 * page) (last - 4096 * page - (first - 4096 * page)) bytes copied ≡ page_after (change ∷ []) page bytes
 patch-whole change page first last bytes copied long first_is last_is begins ends copied_is =
@@ -173,12 +173,12 @@ patch-whole change page first last bytes copied long first_is last_is begins end
     let to : ℕ = last - 4096 * page in
     let starts : (from ≡ 0) ⊎ (4096 * page + from ≡ change.at) =
     ⊎_elim (λ (b : change.at < 4096 * page). inl (omega arith)) (λ (a : 4096 * page ≤ change.at). inr (omega arith)) (cases_lt change.at (4096 * page)) in
-    let stops : (to ≡ 4096) ⊎ (4096 * page + to ≡ end_of change) =
-    ⊎_elim (λ (b : end_of change < 4096 * page + 4096). inr (omega arith)) (λ (a : 4096 * page + 4096 ≤ end_of change). inl (omega arith)) (cases_lt (end_of change) (4096 * page + 4096)) in
+    let stops : (to ≡ 4096) ⊎ (4096 * page + to ≡ end_of_change change) =
+    ⊎_elim (λ (b : end_of_change change < 4096 * page + 4096). inr (omega arith)) (λ (a : 4096 * page + 4096 ≤ end_of_change change). inl (omega arith)) (cases_lt (end_of_change change) (4096 * page + 4096)) in
     let order : from ≤ to = omega arith in
     let fits : to ≤ 4096 = omega arith in
     let begin : change.at ≤ 4096 * page + from = omega arith in
-    let end : 4096 * page + to ≤ end_of change = omega arith in
+    let end : 4096 * page + to ≤ end_of_change change = omega arith in
     let piece : copied ≡ take (to - from) (drop (4096 * page + from - change.at) change.bytes) =
     copied_is ∙ same-part (first - change.at) (4096 * page + from - change.at) (last - change.at - (first - change.at)) (to - from) change.bytes (omega arith) (omega arith) in
     let rest : drop (to - from) (drop from bytes) ≡ drop to bytes = drop-drop (to - from) from bytes ∙ ap (λ (n : ℕ). drop n bytes) (omega arith) in

@@ -12,7 +12,7 @@ use Rattle.cc_traits.specs.Stop.{OnFailed, OnNoMemory}
 use Rattle.cc_traits.specs.Told.{Both}
 use Rattle.cc_traits.specs.Disk.{Disk, WriteFailed, Wrote}
 use Rattle.cc_redo.specs.Disks.{record_number}
-use Rattle.cc_redo.specs.Scanned.{IsWriting, KeepsData}
+use Rattle.cc_redo.specs.Scanned.{IsPartlyWritten, KeepsData}
 use Rattle.cc_redo.proofs.Keeping.{not-at}
 use Rattle.cc_redo.proofs.Options.{both-map, both-then}
 use Rattle.cc_redo.proofs.Writes.{IsGoingOn, going-failed, going-wrote, page_by}
@@ -48,11 +48,11 @@ popped-wrote f m n k v old now next keeps is updates going wrote =
 
 pub popped-stopped : (reason : Stop) (f : ℕ → Option (List ℕ)) (m : BTreeMap ℕ (List ℕ)) (k : ℕ) (v : List ℕ) (old now next : Option Disk) → KeepsData m → get nat_cmp m k ≡ Some v →
     Both old now (IsGoingOn f (get nat_cmp m)) → OnFailed {T = Unit {0}} (Err reason) (Both now next (WriteFailed k v)) → OnNoMemory {T = Unit {0}} (Err reason) (next ≡ now) →
-    Both old next (λ o x. IsWriting (page_by f o) o x)
+    Both old next (λ o x. IsPartlyWritten (page_by f o) o x)
 popped-stopped stop.Failed f m k v old now next keeps is going failed none =
-    both-then (IsGoingOn f (get nat_cmp m)) (WriteFailed k v) (λ o x. IsWriting (page_by f o) o x) old now next
+    both-then (IsGoingOn f (get nat_cmp m)) (WriteFailed k v) (λ o x. IsPartlyWritten (page_by f o) o x) old now next
     (λ o w x on it. going-failed f (get nat_cmp m) k v o w x is (apart m k v keeps is) on it)
     going failed
 popped-stopped stop.NoMemory f m k v old now next keeps is going failed same =
-    subst (λ (d : Option Disk). Both old d (λ o x. IsWriting (page_by f o) o x)) (sym same)
-    (both-map (IsGoingOn f (get nat_cmp m)) (λ o x. IsWriting (page_by f o) o x) old now (λ o x on. on.writing) going)
+    subst (λ (d : Option Disk). Both old d (λ o x. IsPartlyWritten (page_by f o) o x)) (sym same)
+    (both-map (IsGoingOn f (get nat_cmp m)) (λ o x. IsPartlyWritten (page_by f o) o x) old now (λ o x on. on.writing) going)

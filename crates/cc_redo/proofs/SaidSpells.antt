@@ -16,7 +16,7 @@ use Rattle.cc_format.specs.LogRecords.{spelled_rows}
 use Rattle.cc_format.specs.declared.log.OldestRow.{OldestRow}
 use Rattle.cc_redo.specs.declared.record.LogRecord.{LogRecord}
 use Rattle.cc_redo.specs.declared.record.LogRecord.TheVariants.{Update, Checkpoint}
-use Rattle.cc_redo.specs.Reading.{FitsRow, Spells, SpellsCheckpoint, SpellsUpdate, checkpoint_in, row_in, rows_in, said_by, update_in}
+use Rattle.cc_redo.specs.Reading.{FitsRow, SpellsLogRecord, SpellsCheckpoint, SpellsUpdate, checkpoint_in, row_in, rows_in, said_by, update_in}
 
 -- the bytes are bytes
 abbrev pub AreBytes : List ℕ → Type 0
@@ -63,7 +63,7 @@ least : (a b : ℕ) → nat_le a b ≡ true → a ≤ b
 least a b e = grind (arith, nat_tests)
 
 -- an update
-update-spells : (stream : ℕ) (rest : List ℕ) (told : LogRecord) → stream < 255 → AreBytes rest → update_in stream rest ≡ Some told → Spells (stream ∷ rest) told
+update-spells : (stream : ℕ) (rest : List ℕ) (told : LogRecord) → stream < 255 → AreBytes rest → update_in stream rest ≡ Some told → SpellsLogRecord (stream ∷ rest) told
 update-spells stream rest told below are said =
     let parts = chosen-some (nat_le 12 (length rest) && (length rest == 12 + little_number 4 (drop 8 rest))) (Update stream (little_number 8 rest) (drop 12 rest)) told said in
     let tests = both-true (nat_le 12 (length rest)) (length rest == 12 + little_number 4 (drop 8 rest)) parts.0 in
@@ -89,7 +89,7 @@ update-spells stream rest told below are said =
       length_fits = omega arith;
       spelled = ap (λ (l : List ℕ). stream ∷ l) whole;
     } in
-    subst (λ (r : LogRecord). Spells (stream ∷ rest) r) parts.1 spells
+    subst (λ (r : LogRecord). SpellsLogRecord (stream ∷ rest) r) parts.1 spells
 
 -- rows
 rows-long : (n : ℕ) (bytes : List ℕ) → length (rows_in n bytes) ≡ n
@@ -131,7 +131,7 @@ rows-spelled (suc n) (b ∷ rest) long are =
     ∙ first)
 
 -- a checkpoint
-checkpoint-spells : (rest : List ℕ) (told : LogRecord) → AreBytes rest → checkpoint_in rest ≡ Some told → Spells (255 ∷ rest) told
+checkpoint-spells : (rest : List ℕ) (told : LogRecord) → AreBytes rest → checkpoint_in rest ≡ Some told → SpellsLogRecord (255 ∷ rest) told
 checkpoint-spells rest told are said =
     let n : ℕ = little_number 4 rest in
     let rows : List OldestRow = rows_in n (drop 4 rest) in
@@ -154,15 +154,15 @@ checkpoint-spells rest told are said =
       count_fits = omega arith;
       spelled = ap (λ (l : List ℕ). 255 ∷ l) whole;
     } in
-    subst (λ (r : LogRecord). Spells (255 ∷ rest) r) parts.1 spells
+    subst (λ (r : LogRecord). SpellsLogRecord (255 ∷ rest) r) parts.1 spells
 
 either : (first : ℕ) (rest : List ℕ) (told : LogRecord) → first < 256 → AreBytes rest → (b : Bool) → (first == 255) ≡ b →
-    (if b then checkpoint_in rest else update_in first rest) ≡ Some told → Spells (first ∷ rest) told
+    (if b then checkpoint_in rest else update_in first rest) ≡ Some told → SpellsLogRecord (first ∷ rest) told
 either first rest told byte are true e said =
-    subst (λ (n : ℕ). Spells (n ∷ rest) told) (sym (eqb-true first 255 e)) (checkpoint-spells rest told are said)
+    subst (λ (n : ℕ). SpellsLogRecord (n ∷ rest) told) (sym (eqb-true first 255 e)) (checkpoint-spells rest told are said)
 either first rest told byte are false e said =
     update-spells first rest told (let other = eqb-false first 255 e in omega arith) are said
 
-pub said-spells : (entry : List ℕ) (told : LogRecord) → AreBytes entry → said_by entry ≡ Some told → Spells entry told
+pub said-spells : (entry : List ℕ) (told : LogRecord) → AreBytes entry → said_by entry ≡ Some told → SpellsLogRecord entry told
 said-spells [] told are said = absurd (cc)
 said-spells (first ∷ rest) told are said = either first rest told are.0 are.1 (first == 255) refl said

@@ -9,11 +9,11 @@ use Rattle.cc_traits.specs.Disk.{Disk}
 use Rattle.cc_model.specs.Records.{record_page}
 use Rattle.cc_redo.specs.declared.redo.Redo.{Redo}
 use Rattle.cc_redo.specs.declared.scan.ReadEntry.{ReadEntry}
-use Rattle.cc_redo.specs.Heard.{redone_of, valid_of}
+use Rattle.cc_redo.specs.Heard.{redone_of, redone_valid}
 use Rattle.cc_redo.specs.Disks.{RecordStands, changed_page}
 use Rattle.cc_redo.specs.Ends.{IsFaultOf}
-use Rattle.cc_redo.specs.Scanned.{IsPagesRefusal, IsSettleRefusal, IsSettled, IsSettling, IsWriting}
-use Rattle.cc_redo.specs.Stages.{IsRecordFault, PagesDone, PagesLeft, RecordDone, RecordLeft}
+use Rattle.cc_redo.specs.Scanned.{IsPagesRefusal, IsSettleRefusal, DiskIsSettled, IsSettling, IsPartlyWritten}
+use Rattle.cc_redo.specs.Stages.{IsRecordFault, PagesDone, RedonePagesLeft, RecordDone, RedoneRecordLeft}
 use Rattle.cc_redo.proofs.Options.{both-map, both-same}
 use Rattle.cc_redo.proofs.Steps.{IsFault}
 use Rattle.cc_redo.proofs.Writes.{settled-settling, writing-begun}
@@ -26,57 +26,57 @@ settle-fault told redo was now error.NoMemory refused = tt
 settle-fault told redo was now other refused = absurd refused
 
 pub pages-fault : {D : Type 0} (told : D → Option Disk) (from : ℕ) (items : List ReadEntry) (redo : Redo) (was now : D) (e : CcError) →
-    Both (told was) (told now) (λ old new. IsWriting (changed_page (redone_of redo from items) old) old new) →
+    Both (told was) (told now) (λ old new. IsPartlyWritten (changed_page (redone_of redo from items) old) old new) →
     IsPagesRefusal (redone_of redo from items) (told was) (told now) e → IsFault (λ x. IsFaultOf told from items x redo was now) e
 pages-fault told from items redo was now (error.ReadFault page) writing refused = refused
 pages-fault told from items redo was now (error.WriteFault page) writing refused =
     inl (
       refused,
-      both-map (λ old new. IsWriting (changed_page (redone_of redo from items) old) old new) RecordStands (told was) (told now) (λ o n w. w.stands) writing,
+      both-map (λ old new. IsPartlyWritten (changed_page (redone_of redo from items) old) old new) RecordStands (told was) (told now) (λ o n w. w.stands) writing,
     )
 pages-fault told from items redo was now error.NoMemory writing refused = tt
 pages-fault told from items redo was now other writing refused = absurd refused
 
 module _ {D : Type 0} (told : D → Option Disk) (faults : D → ℕ) (items : List ReadEntry) where
   -- the record of a stream
-  pub record-left : (redo : Redo) (was now : D) (valid : ℕ) → valid ≡ valid_of items redo →
+  pub record-left : (redo : Redo) (was now : D) (valid : ℕ) → valid ≡ redone_valid items redo →
       Both (told was) (told now) (λ old new. (new ≡ old) ⊎ IsSettling (record_page redo.size valid) old new) → faults was ≤ faults now →
-      RecordLeft told faults items redo was now
+      RedoneRecordLeft told faults items redo was now
   record-left redo was now valid is settling count = record {
     settling = subst (λ (v : ℕ). Both (told was) (told now) (λ old new. (new ≡ old) ⊎ IsSettling (record_page redo.size v) old new)) is settling;
     counted = count;
   }
 
-  pub record-done : (redo : Redo) (was now : D) (valid : ℕ) → valid ≡ valid_of items redo →
-      Both (told was) (told now) (IsSettled (record_page redo.size valid)) → faults now ≡ faults was → RecordDone told faults items redo was now
+  pub record-done : (redo : Redo) (was now : D) (valid : ℕ) → valid ≡ redone_valid items redo →
+      Both (told was) (told now) (DiskIsSettled (record_page redo.size valid)) → faults now ≡ faults was → RecordDone told faults items redo was now
   record-done redo was now valid is settled count = record {
-    settled = subst (λ (v : ℕ). Both (told was) (told now) (IsSettled (record_page redo.size v))) is settled;
+    settled = subst (λ (v : ℕ). Both (told was) (told now) (DiskIsSettled (record_page redo.size v))) is settled;
     counted = count;
   }
 
-  pub record-weaker : (redo : Redo) (was now : D) → RecordDone told faults items redo was now → RecordLeft told faults items redo was now
+  pub record-weaker : (redo : Redo) (was now : D) → RecordDone told faults items redo was now → RedoneRecordLeft told faults items redo was now
   record-weaker redo was now done = record {
     settling =
-        both-map (IsSettled (record_page redo.size (valid_of items redo)))
-        (λ old new. (new ≡ old) ⊎ IsSettling (record_page redo.size (valid_of items redo)) old new) (told was) (told now)
-        (λ o n settled. inr (settled-settling (record_page redo.size (valid_of items redo)) o n settled)) done.settled;
+        both-map (DiskIsSettled (record_page redo.size (redone_valid items redo)))
+        (λ old new. (new ≡ old) ⊎ IsSettling (record_page redo.size (redone_valid items redo)) old new) (told was) (told now)
+        (λ o n settled. inr (settled-settling (record_page redo.size (redone_valid items redo)) o n settled)) done.settled;
     counted = let same = done.counted in omega arith;
   }
 
-  pub record-itself : (redo : Redo) (d : D) → RecordLeft told faults items redo d d
+  pub record-itself : (redo : Redo) (d : D) → RedoneRecordLeft told faults items redo d d
   record-itself redo d = record {
-    settling = both-same (λ old new. (new ≡ old) ⊎ IsSettling (record_page redo.size (valid_of items redo)) old new) (told d) (told d) (λ a. inl refl) refl;
+    settling = both-same (λ old new. (new ≡ old) ⊎ IsSettling (record_page redo.size (redone_valid items redo)) old new) (told d) (told d) (λ a. inl refl) refl;
     counted = omega arith;
   }
 
   -- the pages of a stream
-  pub pages-weaker : (from : ℕ) (redo : Redo) (was now : D) → PagesDone told faults from items redo was now → PagesLeft told faults from items redo was now
+  pub pages-weaker : (from : ℕ) (redo : Redo) (was now : D) → PagesDone told faults from items redo was now → RedonePagesLeft told faults from items redo was now
   pages-weaker from redo was now done = record { writing = done.writing; counted = let same = done.counted in omega arith }
 
-  pub pages-itself : (from : ℕ) (redo : Redo) (d : D) → PagesLeft told faults from items redo d d
+  pub pages-itself : (from : ℕ) (redo : Redo) (d : D) → RedonePagesLeft told faults from items redo d d
   pages-itself from redo d = record {
     writing =
-        both-same (λ old new. IsWriting (changed_page (redone_of redo from items) old) old new) (told d) (told d)
+        both-same (λ old new. IsPartlyWritten (changed_page (redone_of redo from items) old) old new) (told d) (told d)
         (λ a. writing-begun (changed_page (redone_of redo from items) a) a) refl;
     counted = omega arith;
   }

@@ -12,7 +12,7 @@ use Rattle.cc_format.specs.LogRecords.{spelled_rows}
 use Rattle.cc_format.specs.declared.log.OldestRow.{OldestRow}
 use Rattle.cc_redo.specs.declared.record.LogRecord.{LogRecord}
 use Rattle.cc_redo.specs.declared.record.LogRecord.TheVariants.{Update, Checkpoint}
-use Rattle.cc_redo.specs.Reading.{FitsRow, Spells, checkpoint_in, rows_in, said_by, update_in}
+use Rattle.cc_redo.specs.Reading.{FitsRow, SpellsLogRecord, checkpoint_in, rows_in, said_by, update_in}
 
 chosen : {A : Type 0} (tested : Bool) (x y : A) → tested ≡ true → (if tested then x else y) ≡ x
 chosen true x y e = refl
@@ -62,7 +62,7 @@ checkpoint-read rows fit fits =
 no_checkpoint : (stream : ℕ) (x y : Option LogRecord) → stream < 255 → (if stream == 255 then x else y) ≡ y
 no_checkpoint stream x y h = grind (arith, nat_tests)
 
-pub said-spelled : (entry : List ℕ) (told : LogRecord) → Spells entry told → said_by entry ≡ Some told
+pub said-spelled : (entry : List ℕ) (told : LogRecord) → SpellsLogRecord entry told → said_by entry ≡ Some told
 said-spelled entry (Update stream at bytes) spells =
     ap (λ (l : List ℕ). said_by l) spells.spelled
     ∙ no_checkpoint stream _ _ spells.stream_fits

@@ -10,7 +10,7 @@ use Rattle.cc_entry.specs.declared.error.CcError.TheVariants as error
 use Rattle.cc_redo.specs.declared.redo.Redo.{Redo}
 use Rattle.cc_redo.specs.Ends.{DisksDiffer, EachDisk}
 use Rattle.cc_redo.specs.Scanned.{disk_faults}
-use Rattle.cc_redo.specs.Stages.{IsReached, IsStageRefusal}
+use Rattle.cc_redo.specs.Stages.{StageIsReached, IsStageRefusal}
 use Rattle.cc_redo.proofs.Disking.{Changed, failed-at, get-set_other, get-set_same, reached-some, reached-step}
 
 -- what is handed on by a `?` is an error
@@ -31,7 +31,7 @@ pub record IsAt {D : Type 0} (streams : List Redo) (n : ℕ) (P : Redo → D →
   pub disks : All (λ r. r.disk < length old) streams
   pub below : n < length streams
   pub redo_is : redo ≡ get_or streams n redo
-  pub reached : IsReached streams n P old now
+  pub reached : StageIsReached streams n P old now
 
 module _ {D : Type 0} (streams : List Redo) (n : ℕ) (P : Redo → D → D → Type 0) (old now : List D) (redo : Redo) (one next : D) (at_it : IsAt streams n P old now redo) where
   abbrev here : D
@@ -55,13 +55,13 @@ module _ {D : Type 0} (streams : List Redo) (n : ℕ) (P : Redo → D → D → 
     count = length-set now redo.disk next;
   }
 
-  pub goes-on : P redo (get_or now redo.disk one) next → IsReached streams (n + 1) P old (set now redo.disk next)
+  pub goes-on : P redo (get_or now redo.disk one) next → StageIsReached streams (n + 1) P old (set now redo.disk next)
   goes-on holds = reached-step streams n P old now (set now redo.disk next) redo here next at_it.differ given at_it.reached changed holds
 
   pub stops : (Q : Redo → D → D → Type 0) → ((r : Redo) (was is : D) → P r was is → Q r was is) → ((r : Redo) (d : D) → Q r d d) → Q redo (get_or now redo.disk one) next →
       EachDisk streams Q old (set now redo.disk next)
   stops Q weaker itself holds =
-      let weak : IsReached streams n Q old now = record {
+      let weak : StageIsReached streams n Q old now = record {
         behind = λ i r was is less of old_is now_is. weaker r was is (at_it.reached.behind i r was is less of old_is now_is);
         ahead = at_it.reached.ahead;
         others = at_it.reached.others;

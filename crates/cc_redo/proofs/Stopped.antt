@@ -4,8 +4,8 @@ use Rattle.std.proofs.Common.{ap, sym, subst, ◌∙◌, inl, inr, ⊎_elim}
 use Rattle.std.proofs.lemmas.Bool.{eqb-true}
 use Rattle.std.proofs.lemmas.List.Elements.{Contains-push}
 use Rattle.cc_traits.specs.Disk.{Disk, page_of, may_of}
-use Rattle.cc_redo.specs.Disks.{DataIsMade, IsBetween, IsMade, IsPossible, RecordStands, Was, record_number, with_record}
-use Rattle.cc_redo.specs.Scanned.{Holds, IsSettled, IsSettling, IsWriting}
+use Rattle.cc_redo.specs.Disks.{DataIsMade, IsBetween, DiskIsMade, IsPossible, RecordStands, Was, record_number, with_record}
+use Rattle.cc_redo.specs.Scanned.{HoldsMadePages, DiskIsSettled, IsSettling, IsPartlyWritten}
 use Rattle.cc_redo.proofs.Options.{chosen, passed}
 use Rattle.cc_redo.proofs.Writes.{alone}
 
@@ -16,7 +16,7 @@ made-data : (told : List ℕ) (made : ℕ → List ℕ) (p : ℕ) → (record_nu
 made-data told made p e = passed (record_number == p) told (made p) e
 
 -- the pages were written, maybe not all, and the record was not begun
-writing-may : (told : List ℕ) (made : ℕ → List ℕ) (old now : Disk) → IsWriting made old now → (p : ℕ) (bytes : List ℕ) → (b : Bool) →
+writing-may : (told : List ℕ) (made : ℕ → List ℕ) (old now : Disk) → IsPartlyWritten made old now → (p : ℕ) (bytes : List ℕ) → (b : Bool) →
     (record_number == p) ≡ b → Contains (may_of now p) bytes → Was old p bytes ⊎ (bytes ≡ with_record told made p)
 writing-may told made old now writing p bytes true e c =
     let same : record_number ≡ p = eqb-true record_number p e in
@@ -28,7 +28,7 @@ writing-may told made old now writing p bytes false e c =
     (λ (is : bytes ≡ made p). inr (is ∙ sym (made-data told made p e)))
     (writing.pages.may p bytes c)
 
-pub between-pages : (told : List ℕ) (made : ℕ → List ℕ) (old now : Disk) → IsWriting made old now → IsBetween (with_record told made) old now
+pub between-pages : (told : List ℕ) (made : ℕ → List ℕ) (old now : Disk) → IsPartlyWritten made old now → IsBetween (with_record told made) old now
 between-pages told made old now writing = record {
   pages = record {
     holds = writing.pages.holds;
@@ -50,7 +50,7 @@ settling-possible told now next settling p true e = subst (λ (n : ℕ). IsPossi
 settling-possible told now next settling p false e =
     rw ((settling.others p e).0, (settling.others p e).1) (Contains-push [] (page_of now p))
 
-settling-may : (told : List ℕ) (made : ℕ → List ℕ) (old now next : Disk) → RecordStands old now → Holds made now → IsSettling told now next →
+settling-may : (told : List ℕ) (made : ℕ → List ℕ) (old now next : Disk) → RecordStands old now → HoldsMadePages made now → IsSettling told now next →
     (p : ℕ) (bytes : List ℕ) → (b : Bool) → (record_number == p) ≡ b → Contains (may_of next p) bytes → Was old p bytes ⊎ (bytes ≡ with_record told made p)
 settling-may told made old now next stands holds settling p bytes true e c =
     let same : record_number ≡ p = eqb-true record_number p e in
@@ -63,12 +63,12 @@ settling-may told made old now next stands holds settling p bytes false e c =
     let one : Contains (page_of now p ∷ []) bytes = rw ((settling.others p e).1) at c in
     inr (alone (page_of now p) bytes one ∙ holds p ∙ sym (made-data told made p e))
 
-settling-data : (told : List ℕ) (made : ℕ → List ℕ) (now next : Disk) → Holds made now → IsSettling told now next → DataIsMade (with_record told made) next
+settling-data : (told : List ℕ) (made : ℕ → List ℕ) (now next : Disk) → HoldsMadePages made now → IsSettling told now next → DataIsMade (with_record told made) next
 settling-data told made now next holds settling = λ p e.
     let is : page_of now p ≡ with_record told made p = holds p ∙ sym (made-data told made p e) in
     ((settling.others p e).0 ∙ is, (settling.others p e).1 ∙ ap (λ (l : List ℕ). l ∷ []) is)
 
-pub between-record : (told : List ℕ) (made : ℕ → List ℕ) (old now next : Disk) → IsWriting made old now → Holds made now →
+pub between-record : (told : List ℕ) (made : ℕ → List ℕ) (old now next : Disk) → IsPartlyWritten made old now → HoldsMadePages made now →
     (next ≡ now) ⊎ IsSettling told now next → IsBetween (with_record told made) old next
 between-record told made old now next writing holds (inl same) =
     subst (λ (d : Disk). IsBetween (with_record told made) old d) (sym same) (between-pages told made old now writing)
@@ -81,7 +81,7 @@ between-record told made old now next writing holds (inr settling) = record {
 }
 
 -- all was done
-pub made-all : (told : List ℕ) (made : ℕ → List ℕ) (now next : Disk) → Holds made now → IsSettled told now next → IsMade (with_record told made) next
+pub made-all : (told : List ℕ) (made : ℕ → List ℕ) (now next : Disk) → HoldsMadePages made now → DiskIsSettled told now next → DiskIsMade (with_record told made) next
 made-all told made now next holds settled = record {
   holds = page-made;
   may = λ p. (settled p).1 ∙ ap (λ (l : List ℕ). l ∷ []) (page-made p);

@@ -9,7 +9,7 @@ use Rattle.cc_entry.specs.declared.error.CcError.{CcError}
 use Rattle.cc_traits.specs.Told.{Both}
 use Rattle.cc_traits.specs.Disk.{Disk, page_of, may_of, Settled, Wrote, WriteFailed}
 use Rattle.cc_redo.specs.Disks.{IsLeftOrMade, IsPossible, RecordStands, Was, record_number}
-use Rattle.cc_redo.specs.Scanned.{Holds, IsAllSettled, IsSettled, IsSettling, IsWriting}
+use Rattle.cc_redo.specs.Scanned.{HoldsMadePages, IsAllSettled, DiskIsSettled, IsSettling, IsPartlyWritten}
 use Rattle.cc_redo.proofs.Options.{both-map, both-then, chosen, passed}
 
 -- a write puts its bytes behind what a crash can leave of its page, whether it ended well or not
@@ -70,8 +70,8 @@ failed-record page content now next apart failed = record {
 stands-then : (old now next : Disk) → RecordStands old now → RecordStands now next → RecordStands old next
 stands-then old now next first second = record { holds = second.holds ∙ first.holds; may = second.may ∙ first.may }
 
-writing-wrote : (made : ℕ → List ℕ) (page : ℕ) (content : List ℕ) (old now next : Disk) → IsWriting made old now → content ≡ made page →
-    (page == record_number) ≡ false → Wrote page content now next → IsWriting made old next
+writing-wrote : (made : ℕ → List ℕ) (page : ℕ) (content : List ℕ) (old now next : Disk) → IsPartlyWritten made old now → content ≡ made page →
+    (page == record_number) ≡ false → Wrote page content now next → IsPartlyWritten made old next
 writing-wrote made page content old now next writing is apart wrote = record {
   pages = record {
     holds = λ p was. wrote-possible page p content now next wrote (writing.pages.holds p was) (page == p) refl;
@@ -80,8 +80,8 @@ writing-wrote made page content old now next writing is apart wrote = record {
   stands = stands-then old now next writing.stands (wrote-record page content now next apart wrote);
 }
 
-writing-failed : (made : ℕ → List ℕ) (page : ℕ) (content : List ℕ) (old now next : Disk) → IsWriting made old now → content ≡ made page →
-    (page == record_number) ≡ false → WriteFailed page content now next → IsWriting made old next
+writing-failed : (made : ℕ → List ℕ) (page : ℕ) (content : List ℕ) (old now next : Disk) → IsPartlyWritten made old now → content ≡ made page →
+    (page == record_number) ≡ false → WriteFailed page content now next → IsPartlyWritten made old next
 writing-failed made page content old now next writing is apart failed = record {
   pages = record {
     holds = λ p was. failed-possible page p content now next failed (writing.pages.holds p was) (page == p) refl;
@@ -90,7 +90,7 @@ writing-failed made page content old now next writing is apart failed = record {
   stands = stands-then old now next writing.stands (failed-record page content now next apart failed);
 }
 
-pub writing-begun : (made : ℕ → List ℕ) (disk : Disk) → IsWriting made disk disk
+pub writing-begun : (made : ℕ → List ℕ) (disk : Disk) → IsPartlyWritten made disk disk
 writing-begun made disk = record {
   pages = record { holds = λ p was. was; may = λ p bytes c. inl (inl c) };
   stands = record { holds = refl; may = refl };
@@ -101,13 +101,13 @@ abbrev pub page_by : (ℕ → Option (List ℕ)) → Disk → ℕ → List ℕ
 page_by f disk page = unwrap_or (f page) (page_of disk page)
 
 pub record IsGoingOn (f g : ℕ → Option (List ℕ)) (old now : Disk) : Type 0 where
-  pub writing : IsWriting (page_by f old) old now
+  pub writing : IsPartlyWritten (page_by f old) old now
   pub left : (page : ℕ) → page_by g now page ≡ page_by f old page
 
 pub going-begun : (f : ℕ → Option (List ℕ)) (disk : Disk) → IsGoingOn f f disk disk
 going-begun f disk = record { writing = writing-begun (page_by f disk) disk; left = λ p. refl }
 
-pub going-done : (f g : ℕ → Option (List ℕ)) (old now : Disk) → ((p : ℕ) → g p ≡ None) → IsGoingOn f g old now → Holds (page_by f old) now
+pub going-done : (f g : ℕ → Option (List ℕ)) (old now : Disk) → ((p : ℕ) → g p ≡ None) → IsGoingOn f g old now → HoldsMadePages (page_by f old) now
 going-done f g old now none going = λ p. sym (ap (λ (o : Option (List ℕ)). unwrap_or o (page_of now p)) (none p)) ∙ going.left p
 
 -- a page that is left is written
@@ -132,7 +132,7 @@ going-wrote f g h page content old now next is none rest apart going wrote = rec
         ap (λ (o : Option (List ℕ)). unwrap_or o (page_of next p)) (rest p e) ∙ ap (λ (l : List ℕ). unwrap_or (g p) l) held ∙ going.left p
 
 pub going-failed : (f g : ℕ → Option (List ℕ)) (page : ℕ) (content : List ℕ) (old now next : Disk) → g page ≡ Some content →
-    (page == record_number) ≡ false → IsGoingOn f g old now → WriteFailed page content now next → IsWriting (page_by f old) old next
+    (page == record_number) ≡ false → IsGoingOn f g old now → WriteFailed page content now next → IsPartlyWritten (page_by f old) old next
 going-failed f g page content old now next is apart going failed =
     writing-failed (page_by f old) page content old now next going.writing (left-page f g page content old now is going) apart failed
 
@@ -185,7 +185,7 @@ settling-synced told s n x settling synced = record {
         (λ (made : page_of n record_number ≡ told). inr (is ∙ made))
         (settling.record_may (page_of n record_number) settling.record_is)
 
-pub settled-synced : (told : List ℕ) (s n x : Disk) → Wrote record_number told s n → Settled n x → IsSettled told s x
+pub settled-synced : (told : List ℕ) (s n x : Disk) → Wrote record_number told s n → Settled n x → DiskIsSettled told s x
 settled-synced told s n x wrote synced = λ p. (synced.holds p ∙ wrote.holds p, synced.may p ∙ ap (λ (l : List ℕ). l ∷ []) (sym (synced.holds p)))
 
 pub all-settled : (old s : Disk) → Settled old s → IsAllSettled s
@@ -203,7 +203,7 @@ settling-behind told old s x synced settling = record {
       (settling.record_may bytes c);
 }
 
-pub settled-behind : (told : List ℕ) (old s x : Disk) → Settled old s → IsSettled told s x → IsSettled told old x
+pub settled-behind : (told : List ℕ) (old s x : Disk) → Settled old s → DiskIsSettled told s x → DiskIsSettled told old x
 settled-behind told old s x synced settled = λ p. ((settled p).0 ∙ ap (λ (l : List ℕ). if record_number == p then told else l) (synced.holds p), (settled p).1)
 
 settling-begin : (told : List ℕ) (old s n : Option Disk) → Both old s Settled → Both s n (Wrote record_number told) → Both old n (λ o w. IsSettling told o w)
@@ -224,7 +224,7 @@ settling-end told (Err e) old s n x first wrote none same =
     (both-map (λ o w. IsSettling told o w) (λ o w. (w ≡ o) ⊎ IsSettling told o w) old n (λ o w settling. inr settling) (settling-begin told old s n first wrote))
 
 -- a disk whose record was written and synced
-pub settled-settling : (told : List ℕ) (old new : Disk) → IsSettled told old new → IsSettling told old new
+pub settled-settling : (told : List ℕ) (old new : Disk) → DiskIsSettled told old new → IsSettling told old new
 settled-settling told old new settled = record {
   others = λ p e.
       let held : page_of new p ≡ page_of old p = (settled p).0 ∙ passed (record_number == p) told (page_of old p) e in

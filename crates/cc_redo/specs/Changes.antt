@@ -1,12 +1,12 @@
 -- What changes make of a page.
 use Rattle.std.specs.Prelude.{ℕ, ◌+◌, ◌-◌, ◌*◌, Bool, ◌&&◌, nat_le, nat_lt, List, [], ◌∷◌, fold, slice_index, if◌then◌else◌}
 use Rattle.std.specs.List.{list_any}
-use Rattle.cc_redo.specs.Heard.{Change, end_of}
+use Rattle.cc_redo.specs.Heard.{Change, end_of_change}
 
 -- the byte at a place of a page, below its 4096 bytes, as a change leaves it: its own where it covers the place
 abbrev pub byte_by : Change → ℕ → ℕ → ℕ → ℕ
 byte_by change page place byte =
-    if nat_lt place 4096 && (nat_le change.at (4096 * page + place) && nat_lt (4096 * page + place) (end_of change))
+    if nat_lt place 4096 && (nat_le change.at (4096 * page + place) && nat_lt (4096 * page + place) (end_of_change change))
     then slice_index change.bytes (4096 * page + place - change.at) else byte
 
 -- as changes leave it that follow each other: the last that covers it decides
@@ -23,9 +23,9 @@ abbrev pub page_after : List Change → ℕ → List ℕ → List ℕ
 page_after changes page bytes = bytes_after changes page 0 bytes
 
 -- whether a change has a byte of a page, and whether one of several has
-abbrev pub covers : Change → ℕ → Bool
-covers change page =
-    nat_lt change.at (end_of change) && (nat_lt change.at (4096 * page + 4096) && nat_lt (4096 * page) (end_of change))
+abbrev pub change_covers : Change → ℕ → Bool
+change_covers change page =
+    nat_lt change.at (end_of_change change) && (nat_lt change.at (4096 * page + 4096) && nat_lt (4096 * page) (end_of_change change))
 
 abbrev pub is_changed : List Change → ℕ → Bool
-is_changed changes page = list_any (λ change. covers change page) changes
+is_changed changes page = list_any (λ change. change_covers change page) changes

@@ -4,7 +4,7 @@ use Rattle.cc_traits.specs.Disk.{Disk, page_of, may_of}
 use Rattle.cc_model.specs.Records.{record_page}
 use Rattle.cc_redo.specs.declared.scan.ReadEntry.{ReadEntry}
 use Rattle.cc_redo.specs.declared.redo.Redo.{Redo}
-use Rattle.cc_redo.specs.Heard.{Change, redone_of, valid_of}
+use Rattle.cc_redo.specs.Heard.{Change, redone_of, redone_valid}
 use Rattle.cc_redo.specs.Changes.{page_after}
 
 -- the page of a disk that has the record of its stream, past every data page
@@ -18,12 +18,12 @@ changed_page changes disk page = page_after changes page (page_of disk page)
 abbrev pub with_record : List ℕ → (ℕ → List ℕ) → ℕ → List ℕ
 with_record told made page = if record_number == page then told else made page
 
-abbrev pub made_by : Redo → ℕ → List ReadEntry → Disk → ℕ → List ℕ
-made_by redo from entries disk page =
-    with_record (record_page redo.size (valid_of entries redo)) (changed_page (redone_of redo from entries) disk) page
+abbrev pub page_made_by : Redo → ℕ → List ReadEntry → Disk → ℕ → List ℕ
+page_made_by redo from entries disk page =
+    with_record (record_page redo.size (redone_valid entries redo)) (changed_page (redone_of redo from entries) disk) page
 
 -- each page holds what is made of it, and a crash leaves that alone
-pub record IsMade (made : ℕ → List ℕ) (disk : Disk) : Type 0 where
+pub record DiskIsMade (made : ℕ → List ℕ) (disk : Disk) : Type 0 where
   pub holds : (page : ℕ) → page_of disk page ≡ made page
   pub may : (page : ℕ) → may_of disk page ≡ made page ∷ []
 

@@ -10,10 +10,10 @@ use Rattle.cc_traits.specs.Log.{Log}
 use Rattle.cc_redo.specs.declared.redo.Redo.{Redo}
 use Rattle.cc_redo.specs.declared.scan.ReadEntry.{ReadEntry}
 use Rattle.cc_redo.specs.declared.streams.Restarted.{Restarted}
-use Rattle.cc_redo.specs.Heard.{Change, readings, redone_of, from_of, last_of, all_updates, valid_of}
+use Rattle.cc_redo.specs.Heard.{Change, readings, redone_of, from_of, last_lsn_of, all_updates, redone_valid}
 use Rattle.cc_redo.specs.Changes.{is_changed}
-use Rattle.cc_redo.specs.Disks.{DataIsMade, IsMade, IsBetween, RecordStands, changed_page, made_by, record_number}
-use Rattle.cc_redo.specs.Scanned.{Holds}
+use Rattle.cc_redo.specs.Disks.{DataIsMade, DiskIsMade, IsBetween, RecordStands, changed_page, page_made_by, record_number}
+use Rattle.cc_redo.specs.Scanned.{HoldsMadePages}
 
 -- no disk is given to two streams
 abbrev pub DisksDiffer : List Redo → Type 0
@@ -28,24 +28,24 @@ pub record EachDisk {D : Type 0} (streams : List Redo) (P : Redo → D → D →
   pub count : length new ≡ length old
 
 -- what is made of each page of a stream's disk, by the entries of the log
-abbrev pub made_from : List Redo → List ReadEntry → Redo → Disk → ℕ → List ℕ
-made_from streams entries redo = made_by redo (from_of streams entries) entries
+abbrev pub made_by_log : List Redo → List ReadEntry → Redo → Disk → ℕ → List ℕ
+made_by_log streams entries redo = page_made_by redo (from_of streams entries) entries
 
 -- a restart that was done has made each disk, and one that was refused has left each so that it can be called again
 abbrev pub LeavesBy : List Redo → List ReadEntry → Result Restarted CcError → Redo → Option Disk → Option Disk → Type 0
-LeavesBy streams entries (Ok done) redo was now = Both was now (λ old new. IsMade (made_from streams entries redo old) new)
-LeavesBy streams entries (Err e) redo was now = Both was now (λ old new. IsBetween (made_from streams entries redo old) old new)
+LeavesBy streams entries (Ok done) redo was now = Both was now (λ old new. DiskIsMade (made_by_log streams entries redo old) new)
+LeavesBy streams entries (Err e) redo was now = Both was now (λ old new. IsBetween (made_by_log streams entries redo old) old new)
 
-abbrev pub Leaves : List Redo → Option Log → Result Restarted CcError → Redo → Option Disk → Option Disk → Type 0
-Leaves streams log answer redo was now = IfTold log (λ told. LeavesBy streams (readings told.entries) answer redo was now)
+abbrev pub LeavesDisk : List Redo → Option Log → Result Restarted CcError → Redo → Option Disk → Option Disk → Type 0
+LeavesDisk streams log answer redo was now = IfTold log (λ told. LeavesBy streams (readings told.entries) answer redo was now)
 
 -- the numbers of the answer are those of the log
 pub record IsAnswerOf (streams : List Redo) (entries : List ReadEntry) (answer : Restarted) : Type 0 where
-  pub last : answer.last ≡ last_of entries
+  pub last : answer.last ≡ last_lsn_of entries
   pub updates : answer.updates ≡ all_updates streams entries
-  pub valids : answer.valids.items ≡ map (valid_of entries) streams
+  pub valids : answer.valids.items ≡ map (redone_valid entries) streams
 
-pub record IsAnswer (streams : List Redo) (log : Log) (answer : Restarted) : Type 0 where
+pub record IsRestartAnswer (streams : List Redo) (log : Log) (answer : Restarted) : Type 0 where
   pub numbers : IsAnswerOf streams (readings log.entries) answer
   pub short : length log.entries ≤ 4194304
 
@@ -72,7 +72,7 @@ IsReadFault changes page was now = (is_changed changes page ≡ true) × (now �
 
 -- the pages are all made, and the record stands as it did
 pub record AwaitsSync (changes : List Change) (old new : Disk) : Type 0 where
-  pub holds : Holds (changed_page changes old) new
+  pub holds : HoldsMadePages (changed_page changes old) new
   pub stands : RecordStands old new
 
 -- The page of a write that failed is one that the changes change, and the record of the stream stands. A fault of page 0 may be that of
@@ -95,13 +95,13 @@ IsFaultBy told streams log e redo was now =
     IfTold log (λ it. IsFaultOf told (from_of streams (readings it.entries)) (readings it.entries) e redo was now)
 
 -- Why a restart is refused. A log that is too long, or that failed, is met before the first call of a disk.
-abbrev pub IsRefused : {D : Type 0} → (D → Option Disk) → (D → ℕ) → List Redo → Option Log → List D → List D → CcError → Type 0
-IsRefused told faults streams log old new (error.TooLong limit) =
+abbrev pub IsRestartRefusal : {D : Type 0} → (D → Option Disk) → (D → ℕ) → List Redo → Option Log → List D → List D → CcError → Type 0
+IsRestartRefusal told faults streams log old new (error.TooLong limit) =
     (limit ≡ 4194304) × IfTold log (λ it. 4194304 < length it.entries) × (new ≡ old)
-IsRefused told faults streams log old new (error.LogFault handle) = (handle ≡ 255) × (new ≡ old)
-IsRefused told faults streams log old new (error.ReadFault page) =
+IsRestartRefusal told faults streams log old new (error.LogFault handle) = (handle ≡ 255) × (new ≡ old)
+IsRestartRefusal told faults streams log old new (error.ReadFault page) =
     OneFailed faults (IsFaultBy told streams log (error.ReadFault page)) streams old new
-IsRefused told faults streams log old new (error.WriteFault page) =
+IsRestartRefusal told faults streams log old new (error.WriteFault page) =
     OneFailed faults (IsFaultBy told streams log (error.WriteFault page)) streams old new
-IsRefused told faults streams log old new error.NoMemory = Unit {0}
-IsRefused told faults streams log old new other = ⊥
+IsRestartRefusal told faults streams log old new error.NoMemory = Unit {0}
+IsRestartRefusal told faults streams log old new other = ⊥

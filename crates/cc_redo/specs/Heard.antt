@@ -23,8 +23,8 @@ pub record Change : Type 0 where
   pub at : ℕ
   pub bytes : List ℕ
 
-abbrev pub end_of : Change → ℕ
-end_of change = change.at + length change.bytes
+abbrev pub end_of_change : Change → ℕ
+end_of_change change = change.at + length change.bytes
 
 -- The change that an entry says for a stream: that of an update of it whose end is at most its size. All others are passed
 -- over.
@@ -42,15 +42,15 @@ abbrev pub all_updates : List Redo → List ReadEntry → ℕ
 all_updates streams entries = count_by (is_update streams) entries
 
 -- The valid data length: the greatest of the given one and the ends of all updates of the stream that were not passed over.
-abbrev pub raised : ℕ → Option Change → ℕ
-raised valid None = valid
-raised valid (Some change) = max valid (end_of change)
+abbrev pub raised_by_change : ℕ → Option Change → ℕ
+raised_by_change valid None = valid
+raised_by_change valid (Some change) = max valid (end_of_change change)
 
 abbrev pub valid_behind : List ReadEntry → Redo → ℕ → ℕ
-valid_behind entries redo valid = fold (λ reached entry. raised reached (change_said redo entry.says)) valid entries
+valid_behind entries redo valid = fold (λ reached entry. raised_by_change reached (change_said redo entry.says)) valid entries
 
-abbrev pub valid_of : List ReadEntry → Redo → ℕ
-valid_of entries redo = valid_behind entries redo redo.valid
+abbrev pub redone_valid : List ReadEntry → Redo → ℕ
+redone_valid entries redo = valid_behind entries redo redo.valid
 
 -- the greatest LSN that was read, of those that are one: 1 to 2 ^ 62; 0 where there is none
 abbrev pub lsn_read : ReadEntry → ℕ
@@ -59,20 +59,20 @@ lsn_read entry = if nat_le entry.lsn (2 ^ 62) then entry.lsn else 0
 abbrev pub last_behind : ℕ → List ReadEntry → ℕ
 last_behind last entries = fold (λ reached entry. max reached (lsn_read entry)) last entries
 
-abbrev pub last_of : List ReadEntry → ℕ
-last_of entries = last_behind 0 entries
+abbrev pub last_lsn_of : List ReadEntry → ℕ
+last_lsn_of entries = last_behind 0 entries
 
 -- From where a checkpoint lets the updates be redone: the least of its own LSN and the oldest of its rows of the streams.
 abbrev pub is_given : List Redo → ℕ → Bool
 is_given streams stream = list_any (λ redo. redo.stream == stream) streams
 
-abbrev pub oldest_in : List Redo → ℕ → List OldestRow → ℕ
-oldest_in streams lsn rows = fold (λ oldest row. if is_given streams row.stream then min oldest row.oldest else oldest) lsn rows
+abbrev pub oldest_given_in : List Redo → ℕ → List OldestRow → ℕ
+oldest_given_in streams lsn rows = fold (λ oldest row. if is_given streams row.stream then min oldest row.oldest else oldest) lsn rows
 
 abbrev pub from_said : List Redo → ℕ → ReadEntry → ℕ
 from_said streams from entry = elim entry.says [
   | None ↦ from
-  | Some told ↦ elim told [ Update stream at bytes ↦ from | Checkpoint rows ↦ oldest_in streams entry.lsn rows ]
+  | Some told ↦ elim told [ Update stream at bytes ↦ from | Checkpoint rows ↦ oldest_given_in streams entry.lsn rows ]
 ]
 
 -- the LSN from which on updates are redone: that of the last checkpoint, 1 where there is none

@@ -29,9 +29,9 @@ pub record SpellsCheckpoint (entry : List ℕ) (rows : List OldestRow) : Type 0 
   pub spelled : entry ≡ checkpoint_record rows
 
 -- the entry is the spelling of the record
-abbrev pub Spells : List ℕ → LogRecord → Type 0
-Spells entry (Update stream at bytes) = SpellsUpdate entry stream at bytes
-Spells entry (Checkpoint rows) = SpellsCheckpoint entry rows
+abbrev pub SpellsLogRecord : List ℕ → LogRecord → Type 0
+SpellsLogRecord entry (Update stream at bytes) = SpellsUpdate entry stream at bytes
+SpellsLogRecord entry (Checkpoint rows) = SpellsCheckpoint entry rows
 
 -- What an entry says, read by the places of its numbers: an update, where the length is that of the bytes behind it; a
 -- checkpoint, where the rows are as many as it says; else nothing.

@@ -38,9 +38,9 @@ disk_faults (error.ReadFault page) = 1
 disk_faults (error.WriteFault page) = 1
 disk_faults other = 0
 
-abbrev pub faults_by : {A : Type 0} → Result A CcError → ℕ
-faults_by (Ok a) = 0
-faults_by (Err e) = disk_faults e
+abbrev pub disk_faults_by : {A : Type 0} → Result A CcError → ℕ
+disk_faults_by (Ok a) = 0
+disk_faults_by (Err e) = disk_faults e
 
 -- why a disk was not read: the page that a fault names is one of which this holds
 abbrev pub IsReadRefusal : (ℕ → Type 0) → CcError → Type 0
@@ -75,13 +75,13 @@ abbrev pub KeepsData : BTreeMap ℕ (List ℕ) → Type 0
 KeepsData kept = (page : ℕ) → record_number ≤ page → get nat_cmp kept page ≡ None
 
 -- Pages were written, maybe not all: what was not written is as it was, and so is the record.
-pub record IsWriting (made : ℕ → List ℕ) (old new : Disk) : Type 0 where
+pub record IsPartlyWritten (made : ℕ → List ℕ) (old new : Disk) : Type 0 where
   pub pages : IsLeftOrMade made old new
   pub stands : RecordStands old new
 
 -- all were written
-abbrev pub Holds : (ℕ → List ℕ) → Disk → Type 0
-Holds made disk = (page : ℕ) → page_of disk page ≡ made page
+abbrev pub HoldsMadePages : (ℕ → List ℕ) → Disk → Type 0
+HoldsMadePages made disk = (page : ℕ) → page_of disk page ≡ made page
 
 -- of no page a crash can leave anything but what it holds
 abbrev pub IsAllSettled : Disk → Type 0
@@ -98,8 +98,8 @@ pub record IsSettling (told : List ℕ) (old new : Disk) : Type 0 where
   pub record_is : Contains (may_of new record_number) (page_of new record_number)
   pub record_may : (bytes : List ℕ) → Contains (may_of new record_number) bytes → (bytes ≡ page_of old record_number) ⊎ (bytes ≡ told)
 
-abbrev pub IsSettled : List ℕ → Disk → Disk → Type 0
-IsSettled told old new =
+abbrev pub DiskIsSettled : List ℕ → Disk → Disk → Type 0
+DiskIsSettled told old new =
     (page : ℕ) → (page_of new page ≡ (if record_number == page then told else page_of old page)) × (may_of new page ≡ page_of new page ∷ [])
 
 -- Which page a fault names as the record of a stream is written: page 0 that of the first sync, which left the disk as it was; and the

@@ -4,18 +4,18 @@ ghost use Rattle.std.specs.Prelude.{◌≡◌, ◌==◌, ◌<◌, ◌≤◌, ℕ
 ghost use Rattle.std.specs.List.{AllByRecursion};
 ghost use Rattle.cc_traits.specs.Disk.{Disk, may_of};
 ghost use Rattle.cc_redo.specs.Changes.{page_after};
-ghost use Rattle.cc_redo.specs.Disks.{IsBetween, Was, made_by, record_number};
+ghost use Rattle.cc_redo.specs.Disks.{IsBetween, Was, page_made_by, record_number};
 ghost use Rattle.cc_redo.specs.Heard.{Change, redone_of, valid_behind};
-ghost use Rattle.cc_redo.specs.Reading.{Spells, said_by};
+ghost use Rattle.cc_redo.specs.Reading.{SpellsLogRecord, said_by};
 ghost use Rattle.cc_redo.specs.declared.record.LogRecord.{LogRecord};
 ghost use Rattle.cc_redo.specs.declared.redo.Redo.{Redo};
 ghost use Rattle.cc_redo.specs.declared.scan.ReadEntry.{ReadEntry};
 
 /// What an entry spells is what is read of it, and what is read of its bytes is what they spell.
 pub fn an_entry_says_what_it_spells()
-    ensures read { (entry : List ℕ) → (told : LogRecord) → Spells entry told → said_by entry ≡ Some told }
+    ensures read { (entry : List ℕ) → (told : LogRecord) → SpellsLogRecord entry told → said_by entry ≡ Some told }
     ensures spelled { (entry : List ℕ) → (told : LogRecord) → AllByRecursion (λ byte. byte < 256) entry →
-        said_by entry ≡ Some told → Spells entry told }
+        said_by entry ≡ Some told → SpellsLogRecord entry told }
 {}
 
 /// Changes that are applied to a page that has some of them already, in their order from the first on, make of it what
@@ -35,7 +35,7 @@ pub fn redoing_again_makes_the_same()
 /// the page could be before: so a restart that stopped, however often, makes the same once it is done.
 pub fn a_stopped_restart_can_begin_again()
     ensures { (redo : Redo) → (from : ℕ) → (entries : List ReadEntry) → (old new : Disk) →
-        IsBetween (made_by redo from entries old) old new → (page : ℕ) → (made : List ℕ) → (record_number == page) ≡ false →
+        IsBetween (page_made_by redo from entries old) old new → (page : ℕ) → (made : List ℕ) → (record_number == page) ≡ false →
         ((bytes : List ℕ) → Was old page bytes → page_after (redone_of redo from entries) page bytes ≡ made) →
         (bytes : List ℕ) → Contains (may_of new page) bytes → page_after (redone_of redo from entries) page bytes ≡ made }
 {}

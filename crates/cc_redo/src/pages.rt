@@ -5,10 +5,10 @@ ghost use Rattle.std.specs.BTreeMap.{get};
 ghost use Rattle.std.specs.Ordering.{nat_cmp};
 ghost use Rattle.cc_traits.specs.Told.{Both, IfTold};
 ghost use Rattle.cc_traits.specs.Disk.{Disk};
-ghost use Rattle.cc_redo.specs.Changes.{covers, is_changed, page_after};
+ghost use Rattle.cc_redo.specs.Changes.{change_covers, is_changed, page_after};
 ghost use Rattle.cc_redo.specs.Disks.{changed_page};
 ghost use Rattle.cc_redo.specs.Heard.{redone_of};
-ghost use Rattle.cc_redo.specs.Scanned.{Holds, IsPagesRefusal, IsReadRefusal, IsWriteRefusal, IsWriting, KeepsData, faults_by, page_with, write_refusal_of};
+ghost use Rattle.cc_redo.specs.Scanned.{HoldsMadePages, IsPagesRefusal, IsReadRefusal, IsWriteRefusal, IsPartlyWritten, KeepsData, disk_faults_by, page_with, write_refusal_of};
 
 use crate::redo::Redo;
 use crate::scan::{ReadEntry, change_in};
@@ -30,11 +30,11 @@ pub(crate) fn redo_pages<D: PageDisk>(
     entries: &[ReadEntry],
 ) -> Result<(), CcError>
     ensures writing { Both (D.told disk.old) (D.told disk.new) (λ old new.
-        IsWriting (changed_page (redone_of redo.now from entries.now) old) old new) }
+        IsPartlyWritten (changed_page (redone_of redo.now from entries.now) old) old new) }
     ensures written { OnOk result (Both (D.told disk.old) (D.told disk.new) (λ old new.
-        Holds (changed_page (redone_of redo.now from entries.now) old) new)) }
+        HoldsMadePages (changed_page (redone_of redo.now from entries.now) old) new)) }
     ensures refused { IfErr result (IsPagesRefusal (redone_of redo.now from entries.now) (D.told disk.old) (D.told disk.new)) }
-    ensures counted { D.faults disk.new ≡ D.faults disk.old + faults_by result }
+    ensures counted { D.faults disk.new ≡ D.faults disk.old + disk_faults_by result }
 {
     let kept = changed_pages(alloc, disk, redo, from, entries)?;
     write_pages(disk, kept)
@@ -55,7 +55,7 @@ fn changed_pages<D: PageDisk>(
         get nat_cmp kept page ≡ None) }
     ensures stays { D.told disk.new ≡ D.told disk.old }
     ensures refused { IfErr result (IsReadRefusal (λ page. is_changed (redone_of redo.now from entries.now) page ≡ true)) }
-    ensures counted { D.faults disk.new ≡ D.faults disk.old + faults_by result }
+    ensures counted { D.faults disk.new ≡ D.faults disk.old + disk_faults_by result }
 {
     let mut kept = BTreeMap::new(alloc);
     for entry in entries {
@@ -81,11 +81,11 @@ fn change_pages<D: PageDisk>(
         page_with kept.new told page
         ≡ page_after (record { at = at; bytes = bytes.now } ∷ []) page (page_with kept.old told page))) }
     ensures keeps { KeepsData kept.new }
-    ensures apart { OnOk result ((page : ℕ) → covers (record { at = at; bytes = bytes.now }) page ≡ false →
+    ensures apart { OnOk result ((page : ℕ) → change_covers (record { at = at; bytes = bytes.now }) page ≡ false →
         get nat_cmp kept.new page ≡ get nat_cmp kept.old page) }
     ensures stays { D.told disk.new ≡ D.told disk.old }
-    ensures refused { IfErr result (IsReadRefusal (λ page. covers (record { at = at; bytes = bytes.now }) page ≡ true)) }
-    ensures counted { D.faults disk.new ≡ D.faults disk.old + faults_by result }
+    ensures refused { IfErr result (IsReadRefusal (λ page. change_covers (record { at = at; bytes = bytes.now }) page ≡ true)) }
+    ensures counted { D.faults disk.new ≡ D.faults disk.old + disk_faults_by result }
 {
     if bytes.is_empty() {
         return Ok(());
@@ -116,7 +116,7 @@ fn change_page<D: PageDisk>(
     ensures apart { (other : ℕ) → other ≢ page → get nat_cmp kept.new other ≡ get nat_cmp kept.old other }
     ensures stays { D.told disk.new ≡ D.told disk.old }
     ensures refused { IfErr result (IsReadRefusal (λ failed. failed ≡ page)) }
-    ensures counted { D.faults disk.new ≡ D.faults disk.old + faults_by result }
+    ensures counted { D.faults disk.new ≡ D.faults disk.old + disk_faults_by result }
 {
     let mut content = content_of(disk, kept, page)?;
     patch(&mut content, page, at, bytes);
@@ -134,7 +134,7 @@ fn content_of<D: PageDisk>(
         content ≡ page_with kept.now told page)) }
     ensures stays { D.told disk.new ≡ D.told disk.old }
     ensures refused { IfErr result (IsReadRefusal (λ failed. failed ≡ page)) }
-    ensures counted { D.faults disk.new ≡ D.faults disk.old + faults_by result }
+    ensures counted { D.faults disk.new ≡ D.faults disk.old + disk_faults_by result }
 {
     if let Some(content) = kept.get(&page) {
         return Ok(*content);
@@ -164,10 +164,10 @@ fn patch(content: &mut [u8; 4096], page: u64, at: u64, bytes: &[u8])
 // Writes the pages that are kept, each once.
 fn write_pages<D: PageDisk>(disk: &mut D, kept: BTreeMap<u64, [u8; 4096]>) -> Result<(), CcError>
     requires keeps { KeepsData kept }
-    ensures writing { Both (D.told disk.old) (D.told disk.new) (λ old new. IsWriting (page_with kept old) old new) }
-    ensures written { OnOk result (Both (D.told disk.old) (D.told disk.new) (λ old new. Holds (page_with kept old) new)) }
+    ensures writing { Both (D.told disk.old) (D.told disk.new) (λ old new. IsPartlyWritten (page_with kept old) old new) }
+    ensures written { OnOk result (Both (D.told disk.old) (D.told disk.new) (λ old new. HoldsMadePages (page_with kept old) new)) }
     ensures refused { IfErr result (IsWriteRefusal (λ page. is_some (get nat_cmp kept page) ≡ true)) }
-    ensures counted { D.faults disk.new ≡ D.faults disk.old + faults_by result }
+    ensures counted { D.faults disk.new ≡ D.faults disk.old + disk_faults_by result }
 {
     let mut left = kept;
     while let Some(first) = left.pop_first() {

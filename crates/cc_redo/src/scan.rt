@@ -3,7 +3,7 @@
 ghost use Rattle.std.specs.Prelude.{◌≡◌, ◌+◌, ◌^◌, ◌≤◌, Some, None, IfOk, IfErr, MatchOption, length};
 ghost use Rattle.cc_traits.specs.Told.{IfTold};
 ghost use Rattle.cc_redo.specs.Ends.{log_faults};
-ghost use Rattle.cc_redo.specs.Heard.{all_updates, change_said, from_of, is_given, is_update, last_of, oldest_in, readings, valid_of};
+ghost use Rattle.cc_redo.specs.Heard.{all_updates, change_said, from_of, is_given, is_update, last_lsn_of, oldest_given_in, readings, redone_valid};
 ghost use Rattle.cc_redo.specs.Scanned.{IsLogRefusal, log_refusal_of};
 
 use crate::record::{LogRecord, read_log_record};
@@ -86,7 +86,7 @@ pub(crate) fn change_in<'a>(says: &'a Option<LogRecord>, redo: &Redo) -> Option<
 
 /// The greatest LSN that was read, 0 where there is none.
 pub(crate) fn last_lsn(entries: &[ReadEntry]) -> u64
-    ensures { result ≡ last_of entries.now }
+    ensures { result ≡ last_lsn_of entries.now }
 {
     let mut last = 0;
     for entry in entries {
@@ -121,7 +121,7 @@ fn is_update(streams: &[Redo], entry: &ReadEntry) -> bool
 
 /// The valid data length of a stream, with all updates that were not passed over.
 pub(crate) fn valid_length(entries: &[ReadEntry], redo: &Redo) -> u64
-    ensures valid { result ≡ valid_of entries.now redo.now }
+    ensures valid { result ≡ redone_valid entries.now redo.now }
     ensures within { result ≤ redo.now.size }
 {
     let mut valid = redo.valid;
@@ -148,7 +148,7 @@ pub(crate) fn first_redone(entries: &[ReadEntry], streams: &[Redo]) -> u64
 
 // The least of the LSN of a checkpoint and the oldest of its rows of the streams.
 fn least_oldest(streams: &[Redo], lsn: u64, rows: &[OldestRow]) -> u64
-    ensures { result ≡ oldest_in streams.now lsn rows.now }
+    ensures { result ≡ oldest_given_in streams.now lsn rows.now }
 {
     let mut oldest = lsn;
     for row in rows {

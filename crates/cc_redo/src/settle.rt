@@ -5,7 +5,7 @@ ghost use Rattle.cc_traits.specs.Disk.{Settled, WriteFailed, Wrote};
 ghost use Rattle.cc_traits.specs.Told.{Both};
 ghost use Rattle.cc_model.specs.Records.{record_page};
 ghost use Rattle.cc_redo.specs.Disks.{record_number};
-ghost use Rattle.cc_redo.specs.Scanned.{IsSettled, IsSettleRefusal, IsSettling, IsWriteRefusal, faults_by};
+ghost use Rattle.cc_redo.specs.Scanned.{DiskIsSettled, IsSettleRefusal, IsSettling, IsWriteRefusal, disk_faults_by};
 
 use crate::pages::write_refusal;
 use cc_entry::CcError;
@@ -22,9 +22,9 @@ pub(crate) fn settle_record<D: PageDisk>(disk: &mut D, size: u64, valid: u64) ->
     requires in_range { size < 2 ^ 63 }
     ensures settling { Both (D.told disk.old) (D.told disk.new) (λ old new.
         (new ≡ old) ⊎ IsSettling (record_page size valid) old new) }
-    ensures settled { OnOk result (Both (D.told disk.old) (D.told disk.new) (IsSettled (record_page size valid))) }
+    ensures settled { OnOk result (Both (D.told disk.old) (D.told disk.new) (DiskIsSettled (record_page size valid))) }
     ensures refused { IfErr result (IsSettleRefusal (D.told disk.old) (D.told disk.new)) }
-    ensures counted { D.faults disk.new ≡ D.faults disk.old + faults_by result }
+    ensures counted { D.faults disk.new ≡ D.faults disk.old + disk_faults_by result }
 {
     sync(disk, 0)?;
     write_told(disk, size, valid)?;
@@ -39,7 +39,7 @@ fn write_told<D: PageDisk>(disk: &mut D, size: u64, valid: u64) -> Result<(), Cc
     ensures err { OnErr result (Both (D.told disk.old) (D.told disk.new) (λ old new.
         (new ≡ old) ⊎ WriteFailed record_number (record_page size valid) old new)) }
     ensures refused { IfErr result (IsWriteRefusal (λ failed. failed ≡ record_number)) }
-    ensures counted { D.faults disk.new ≡ D.faults disk.old + faults_by result }
+    ensures counted { D.faults disk.new ≡ D.faults disk.old + disk_faults_by result }
 {
     let mut page = [0; 4096];
     write_record(StreamRecord::V2 { size, valid }, &mut page);
@@ -54,7 +54,7 @@ fn sync<D: PageDisk>(disk: &mut D, page: u64) -> Result<(), CcError>
     ensures settled { OnOk result (Both (D.told disk.old) (D.told disk.new) Settled) }
     ensures err { OnErr result (D.told disk.new ≡ D.told disk.old) }
     ensures refused { IfErr result (IsWriteRefusal (λ failed. failed ≡ page)) }
-    ensures counted { D.faults disk.new ≡ D.faults disk.old + faults_by result }
+    ensures counted { D.faults disk.new ≡ D.faults disk.old + disk_faults_by result }
 {
     match disk.sync() {
         Ok(()) => Ok(()),

@@ -5,7 +5,7 @@ ghost use Rattle.cc_format.specs.Spelling.{IsReadAs};
 ghost use Rattle.cc_traits.specs.Disk.{page_of};
 ghost use Rattle.cc_traits.specs.Told.{IfTold};
 ghost use Rattle.cc_redo.specs.Disks.{record_number};
-ghost use Rattle.cc_redo.specs.Scanned.{IsRecordRefusal, faults_by};
+ghost use Rattle.cc_redo.specs.Scanned.{IsRecordRefusal, disk_faults_by};
 
 use crate::settle::RECORD_PAGE;
 use cc_entry::CcError;
@@ -19,7 +19,7 @@ pub fn stored_record<D: PageDisk>(disk: &mut D) -> Result<Option<StreamRecord>, 
     ensures read { IfOk result (λ told. IfTold (D.told disk.old) (λ was. IsReadAs (page_of was record_number) told)) }
     ensures stays { D.told disk.new ≡ D.told disk.old }
     ensures refused { IfErr result IsRecordRefusal }
-    ensures counted { D.faults disk.new ≡ D.faults disk.old + faults_by result }
+    ensures counted { D.faults disk.new ≡ D.faults disk.old + disk_faults_by result }
 {
     let mut page = [0; 4096];
     match disk.read_page(RECORD_PAGE, &mut page) {

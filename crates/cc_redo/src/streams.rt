@@ -3,9 +3,9 @@
 ghost use Rattle.std.specs.Prelude.{◌≡◌, ◌+◌, ◌<◌, All, IfOk, IfErr, OnOk, OnErr, length};
 ghost use Rattle.cc_entry.specs.Errors.{out_of_memory};
 ghost use Rattle.cc_traits.specs.Told.{IfTold};
-ghost use Rattle.cc_redo.specs.Ends.{DisksDiffer, EachDisk, IsAnswer, IsAnswerOf, IsCounted, IsFaultOf, IsRefused, Leaves, LeavesBy, log_faults};
+ghost use Rattle.cc_redo.specs.Ends.{DisksDiffer, EachDisk, IsRestartAnswer, IsAnswerOf, IsCounted, IsFaultOf, IsRestartRefusal, LeavesDisk, LeavesBy, log_faults};
 ghost use Rattle.cc_redo.specs.Heard.{from_of};
-ghost use Rattle.cc_redo.specs.Stages.{IsRecordFault, IsStageRefusal, PagesDone, PagesLeft, RecordDone, RecordLeft};
+ghost use Rattle.cc_redo.specs.Stages.{IsRecordFault, IsStageRefusal, PagesDone, RedonePagesLeft, RecordDone, RedoneRecordLeft};
 
 use crate::pages::redo_pages;
 use crate::redo::Redo;
@@ -45,9 +45,9 @@ pub fn restart<D: PageDisk, L: LogFile>(
     requires disks { All (λ redo. redo.disk < length disks.old) streams.now }
     requires differ { DisksDiffer streams.now }
     ensures leaves { EachDisk streams.now (λ redo was now.
-        Leaves streams.now (L.told log.old) result redo (D.told was) (D.told now)) disks.old disks.new }
-    ensures answer { IfOk result (λ done. IfTold (L.told log.old) (λ told. IsAnswer streams.now told done)) }
-    ensures refused { IfErr result (IsRefused D.told D.faults streams.now (L.told log.old) disks.old disks.new) }
+        LeavesDisk streams.now (L.told log.old) result redo (D.told was) (D.told now)) disks.old disks.new }
+    ensures answer { IfOk result (λ done. IfTold (L.told log.old) (λ told. IsRestartAnswer streams.now told done)) }
+    ensures refused { IfErr result (IsRestartRefusal D.told D.faults streams.now (L.told log.old) disks.old disks.new) }
     ensures log_stays { L.told log.new ≡ L.told log.old }
     ensures log_counted { L.faults log.new ≡ L.faults log.old + log_faults result }
     ensures counted { EachDisk streams.now (λ redo was now. IsCounted result (D.faults was) (D.faults now)) disks.old disks.new }
@@ -106,7 +106,7 @@ fn redo_all<D: PageDisk>(
     requires disks { All (λ redo. redo.disk < length disks.old) streams.now }
     requires differ { DisksDiffer streams.now }
     ensures done { OnOk result (EachDisk streams.now (PagesDone D.told D.faults from entries.now) disks.old disks.new) }
-    ensures left { OnErr result (EachDisk streams.now (PagesLeft D.told D.faults from entries.now) disks.old disks.new) }
+    ensures left { OnErr result (EachDisk streams.now (RedonePagesLeft D.told D.faults from entries.now) disks.old disks.new) }
     ensures refused { IfErr result (IsStageRefusal D.faults (IsFaultOf D.told from entries.now) streams.now disks.old disks.new) }
 {
     for redo in streams {
@@ -124,7 +124,7 @@ fn settle_all<D: PageDisk>(
     requires disks { All (λ redo. redo.disk < length disks.old) streams.now }
     requires differ { DisksDiffer streams.now }
     ensures done { OnOk result (EachDisk streams.now (RecordDone D.told D.faults entries.now) disks.old disks.new) }
-    ensures left { OnErr result (EachDisk streams.now (RecordLeft D.told D.faults entries.now) disks.old disks.new) }
+    ensures left { OnErr result (EachDisk streams.now (RedoneRecordLeft D.told D.faults entries.now) disks.old disks.new) }
     ensures refused { IfErr result (IsStageRefusal D.faults (IsRecordFault D.told) streams.now disks.old disks.new) }
 {
     for redo in streams {

@@ -11,8 +11,8 @@ use Rattle.cc_model.specs.Setup.{Setup}
 use Rattle.cc_model.specs.History.{Effect}
 use Rattle.cc_model.specs.Touches.{size_of}
 use Rattle.cc_model.specs.Reasons.{beyond_size}
-use Rattle.cc_model.specs.Refusals.{first_of, refusal}
-use Rattle.cc_refusal.specs.Reasons.{argument_reasons, hold_reasons, use_reasons, disk_reasons}
+use Rattle.cc_model.specs.Refusals.{argument_reasons, first_of, refusal}
+use Rattle.cc_refusal.specs.Reasons.{hold_reasons, view_reasons, disk_reasons}
 
 -- two lists with the same first reason and the same others are the same
 pub same_reasons : {a b : Option CcError} {xs ys : List (Option CcError)} → a ≡ b → xs ≡ ys → a ∷ xs ≡ b ∷ ys
@@ -43,25 +43,25 @@ within_size u h it is = (none_of (argument_reasons u h it) is).1.1.1.1.1.1.0
 pub refusal-argument : (u : Setup) (past : List Entry) (h : List Effect) (it : Call) (e : CcError) → Some e ≡ first_of (argument_reasons u h it) → Some e ≡ refusal u past h it
 unfolding refusal
 refusal-argument u past h it e is =
-    first_found (argument_reasons u h it) (hold_reasons h it ++ (use_reasons past h it ++ disk_reasons h it)) e is
+    first_found (argument_reasons u h it) (hold_reasons h it ++ (view_reasons past h it ++ disk_reasons h it)) e is
 
 pub refusal-hold : (u : Setup) (past : List Entry) (h : List Effect) (it : Call) (e : CcError) → None ≡ first_of (argument_reasons u h it) → Some e ≡ first_of (hold_reasons h it) → Some e ≡ refusal u past h it
 unfolding refusal
 refusal-hold u past h it e none is =
-    first_found (hold_reasons h it) (use_reasons past h it ++ disk_reasons h it) e is
-    ∙ first_missed (argument_reasons u h it) (hold_reasons h it ++ (use_reasons past h it ++ disk_reasons h it)) none
+    first_found (hold_reasons h it) (view_reasons past h it ++ disk_reasons h it) e is
+    ∙ first_missed (argument_reasons u h it) (hold_reasons h it ++ (view_reasons past h it ++ disk_reasons h it)) none
 
-pub refusal-use : (u : Setup) (past : List Entry) (h : List Effect) (it : Call) (e : CcError) → None ≡ first_of (argument_reasons u h it) → None ≡ first_of (hold_reasons h it) → Some e ≡ first_of (use_reasons past h it) → Some e ≡ refusal u past h it
+pub refusal-use : (u : Setup) (past : List Entry) (h : List Effect) (it : Call) (e : CcError) → None ≡ first_of (argument_reasons u h it) → None ≡ first_of (hold_reasons h it) → Some e ≡ first_of (view_reasons past h it) → Some e ≡ refusal u past h it
 unfolding refusal
 refusal-use u past h it e none neither is =
-    first_found (use_reasons past h it) (disk_reasons h it) e is
-    ∙ (first_missed (hold_reasons h it) (use_reasons past h it ++ disk_reasons h it) neither
-    ∙ first_missed (argument_reasons u h it) (hold_reasons h it ++ (use_reasons past h it ++ disk_reasons h it)) none)
+    first_found (view_reasons past h it) (disk_reasons h it) e is
+    ∙ (first_missed (hold_reasons h it) (view_reasons past h it ++ disk_reasons h it) neither
+    ∙ first_missed (argument_reasons u h it) (hold_reasons h it ++ (view_reasons past h it ++ disk_reasons h it)) none)
 
 -- where no other reason holds, those of the disk decide
-pub refusal-disk : (u : Setup) (past : List Entry) (h : List Effect) (it : Call) → None ≡ first_of (argument_reasons u h it) → None ≡ first_of (hold_reasons h it) → None ≡ first_of (use_reasons past h it) → first_of (disk_reasons h it) ≡ refusal u past h it
+pub refusal-disk : (u : Setup) (past : List Entry) (h : List Effect) (it : Call) → None ≡ first_of (argument_reasons u h it) → None ≡ first_of (hold_reasons h it) → None ≡ first_of (view_reasons past h it) → first_of (disk_reasons h it) ≡ refusal u past h it
 unfolding refusal
 refusal-disk u past h it none neither nor =
-    first_missed (use_reasons past h it) (disk_reasons h it) nor
-    ∙ (first_missed (hold_reasons h it) (use_reasons past h it ++ disk_reasons h it) neither
-    ∙ first_missed (argument_reasons u h it) (hold_reasons h it ++ (use_reasons past h it ++ disk_reasons h it)) none)
+    first_missed (view_reasons past h it) (disk_reasons h it) nor
+    ∙ (first_missed (hold_reasons h it) (view_reasons past h it ++ disk_reasons h it) neither
+    ∙ first_missed (argument_reasons u h it) (hold_reasons h it ++ (view_reasons past h it ++ disk_reasons h it)) none)

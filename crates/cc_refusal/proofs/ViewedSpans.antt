@@ -14,7 +14,7 @@ use Rattle.cc_model.specs.Touches.{size_of}
 use Rattle.cc_model.specs.Ranges.{cut_range, range_of}
 use Rattle.cc_model.specs.Residency.{is_resident, all_resident}
 use Rattle.cc_model.specs.Views.{viewed}
-use Rattle.cc_refusal.specs.Known.{IsLeastAbsent, HasBlocksOf}
+use Rattle.cc_refusal.specs.Known.{IsLeastAbsent, HasSameBlocks}
 
 -- whether there is no number
 abbrev none_in : Option ℕ → Bool
@@ -30,19 +30,19 @@ all_found test (n ∷ ns) = go (test n) (all_found test ns)
     go true rest = rest
     go false rest = refl
 
-read-viewed : (h : List Effect) (r : Range) (absent : Option ℕ) (span : Option Range) → absent ≡ find (λ p. not (is_resident h p)) (pages_of r) → (absent ≡ None → span ≡ None) → ((p : ℕ) → absent ≡ Some p → HasBlocksOf span (Some r)) → HasBlocksOf span (if all_resident h r then None else Some r)
+read-viewed : (h : List Effect) (r : Range) (absent : Option ℕ) (span : Option Range) → absent ≡ find (λ p. not (is_resident h p)) (pages_of r) → (absent ≡ None → span ≡ None) → ((p : ℕ) → absent ≡ Some p → HasSameBlocks span (Some r)) → HasSameBlocks span (if all_resident h r then None else Some r)
 read-viewed h r absent span is none some =
     go absent none some
     ∙ sym (ap (λ (b : Bool). option_map blocks_of (if b then None else Some r)) (all_found (is_resident h) (pages_of r) ∙ ap none_in (sym is)))
   where
-    go : (o : Option ℕ) → (o ≡ None → span ≡ None) → ((p : ℕ) → o ≡ Some p → HasBlocksOf span (Some r)) → option_map blocks_of span ≡ option_map blocks_of (if none_in o then None else Some r)
+    go : (o : Option ℕ) → (o ≡ None → span ≡ None) → ((p : ℕ) → o ≡ Some p → HasSameBlocks span (Some r)) → option_map blocks_of span ≡ option_map blocks_of (if none_in o then None else Some r)
     go None none some = ap (option_map blocks_of) (none refl)
     go (Some p) none some = some p refl
 
-pub absent-viewed : (h : List Effect) (it : Call) (file : File) (size at len : ℕ) (absent : Option ℕ) (span : Option Range) → it ≡ call.CopyRead file at len false → size ≡ size_of h → IsLeastAbsent h it absent → (absent ≡ None → span ≡ None) → ((p : ℕ) → absent ≡ Some p → HasBlocksOf span (Some (cut_range size at len))) → HasBlocksOf span (viewed h it (range_of size it))
+pub absent-viewed : (h : List Effect) (it : Call) (file : File) (size at len : ℕ) (absent : Option ℕ) (span : Option Range) → it ≡ call.CopyRead file at len false → size ≡ size_of h → IsLeastAbsent h it absent → (absent ≡ None → span ≡ None) → ((p : ℕ) → absent ≡ Some p → HasSameBlocks span (Some (cut_range size at len))) → HasSameBlocks span (viewed h it (range_of size it))
 absent-viewed h it file size at len absent span is same least none some =
     let found = subst (λ (c : Call). IsLeastAbsent h c absent) is least in
     let there : absent ≡ find (λ p. not (is_resident h p)) (pages_of (cut_range size at len)) =
     found ∙ ap (λ (n : ℕ). find (λ p. not (is_resident h p)) (pages_of (cut_range n at len))) (sym same) in
-    subst (λ (c : Call). HasBlocksOf span (viewed h c (range_of size c))) (sym is)
+    subst (λ (c : Call). HasSameBlocks span (viewed h c (range_of size c))) (sym is)
     (read-viewed h (cut_range size at len) absent span there none some)

@@ -29,7 +29,6 @@ pub record KnownStands (u : Setup) (past : List Entry) (h : List Effect) (known 
   pub images : ImagesStand h known.images.now
   pub dirty : AreDirty h known.stream known.dirty.now
   pub logs : u.logs ≡ known.logs
-  pub free_views : known.free_views ≡ 256 - views_taken past
 
 -- Of the range of a read which may not wait it is the least page that is not resident. Of another call nothing
 -- is said.
@@ -39,6 +38,11 @@ IsLeastAbsent h (call.CopyRead file at len false) absent =
 IsLeastAbsent h (call.CopyRead file at len true) absent = Unit {0}
 IsLeastAbsent h other absent = Unit {0}
 
+-- Of an initialise it is how many of the 256 views no mapped stream has taken. Of another call nothing is said.
+abbrev pub AreFreeViews : List Entry → Call → ℕ → Type 0
+AreFreeViews past (call.Initialise file sizes quota temporary) free = free ≡ 256 - views_taken past
+AreFreeViews past other free = Unit {0}
+
 -- two ranges have the same view blocks, or there is neither
-abbrev pub HasBlocksOf : Option Range → Option Range → Type 0
-HasBlocksOf span r = option_map blocks_of span ≡ option_map blocks_of r
+abbrev pub HasSameBlocks : Option Range → Option Range → Type 0
+HasSameBlocks span r = option_map blocks_of span ≡ option_map blocks_of r

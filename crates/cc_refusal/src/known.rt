@@ -7,8 +7,7 @@ use cc_images::Images;
 use cc_stream::StreamState;
 
 /// What a refusal is decided from: the call's stream, its state, its valid data length, whether it has a shared
-/// map, its open holds, the images of its pages, the dirty pages of all streams, the number of logs, and how many
-/// of the 256 views no mapped stream has taken.
+/// map, its open holds, the images of its pages, the dirty pages of all streams, and the number of logs.
 #[derive(Clone, Copy)]
 pub struct Known<'a> {
     pub stream: StreamId,
@@ -19,5 +18,4 @@ pub struct Known<'a> {
     pub images: &'a Images,
     pub dirty: &'a [Row],
     pub logs: u8,
-    pub free_views: u16,
 }

@@ -6,9 +6,9 @@ ghost use Rattle.cc_model.specs.Setup.{Setup};
 ghost use Rattle.cc_model.specs.History.{Effect};
 ghost use Rattle.cc_model.specs.Touches.{size_of};
 ghost use Rattle.cc_model.specs.Reasons.{beyond_size};
-ghost use Rattle.cc_model.specs.Refusals.{first_of, refusal};
-ghost use Rattle.cc_refusal.specs.Known.{KnownStands, IsLeastAbsent};
-ghost use Rattle.cc_refusal.specs.Reasons.{argument_reasons, hold_reasons, use_reasons, disk_reasons};
+ghost use Rattle.cc_model.specs.Refusals.{argument_reasons, first_of, refusal};
+ghost use Rattle.cc_refusal.specs.Known.{KnownStands, IsLeastAbsent, AreFreeViews};
+ghost use Rattle.cc_refusal.specs.Reasons.{hold_reasons, view_reasons, disk_reasons};
 
 use crate::conflicts::{by_holds, by_pins};
 use crate::disk::{by_growth, by_images};
@@ -51,15 +51,16 @@ fn by_use(
     known: &Known,
     call: &Call,
     absent: Option<u64>,
+    free_views: u16,
 ) -> Result<Option<CcError>, NoMemory>
     ensures { IfOk result (λ refused. (u : Setup) (past : List Entry) (h : List Effect) →
-        KnownStands u past h known.now → IsLeastAbsent h call.now absent →
+        KnownStands u past h known.now → IsLeastAbsent h call.now absent → AreFreeViews past call.now free_views →
         beyond_size (size_of h) call.now ≡ None →
-        refused ≡ first_of (use_reasons past h call.now)) }
+        refused ≡ first_of (view_reasons past h call.now)) }
 {
     let reasons = [
         by_views(alloc, known, call, absent)?,
-        by_pool(known.mapped, known.free_views, call),
+        by_pool(known.mapped, free_views, call),
         by_residents(call, absent),
     ];
     Ok(first_in(&reasons))
@@ -74,16 +75,18 @@ fn by_disk(known: &Known, call: &Call) -> Option<CcError>
 }
 
 /// The refusal of a call on a stream: the first reason that holds, in their order. `absent` is the least page
-/// of the call's range that is not resident, where the call is a copy read that may not wait; of other calls
-/// it is not looked at. Answers `NoMemory` where memory is wanting.
+/// of the call's range that is not resident, where the call is a copy read that may not wait, and `free_views` how
+/// many of the 256 views no mapped stream has taken, where it is an initialise; of other calls they are not looked
+/// at. Answers `NoMemory` where memory is wanting.
 pub fn refusal(
     alloc: Global,
     known: &Known,
     call: &Call,
     absent: Option<u64>,
+    free_views: u16,
 ) -> Result<Option<CcError>, NoMemory>
     ensures { IfOk result (λ refused. (u : Setup) (past : List Entry) (h : List Effect) →
-        KnownStands u past h known.now → IsLeastAbsent h call.now absent →
+        KnownStands u past h known.now → IsLeastAbsent h call.now absent → AreFreeViews past call.now free_views →
         refused ≡ refusal u past h call.now) }
 {
     if let Some(refused) = by_arguments(known, call) {
@@ -92,7 +95,7 @@ pub fn refusal(
     if let Some(refused) = by_conflicts(known, call) {
         return Ok(Some(refused));
     }
-    if let Some(refused) = by_use(alloc, known, call, absent)? {
+    if let Some(refused) = by_use(alloc, known, call, absent, free_views)? {
         return Ok(Some(refused));
     }
     Ok(by_disk(known, call))

@@ -8,12 +8,11 @@ ghost use Rattle.cc_model.specs.History.{Effect};
 ghost use Rattle.cc_model.specs.Touches.{size_of, is_mapped};
 ghost use Rattle.cc_model.specs.Sizes.{stored_range};
 ghost use Rattle.cc_model.specs.Ranges.{range_of, cut_range};
-ghost use Rattle.cc_model.specs.Cache.{views_taken};
 ghost use Rattle.cc_model.specs.Reasons.{beyond_size};
 ghost use Rattle.cc_model.specs.Views.{viewed, no_views, no_vacbs, not_resident};
 ghost use Rattle.cc_stream.specs.Stream.{StreamStands};
 ghost use Rattle.cc_holds.specs.Stands.{HoldsStand};
-ghost use Rattle.cc_refusal.specs.Known.{HasBlocksOf, IsLeastAbsent};
+ghost use Rattle.cc_refusal.specs.Known.{AreFreeViews, HasSameBlocks, IsLeastAbsent};
 
 use crate::known::Known;
 use cc_entry::{Call, CcError, NoMemory, Span};
@@ -29,7 +28,7 @@ fn whole(at: u64, len: u64) -> Option<Span>
 
 /// The same as far as they lie below the size, and no byte where they start past it.
 pub(crate) fn cut(size: u64, at: u64, len: u64) -> Option<Span>
-    ensures { HasBlocksOf result (Some (cut_range size at len)) }
+    ensures { HasSameBlocks result (Some (cut_range size at len)) }
 {
     let end = at.saturating_add(len).min(size);
     Span::new(at, end.max(at))
@@ -48,7 +47,7 @@ fn stored(page: u64, size: u64) -> Option<Span>
 fn span_viewed(size: u64, call: &Call, absent: Option<u64>) -> Option<Span>
     ensures { (h : List Effect) → size ≡ size_of h → IsLeastAbsent h call.now absent →
         beyond_size size call.now ≡ None →
-        HasBlocksOf result (viewed h call.now (range_of size call.now)) }
+        HasSameBlocks result (viewed h call.now (range_of size call.now)) }
 {
     match call {
         Call::CopyRead {
@@ -79,7 +78,7 @@ fn span_viewed(size: u64, call: &Call, absent: Option<u64>) -> Option<Span>
 // The range of a read that may not wait, where a page of it is not resident.
 fn span_absent(size: u64, at: u64, len: u64, absent: Option<u64>) -> Option<Span>
     ensures none { absent ≡ None → result ≡ None }
-    ensures some { (p : ℕ) → absent ≡ Some p → HasBlocksOf result (Some (cut_range size at len)) }
+    ensures some { (p : ℕ) → absent ≡ Some p → HasSameBlocks result (Some (cut_range size at len)) }
 {
     match absent {
         Some(_) => cut(size, at, len),
@@ -122,7 +121,7 @@ fn over_quota(alloc: Global, known: &Known, span: Span) -> Result<Option<CcError
 /// The refusal of an initialise that makes the map and asks more views than the pool has left.
 pub(crate) fn by_pool(mapped: bool, free_views: u16, call: &Call) -> Option<CcError>
     ensures { (past : List Entry) (h : List Effect) →
-        mapped ≡ is_mapped h → free_views ≡ 256 - views_taken past →
+        mapped ≡ is_mapped h → AreFreeViews past call.now free_views →
         result ≡ no_vacbs past h call.now }
 {
     match call {

@@ -15,7 +15,7 @@ use Rattle.cc_model.specs.Sizes.{Sizes, Touch}
 use Rattle.cc_model.specs.Touches.{is_dirty}
 use Rattle.cc_laws.specs.Laws.{SameSettings}
 use Rattle.cc_laws.specs.ByPlaces.{some_effect, touches_page, cuts_page}
-use Rattle.cc_laws.specs.ByPlacesDirty.{IsWritten, IsTouch}
+use Rattle.cc_laws.specs.ByPlacesDirty.{IsTransferredSince, IsTouch}
 use Rattle.cc_laws.proofs.QuietSteps.{none_or}
 use Rattle.cc_laws.proofs.ObjectSteps.{objects-came_in, objects-went_out, objects-began, objects-ended, objects-synced, objects-looks}
 use Rattle.cc_laws.proofs.SizeSteps.{sizes-came_in, sizes-went_out, sizes-began, sizes-ended, sizes-synced, sizes-looks}
@@ -140,7 +140,7 @@ clean-by ts us same clean = ap (λ (l : List Touch). not (is_empty l)) same ∙ 
 touch-before : (pass page : ℕ) (how : End) (h : List Effect) (p : ℕ) (t : Touch) → IsTouch (Ended pass page how ∷ h) p t → IsTouch h p t
 touch-before pass page how h p t k = by k.later k.places k.unwritten k.uncut
   where
-    by : (later : List Effect) → Ended pass page how ∷ h ≡ later ++ k.effect ∷ k.before → (IsWritten later p → ⊥) → some_effect (cuts_page p) later (k.effect ∷ k.before) ≡ false → IsTouch h p t
+    by : (later : List Effect) → Ended pass page how ∷ h ≡ later ++ k.effect ∷ k.before → (IsTransferredSince later p → ⊥) → some_effect (cuts_page p) later (k.effect ∷ k.before) ≡ false → IsTouch h p t
     by [] places never uncut =
         let is : k.effect ≡ Ended pass page how = cc places in
         let none : touches_page p k.effect k.before ≡ false = subst (λ (e : Effect). touches_page p e k.before ≡ false) (sym is) refl in
@@ -152,7 +152,7 @@ touch-before pass page how h p t k = by k.later k.places k.unwritten k.uncut
       places = cc places;
       touches_it = k.touches_it;
       is = k.is;
-      unwritten = λ (w : IsWritten later p). never (record {
+      unwritten = λ (w : IsTransferredSince later p). never (record {
         after = e ∷ w.after;
         ok_end = w.ok_end;
         between = w.between;

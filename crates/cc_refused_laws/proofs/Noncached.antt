@@ -18,7 +18,7 @@ use Rattle.cc_effects.specs.Asked.{Calls}
 use Rattle.cc_effects.specs.Calls.{CallLeft}
 use Rattle.cc_effects.specs.Licences.{IsEntryOf}
 use Rattle.cc_effects.specs.Moments.{IsIdle, PlacedOnly}
-use Rattle.cc_effects.specs.Noncached.{shape_refusal, pages_from, MisshapenLeft, IsUntold, EndsShort, PagesRead, PageReadsRefused, AlignedReadLeft, ShapedReadLeft, NcReadLeft, IsTransferred, TransferRefused, PageRefused, AlignedWriteLeft, ShapedWriteLeft, NcWriteLeft}
+use Rattle.cc_effects.specs.Noncached.{shape_refusal, pages_from, MisshapenLeft, IsUntold, EndsShort, PagesRead, PageReadsRefused, AlignedReadLeft, ShapedReadLeft, NcReadLeft, StoreIsTransferred, TransferRefused, PageRefused, AlignedWriteLeft, ShapedWriteLeft, NcWriteLeft}
 use Rattle.cc_refused_laws.specs.Changed.{ChangedNoFile, ChangedNoFileBut, KeepsFiles}
 use Rattle.cc_refused_laws.proofs.Calls.{looked-files, refused-files, steps-keep}
 use Rattle.cc_refused_laws.proofs.Entries.{keeps-files, keeps-refused}
@@ -118,7 +118,7 @@ KeptOrStore file page bytes past e = KeepsFiles past e ⊎ IsEntryOf (call.NcSto
 kept-but : (me : ℕ) (file : File) (page : ℕ) (bytes : List ℕ) (old new : List Entry) → ChangedNoFile me old new → ButStore me file page bytes old new
 kept-but me file page bytes old new kept = is-implies me KeepsFiles (KeptOrStore file page bytes) (λ past e is. inl is) old new kept
 
-stored-but : (me : ℕ) (file : File) (page : ℕ) (bytes : List ℕ) (end : End) (old new : List Entry) → IsTransferred me file page bytes end old new → ButStore me file page bytes old new
+stored-but : (me : ℕ) (file : File) (page : ℕ) (bytes : List ℕ) (end : End) (old new : List Entry) → StoreIsTransferred me file page bytes end old new → ButStore me file page bytes old new
 stored-but me file page bytes end old new is =
     subst (λ (l : List Entry). ButStore me file page bytes old l) (sym is.grew)
     (is-then me Is old _ _

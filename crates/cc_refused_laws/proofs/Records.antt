@@ -15,7 +15,7 @@ use Rattle.cc_entry.specs.declared.reply.Reply.TheVariants as reply
 use Rattle.cc_model.specs.History.{history}
 use Rattle.cc_model.specs.Setup.{Setup}
 use Rattle.cc_model.specs.Touches.{valid_of}
-use Rattle.cc_records.specs.Left.{HasFlushed, LoadLeft, RecordStopped, SettleLeft, SyncedSome, WroteRecord, WroteSome}
+use Rattle.cc_records.specs.Left.{StreamHasFlushed, LoadLeft, RecordStopped, SettleLeft, SyncedSome, WroteRecord, WroteSome}
 use Rattle.cc_refused_laws.specs.Changed.{ChangedNoFile, ChangedNothing, KeepsAll, KeepsFiles}
 use Rattle.cc_refused_laws.proofs.Calls.{looked-files, refused-files}
 use Rattle.cc_refused_laws.proofs.Entries.{keeps-all-unlocked, keeps-files}
@@ -54,7 +54,7 @@ stopped-files me s first (error.WriteFault page) old new (is, inl wrote) = some-
 stopped-files me s first (error.WriteFault page) old new (is, inr synced) = synced-files me s first how.Failed old new synced
 stopped-files me s first other old new left = absurd left
 
-flushed-files : (u : Setup) (me : ℕ) (file : File) (told : FileState) (begun old new : List Entry) → HasFlushed u me file told begun old new → ChangedNoFile me old new
+flushed-files : (u : Setup) (me : ℕ) (file : File) (told : FileState) (begun old new : List Entry) → StreamHasFlushed u me file told begun old new → ChangedNoFile me old new
 flushed-files u me file told begun old new has =
     is-then me KeepsFiles old has.stated new (looked-files u me (call.State file) (reply.State told) old has.stated refl has.state)
     (is-then me KeepsFiles has.stated begun new (is-idle me KeepsFiles has.stated begun has.idle)

@@ -7,15 +7,15 @@ use Rattle.std.specs.List.{list_all, range_with_len}
 use Rattle.std.specs.Option.{option_map, IfSome}
 use Rattle.cc_entry.specs.Pages.{has_byte, whole_range}
 use Rattle.cc_entry.specs.Place.{Range}
-use Rattle.cc_pages.specs.Pages.{Page, owned, overwritten}
-use Rattle.cc_views.specs.Views.{Mapped}
-use Rattle.cc_resident.specs.Residents.{frame_at, page_at, byte_at, is_resident, shares, is_shared, blocks, has_pages, all_resident, all_mapped, is_among, IsFrame, AreResidents}
-use Rattle.cc_resident.specs.Changes.{Puts, Covers}
+use Rattle.cc_pages.specs.Pages.{PageFrame, owned, overwritten}
+use Rattle.cc_views.specs.Views.{MappedViews}
+use Rattle.cc_resident.specs.Residents.{frame_at, page_bytes_at, byte_at, is_resident, shares, is_shared, blocks, has_pages, all_resident, all_mapped, is_block_among, IsFrame, AreResidents}
+use Rattle.cc_resident.specs.Changes.{Puts, CoversRange}
 use Rattle.cc_resident.proofs.Frames.{resident_is, some_from}
 use Rattle.cc_resident.proofs.Kept.{page_alike, page_from, has_more}
 use Rattle.cc_resident.proofs.Lists.{all_weaken, both_true}
 
-pub byte_is : (m : Mapped) (i : ℕ) → byte_at m i ≡ option_map (λ bytes. get_or bytes (i % 4096) 0) (page_at m (i / 4096))
+pub byte_is : (m : MappedViews) (i : ℕ) → byte_at m i ≡ option_map (λ bytes. get_or bytes (i % 4096) 0) (page_bytes_at m (i / 4096))
 unfolding byte_at
 byte_is m i = refl
 
@@ -47,15 +47,15 @@ pub out_of_range : (r : Range) (i : ℕ) → has_byte r i ≡ false → r.from �
 out_of_range r i h a b = grind (arith, nat_tests)
 
 -- bytes were written over those of a page
-pub record Over (old new : Mapped) (page at : ℕ) (bs : List ℕ) : Type 0 where
-  pub frame : Page
+pub record Over (old new : MappedViews) (page at : ℕ) (bs : List ℕ) : Type 0 where
+  pub frame : PageFrame
   pub was : frame_at old page ≡ Some frame
   pub long : length frame.bytes ≡ 4096
   pub owned_is : is_shared old page ≡ false
   pub fits : at + length bs ≤ 4096
   pub puts : Puts old new page (Some (owned (overwritten frame.bytes at bs)))
 
-pub Over-from : (old new : Mapped) (page at : ℕ) (bs : List ℕ) → is_resident old page ≡ true → is_shared old page ≡ false → IsFrame (frame_at old page) → at + length bs ≤ 4096
+pub Over-from : (old new : MappedViews) (page at : ℕ) (bs : List ℕ) → is_resident old page ≡ true → is_shared old page ≡ false → IsFrame (frame_at old page) → at + length bs ≤ 4096
     → IfSome (frame_at old page) (λ frame. Puts old new page (Some (owned (overwritten frame.bytes at bs)))) → Over old new page at bs
 Over-from old new page at bs h own is fits w =
     let f = some_from (frame_at old page) (sym (resident_is old page) ∙ h) in
@@ -68,12 +68,12 @@ Over-from old new page at bs h own is fits w =
       puts = subst (λ o. IfSome o (λ frame. Puts old new page (Some (owned (overwritten frame.bytes at bs))))) f.1 w;
     }
 
-module _ (old new : Mapped) (page at : ℕ) (bs : List ℕ) (o : Over old new page at bs) where
+module _ (old new : MappedViews) (page at : ℕ) (bs : List ℕ) (o : Over old new page at bs) where
   was_byte : (i : ℕ) → i / 4096 ≡ page → byte_at old i ≡ Some (get_or o.frame.bytes (i % 4096) 0)
-  was_byte i e = byte_is old i ∙ ap (option_map (λ bytes. get_or bytes (i % 4096) 0)) (ap (page_at old) e ∙ page_from old page (Some o.frame) o.was)
+  was_byte i e = byte_is old i ∙ ap (option_map (λ bytes. get_or bytes (i % 4096) 0)) (ap (page_bytes_at old) e ∙ page_from old page (Some o.frame) o.was)
 
   new_byte : (i : ℕ) → i / 4096 ≡ page → byte_at new i ≡ Some (get_or (overwritten o.frame.bytes at bs) (i % 4096) 0)
-  new_byte i e = byte_is new i ∙ ap (option_map (λ bytes. get_or bytes (i % 4096) 0)) (ap (page_at new) e ∙ page_from new page (Some (owned (overwritten o.frame.bytes at bs))) o.puts.here)
+  new_byte i e = byte_is new i ∙ ap (option_map (λ bytes. get_or bytes (i % 4096) 0)) (ap (page_bytes_at new) e ∙ page_from new page (Some (owned (overwritten o.frame.bytes at bs))) o.puts.here)
 
   over_inside : (i : ℕ) → (4096 * page + at ≤ i) × (i < 4096 * page + at + length bs) → byte_at new i ≡ option_map (λ _. get_or bs (i - (4096 * page + at)) 0) (byte_at old i)
   over_inside i h =
@@ -116,7 +116,7 @@ module _ (old new : Mapped) (page at : ℕ) (bs : List ℕ) (o : Over old new pa
           ap (is_shared new) e ∙ ap shares o.puts.here ∙ sym (ap (is_shared old) e ∙ o.owned_is)
       by false t = ap shares (o.puts.others p (λ s. true≢false (sym (eq-eqb p page s) ∙ t)))
 
-  pub Covers-over : Covers old new (whole_range (4096 * page + at) (length bs)) (λ i. get_or bs (i - (4096 * page + at)) 0)
+  pub Covers-over : CoversRange old new (whole_range (4096 * page + at) (length bs)) (λ i. get_or bs (i - (4096 * page + at)) 0)
   Covers-over =
       let r = whole_range (4096 * page + at) (length bs) in
       record {
@@ -152,15 +152,15 @@ all_range f a (suc n) p h from to = by (a == p) refl (both_true (f a) (list_all 
         let apart : a ≢ p = λ s. true≢false (sym (eq-eqb a p s) ∙ e) in
         rest k.1 (omega arith) (omega arith)
 
-pub resident_in : (m : Mapped) (at n i : ℕ) → all_resident m (whole_range at n) ≡ true → at ≤ i → i < at + n → is_resident m (i / 4096) ≡ true
+pub resident_in : (m : MappedViews) (at n i : ℕ) → all_resident m (whole_range at n) ≡ true → at ≤ i → i < at + n → is_resident m (i / 4096) ≡ true
 resident_in m at n i h from to =
     let some : nat_lt at (at + n) ≡ true = grind (arith, nat_tests) in
     let k = ap (λ b. list_all (is_resident m) (cond b (range_with_len (at / 4096) ((at + n - 1) / 4096 + 1 - at / 4096)) [])) some in
     all_range (is_resident m) (at / 4096) ((at + n - 1) / 4096 + 1 - at / 4096) (i / 4096) (sym k ∙ h) (omega arith) (omega arith)
 
-pub mapped_in : (m : Mapped) (from to block : ℕ) → from < to → all_mapped m (record { from = from; to = to }) ≡ true → from / 262144 ≤ block → block < (to - 1) / 262144 + 1 → is_among block (blocks m) ≡ true
+pub mapped_in : (m : MappedViews) (from to block : ℕ) → from < to → all_mapped m (record { from = from; to = to }) ≡ true → from / 262144 ≤ block → block < (to - 1) / 262144 + 1 → is_block_among block (blocks m) ≡ true
 mapped_in m from to block some h above below =
     let test : nat_lt from to ≡ true = grind (arith, nat_tests) in
     let n = (to - 1) / 262144 + 1 - from / 262144 in
-    let k = ap (λ b. list_all (λ x. is_among x (blocks m)) (cond b (range_with_len (from / 262144) n) [])) test in
-    all_range (λ x. is_among x (blocks m)) (from / 262144) n block (sym k ∙ h) above (omega arith)
+    let k = ap (λ b. list_all (λ x. is_block_among x (blocks m)) (cond b (range_with_len (from / 262144) n) [])) test in
+    all_range (λ x. is_block_among x (blocks m)) (from / 262144) n block (sym k ∙ h) above (omega arith)

@@ -2,7 +2,7 @@
 use Rattle.std.proofs.Common.{◌≡◌, ℕ, ◌+◌, ◌-◌, ◌<◌, ◌≤◌, zero, suc, Bool, true, false, cond, not, ◌&&◌, ◌||◌, ◌==◌, if◌then◌else◌, List, [], ◌∷◌, ◌++◌, None, Some, is_some, refl, sym, ap, subst, ◌∙◌, true≢false, arith}
 use Rattle.std.proofs.lemmas.Bool.{eqb-true, eq-eqb}
 use Rattle.std.specs.List.{filter, find, list_any, list_all, range_with_len}
-use Rattle.cc_resident.specs.Residents.{is_among, without, used}
+use Rattle.cc_resident.specs.Residents.{is_block_among, order_without, used}
 
 pub both_true : (a b : Bool) → (a && b) ≡ true → (a ≡ true) × (b ≡ true)
 both_true true b h = (refl, h)
@@ -91,24 +91,24 @@ any_weaken f g a (suc n) w h = by (f a) refl h (any_weaken f g (a + 1) n w)
     by false e k rest = ap (λ b. g a || b) (rest k) ∙ or_true (g a)
 
 -- what holds of all holds of each that is among them
-pub all_at : (f : ℕ → Bool) (b : ℕ) (xs : List ℕ) → list_all f xs ≡ true → is_among b xs ≡ true → f b ≡ true
+pub all_at : (f : ℕ → Bool) (b : ℕ) (xs : List ℕ) → list_all f xs ≡ true → is_block_among b xs ≡ true → f b ≡ true
 all_at f b [] h k = absurd (true≢false (sym k))
 all_at f b (x ∷ xs) h k =
     let both = both_true (f x) (list_all f xs) h in
     by (x == b) refl k both.0 (all_at f b xs both.1)
   where
-    by : (t : Bool) → (x == b) ≡ t → (t || is_among b xs) ≡ true → f x ≡ true → (is_among b xs ≡ true → f b ≡ true) → f b ≡ true
+    by : (t : Bool) → (x == b) ≡ t → (t || is_block_among b xs) ≡ true → f x ≡ true → (is_block_among b xs ≡ true → f b ≡ true) → f b ≡ true
     by true e o here rest = ap f (sym (eqb-true x b e)) ∙ here
     by false e o here rest = rest o
 
 -- a list without a number that it does not have
-pub without_absent : (b : ℕ) (xs : List ℕ) → is_among b xs ≡ false → without b xs ≡ xs
+pub without_absent : (b : ℕ) (xs : List ℕ) → is_block_among b xs ≡ false → order_without b xs ≡ xs
 without_absent b [] h = refl
 without_absent b (x ∷ xs) h = by (x == b) refl (without_absent b xs)
   where
-    by : (t : Bool) → (x == b) ≡ t → (is_among b xs ≡ false → without b xs ≡ xs) → without b (x ∷ xs) ≡ x ∷ xs
-    by true e rest = absurd (true≢false (sym (ap (λ t. t || is_among b xs) e) ∙ h))
-    by false e rest = ap (λ t. cond (not t) (x ∷ without b xs) (without b xs)) e ∙ ap (λ l. x ∷ l) (rest (sym (ap (λ t. t || is_among b xs) e) ∙ h))
+    by : (t : Bool) → (x == b) ≡ t → (is_block_among b xs ≡ false → order_without b xs ≡ xs) → order_without b (x ∷ xs) ≡ x ∷ xs
+    by true e rest = absurd (true≢false (sym (ap (λ t. t || is_block_among b xs) e) ∙ h))
+    by false e rest = ap (λ t. cond (not t) (x ∷ order_without b xs) (order_without b xs)) e ∙ ap (λ l. x ∷ l) (rest (sym (ap (λ t. t || is_block_among b xs) e) ∙ h))
 
 -- what holds of each number of a list
 pub all_filter : (f g : ℕ → Bool) (xs : List ℕ) → list_all f xs ≡ true → list_all f (filter g xs) ≡ true
@@ -137,7 +137,7 @@ pub all_alike : (f g : ℕ → Bool) (xs : List ℕ) → ((x : ℕ) → f x ≡ 
 all_alike f g xs e h = all_weaken f g xs (λ x t. sym (e x) ∙ t) h
 
 -- a test that holds of each number but one leaves the list, or takes that one
-pub filter_but : (f : ℕ → Bool) (b : ℕ) (xs : List ℕ) → list_all (λ x. (x == b) || f x) xs ≡ true → filter f xs ≡ (if f b then xs else without b xs)
+pub filter_but : (f : ℕ → Bool) (b : ℕ) (xs : List ℕ) → list_all (λ x. (x == b) || f x) xs ≡ true → filter f xs ≡ (if f b then xs else order_without b xs)
 filter_but f b xs h = by (f b) refl
   where
     kept : (ys : List ℕ) → f b ≡ true → list_all (λ x. (x == b) || f x) ys ≡ true → filter f ys ≡ ys
@@ -147,16 +147,16 @@ filter_but f b xs h = by (f b) refl
         let passes : f y ≡ true = elim (y == b) as (λ s. (y == b) ≡ s → (s || f y) ≡ true → f y ≡ true) [ true ↦ λ e o. ap f (eqb-true y b e) ∙ t | false ↦ λ e o. o ] refl both.0 in
         ap (λ s. cond s (y ∷ filter f ys) (filter f ys)) passes ∙ ap (λ l. y ∷ l) (kept ys t both.1)
 
-    gone : (ys : List ℕ) → f b ≡ false → list_all (λ x. (x == b) || f x) ys ≡ true → filter f ys ≡ without b ys
+    gone : (ys : List ℕ) → f b ≡ false → list_all (λ x. (x == b) || f x) ys ≡ true → filter f ys ≡ order_without b ys
     gone [] t k = refl
     gone (y ∷ ys) t k =
         let both = both_true ((y == b) || f y) (list_all (λ x. (x == b) || f x) ys) k in
         let passes : f y ≡ not (y == b) = elim (y == b) as (λ s. (y == b) ≡ s → (s || f y) ≡ true → f y ≡ not s) [ true ↦ λ e o. ap f (eqb-true y b e) ∙ t | false ↦ λ e o. o ] refl both.0 in
         ap (λ s. cond s (y ∷ filter f ys) (filter f ys)) passes ∙ ap (λ l. cond (not (y == b)) (y ∷ l) l) (gone ys t both.1)
 
-    by : (s : Bool) → f b ≡ s → filter f xs ≡ (if f b then xs else without b xs)
-    by true e = kept xs e h ∙ sym (ap (λ s. if s then xs else without b xs) e)
-    by false e = gone xs e h ∙ sym (ap (λ s. if s then xs else without b xs) e)
+    by : (s : Bool) → f b ≡ s → filter f xs ≡ (if f b then xs else order_without b xs)
+    by true e = kept xs e h ∙ sym (ap (λ s. if s then xs else order_without b xs) e)
+    by false e = gone xs e h ∙ sym (ap (λ s. if s then xs else order_without b xs) e)
 
 pub all_kept : (f : ℕ → Bool) (xs : List ℕ) → list_all f (filter f xs) ≡ true
 all_kept f [] = refl
@@ -174,7 +174,7 @@ filter_alike f g (x ∷ xs) h = ap (λ t. cond t (x ∷ filter f xs) (filter f x
 -- an order of use after one more block
 used-append : (xs ys order : List ℕ) → used (xs ++ ys) order ≡ used ys (used xs order)
 used-append [] ys order = refl
-used-append (x ∷ xs) ys order = used-append xs ys (without x order ++ x ∷ [])
+used-append (x ∷ xs) ys order = used-append xs ys (order_without x order ++ x ∷ [])
 
 range-push : (a n : ℕ) → range_with_len a (suc n) ≡ range_with_len a n ++ (a + n) ∷ []
 range-push a zero = ap (λ k. k ∷ []) (omega arith)
@@ -188,7 +188,7 @@ used_more a block first order new h so_far more =
     let last : a + (block - a) ≡ block = omega arith in
     more ∙ ap (used (block ∷ [])) so_far ∙ sym (ap (λ k. used (range_with_len a k) first) n ∙ ap (λ l. used l first) (range-push a (block - a) ∙ ap (λ k. range_with_len a (block - a) ++ k ∷ []) last) ∙ used-append (range_with_len a (block - a)) (block ∷ []) first)
 
-pub among_push : (b x : ℕ) (xs : List ℕ) → is_among b (xs ++ x ∷ []) ≡ (is_among b xs || (x == b))
+pub among_push : (b x : ℕ) (xs : List ℕ) → is_block_among b (xs ++ x ∷ []) ≡ (is_block_among b xs || (x == b))
 among_push b x [] = or_false (x == b)
   where
     or_false : (t : Bool) → (t || false) ≡ t
@@ -196,18 +196,18 @@ among_push b x [] = or_false (x == b)
     or_false false = refl
 among_push b x (y ∷ xs) = ap (λ t. (y == b) || t) (among_push b x xs) ∙ or_assoc (y == b)
   where
-    or_assoc : (t : Bool) → (t || (is_among b xs || (x == b))) ≡ ((t || is_among b xs) || (x == b))
+    or_assoc : (t : Bool) → (t || (is_block_among b xs || (x == b))) ≡ ((t || is_block_among b xs) || (x == b))
     or_assoc true = refl
     or_assoc false = refl
 
-among_without : (b x : ℕ) (xs : List ℕ) → (x == b) ≡ false → is_among b xs ≡ true → is_among b (without x xs) ≡ true
+among_without : (b x : ℕ) (xs : List ℕ) → (x == b) ≡ false → is_block_among b xs ≡ true → is_block_among b (order_without x xs) ≡ true
 among_without b x [] ne h = h
 among_without b x (y ∷ xs) ne h = by (y == x) (y == b) refl refl h (among_without b x xs ne)
   where
-    by : (s t : Bool) → (y == x) ≡ s → (y == b) ≡ t → ((y == b) || is_among b xs) ≡ true → (is_among b xs ≡ true → is_among b (without x xs) ≡ true) → is_among b (without x (y ∷ xs)) ≡ true
+    by : (s t : Bool) → (y == x) ≡ s → (y == b) ≡ t → ((y == b) || is_block_among b xs) ≡ true → (is_block_among b xs ≡ true → is_block_among b (order_without x xs) ≡ true) → is_block_among b (order_without x (y ∷ xs)) ≡ true
     by s true es et h rest =
         let apart : (y == x) ≡ false = ap (λ k. k == x) (eqb-true y b et) ∙ other in
-        ap (λ k. is_among b (cond (not k) (y ∷ without x xs) (without x xs))) apart ∙ ap (λ k. k || is_among b (without x xs)) et
+        ap (λ k. is_block_among b (cond (not k) (y ∷ order_without x xs) (order_without x xs))) apart ∙ ap (λ k. k || is_block_among b (order_without x xs)) et
       where
         other : (b == x) ≡ false
         other = by_case (b == x) refl
@@ -215,17 +215,17 @@ among_without b x (y ∷ xs) ne h = by (y == x) (y == b) refl refl h (among_with
             by_case : (k : Bool) → (b == x) ≡ k → (b == x) ≡ false
             by_case true e = absurd (true≢false (sym (eq-eqb x b (sym (eqb-true b x e))) ∙ ne))
             by_case false e = e
-    by true false es et h rest = ap (λ k. is_among b (cond (not k) (y ∷ without x xs) (without x xs))) es ∙ rest (sym (ap (λ k. k || is_among b xs) et) ∙ h)
+    by true false es et h rest = ap (λ k. is_block_among b (cond (not k) (y ∷ order_without x xs) (order_without x xs))) es ∙ rest (sym (ap (λ k. k || is_block_among b xs) et) ∙ h)
     by false false es et h rest =
-        ap (λ k. is_among b (cond (not k) (y ∷ without x xs) (without x xs))) es ∙ ap (λ k. k || is_among b (without x xs)) et ∙ rest (sym (ap (λ k. k || is_among b xs) et) ∙ h)
+        ap (λ k. is_block_among b (cond (not k) (y ∷ order_without x xs) (order_without x xs))) es ∙ ap (λ k. k || is_block_among b (order_without x xs)) et ∙ rest (sym (ap (λ k. k || is_block_among b xs) et) ∙ h)
 
 -- a block stays mapped through uses of others, and of itself
-pub among_used : (b : ℕ) (bs order : List ℕ) → is_among b order ≡ true → is_among b (used bs order) ≡ true
+pub among_used : (b : ℕ) (bs order : List ℕ) → is_block_among b order ≡ true → is_block_among b (used bs order) ≡ true
 among_used b [] order h = h
-among_used b (x ∷ bs) order h = among_used b bs (without x order ++ x ∷ []) (among_push b x (without x order) ∙ by (x == b) refl)
+among_used b (x ∷ bs) order h = among_used b bs (order_without x order ++ x ∷ []) (among_push b x (order_without x order) ∙ by (x == b) refl)
   where
-    by : (t : Bool) → (x == b) ≡ t → (is_among b (without x order) || (x == b)) ≡ true
-    by true e = ap (λ t. is_among b (without x order) || t) e ∙ or_true (is_among b (without x order))
+    by : (t : Bool) → (x == b) ≡ t → (is_block_among b (order_without x order) || (x == b)) ≡ true
+    by true e = ap (λ t. is_block_among b (order_without x order) || t) e ∙ or_true (is_block_among b (order_without x order))
     by false e = ap (λ t. t || (x == b)) (among_without b x order e h)
 
 -- a test that holds of all keeps the list

@@ -9,9 +9,9 @@ use Rattle.std.specs.List.{filter, AllByRecursion, IsDistinct}
 use Rattle.std.specs.Cmp.{nat_eq_equiv}
 use Rattle.std.specs.Option.{option_map}
 use Rattle.cc_entry.specs.Pages.{block_of, whole_range}
-use Rattle.cc_views.specs.Views.{Mapped, frames_at, IsSound}
-use Rattle.cc_resident.specs.Residents.{frame_at, page_at, byte_at, blocks, is_among, without}
-use Rattle.cc_resident.specs.Changes.{Clears, Zeroes, Covers, is_between}
+use Rattle.cc_views.specs.Views.{MappedViews, frames_at, ViewsAreSound}
+use Rattle.cc_resident.specs.Residents.{frame_at, page_bytes_at, byte_at, blocks, is_block_among, order_without}
+use Rattle.cc_resident.specs.Changes.{Clears, Zeroes, CoversRange, is_number_between}
 use Rattle.cc_resident.proofs.Lists.{among_push, without_absent}
 use Rattle.cc_resident.proofs.Frames.{frame_is, frame_in, none_from, among_is}
 use Rattle.cc_resident.proofs.Kept.{page_from}
@@ -30,36 +30,36 @@ both false b h = absurd (true≢false (sym h))
 join : (a b : Bool) → a ≡ true → b ≡ true → (a && b) ≡ true
 join a b p q = ap (λ x. x && b) p ∙ q
 
-pub between-true : (from to p : ℕ) → is_between from to p ≡ true → (from ≤ p) × (p < to)
+pub between-true : (from to p : ℕ) → is_number_between from to p ≡ true → (from ≤ p) × (p < to)
 between-true from to p h = (grind (arith, nat_tests), grind (arith, nat_tests))
 
-pub between : (from to p : ℕ) → from ≤ p → p < to → is_between from to p ≡ true
+pub between : (from to p : ℕ) → from ≤ p → p < to → is_number_between from to p ≡ true
 between from to p a b = grind (arith, nat_tests)
 
-pub not_between : (from to p : ℕ) → (from ≤ p → p < to → ⊥) → is_between from to p ≡ false
-not_between from to p h = by (is_between from to p) refl
+pub not_between : (from to p : ℕ) → (from ≤ p → p < to → ⊥) → is_number_between from to p ≡ false
+not_between from to p h = by (is_number_between from to p) refl
   where
-    by : (b : Bool) → is_between from to p ≡ b → is_between from to p ≡ false
+    by : (b : Bool) → is_number_between from to p ≡ b → is_number_between from to p ≡ false
     by true e = absurd (let k = between-true from to p e in h k.0 k.1)
     by false e = e
 
 -- one page more of a span
-pub between-more : (first page p : ℕ) → first ≤ page → is_between first (page + 1) p ≡ (is_between first page p || (p == page))
-between-more first page p h = tests_alike (is_between first (page + 1) p) (is_between first page p || (p == page)) on (λ e. back (is_between first page p) refl e)
+pub between-more : (first page p : ℕ) → first ≤ page → is_number_between first (page + 1) p ≡ (is_number_between first page p || (p == page))
+between-more first page p h = tests_alike (is_number_between first (page + 1) p) (is_number_between first page p || (p == page)) on (λ e. back (is_number_between first page p) refl e)
   where
     or_true : (z : Bool) → (z || true) ≡ true
     or_true true = refl
     or_true false = refl
 
-    on : is_between first (page + 1) p ≡ true → (is_between first page p || (p == page)) ≡ true
+    on : is_number_between first (page + 1) p ≡ true → (is_number_between first page p || (p == page)) ≡ true
     on e =
         let k = between-true first (page + 1) p e in
         elim (cases_lt p page) [
           | inl below ↦ ap (λ z. z || (p == page)) (between first page p k.0 below)
-          | inr above ↦ ap (λ z. is_between first page p || z) (eq-eqb p page (omega (arith, k.1, above))) ∙ or_true (is_between first page p)
+          | inr above ↦ ap (λ z. is_number_between first page p || z) (eq-eqb p page (omega (arith, k.1, above))) ∙ or_true (is_number_between first page p)
         ]
 
-    back : (z : Bool) → is_between first page p ≡ z → (z || (p == page)) ≡ true → is_between first (page + 1) p ≡ true
+    back : (z : Bool) → is_number_between first page p ≡ z → (z || (p == page)) ≡ true → is_number_between first (page + 1) p ≡ true
     back true f e =
         let k = between-true first page p f in
         between first (page + 1) p k.0 (omega (arith, k.1))
@@ -67,7 +67,7 @@ between-more first page p h = tests_alike (is_between first (page + 1) p) (is_be
         let q : p ≡ page = eqb-true p page e in
         between first (page + 1) p (omega (arith, q)) (omega (arith, q))
 
-pub Clears-then : (old mid new : Mapped) (s u t : ℕ → Bool) → Clears old mid s → Clears mid new u → ((p : ℕ) → t p ≡ (s p || u p)) → Clears old new t
+pub Clears-then : (old mid new : MappedViews) (s u t : ℕ → Bool) → Clears old mid s → Clears mid new u → ((p : ℕ) → t p ≡ (s p || u p)) → Clears old new t
 Clears-then old mid new s u t a b h =
     record {
       gone = λ p e. gone p (u p) (s p) refl refl (sym (h p) ∙ e);
@@ -88,17 +88,17 @@ Clears-then old mid new s u t a b h =
 
 -- the blocks at the first places of the order, one after the other
 abbrev pub in_front : ℕ → List ℕ → ℕ → Bool
-in_front place order block = is_among block (take place order)
+in_front place order block = is_block_among block (take place order)
 
 pub take_at : (xs : List ℕ) (i x : ℕ) → slice_get xs i ≡ Some x → take (i + 1) xs ≡ take i xs ++ x ∷ []
 take_at xs i x at = take_more xs i x (slice_get_within xs i x at) ∙ ap (λ y. take i xs ++ y ∷ []) (get_or_from_slice_get xs i x x at)
 
 pub in_front-more : (place : ℕ) (order : List ℕ) (block b : ℕ) → slice_get order place ≡ Some block → in_front (place + 1) order b ≡ (in_front place order b || (b == block))
 in_front-more place order block b at =
-    ap (is_among b) (take_at order place block at) ∙ among_push b block (take place order) ∙ ap (λ z. in_front place order b || z) (nat_eq_equiv.symm block b)
+    ap (is_block_among b) (take_at order place block at) ∙ among_push b block (take place order) ∙ ap (λ z. in_front place order b || z) (nat_eq_equiv.symm block b)
 
-pub in_front-all : (place : ℕ) (order : List ℕ) (b : ℕ) → length order ≤ place → in_front place order b ≡ is_among b order
-in_front-all place order b h = ap (is_among b) (take_all place order h)
+pub in_front-all : (place : ℕ) (order : List ℕ) (b : ℕ) → length order ≤ place → in_front place order b ≡ is_block_among b order
+in_front-all place order b h = ap (is_block_among b) (take_all place order h)
 
 -- one block more of a test of two parts
 pub front-more : (a b c d : Bool) → a ≡ (b || c) → (a && d) ≡ ((b && d) || (c && d))
@@ -112,9 +112,9 @@ front-more a b c d e = ap (λ z. z && d) e ∙ by b c d
     by false c d = refl
 
 -- a mapped block is among the blocks
-pub among_at : (xs : List ℕ) (i x : ℕ) → slice_get xs i ≡ Some x → is_among x xs ≡ true
+pub among_at : (xs : List ℕ) (i x : ℕ) → slice_get xs i ≡ Some x → is_block_among x xs ≡ true
 among_at [] i x at = absurd (true≢false (sym (ap is_some at)))
-among_at (y ∷ xs) zero x at = ap (λ b. b || is_among x xs) (eq-eqb y x (same_Some y x at))
+among_at (y ∷ xs) zero x at = ap (λ b. b || is_block_among x xs) (eq-eqb y x (same_Some y x at))
 among_at (y ∷ xs) (suc i) x at = ap (λ b. (y == x) || b) (among_at xs i x at) ∙ or_true (y == x)
   where
     or_true : (z : Bool) → (z || true) ≡ true
@@ -122,15 +122,15 @@ among_at (y ∷ xs) (suc i) x at = ap (λ b. (y == x) || b) (among_at xs i x at)
     or_true false = refl
 
 -- a page whose block is not mapped has no frame
-pub no_frame : (m : Mapped) (p : ℕ) → is_among (block_of p) (blocks m) ≡ false → frame_at m p ≡ None
+pub no_frame : (m : MappedViews) (p : ℕ) → is_block_among (block_of p) (blocks m) ≡ false → frame_at m p ≡ None
 no_frame m p h = frame_is m p ∙ ap (frame_in p) (none_from (frames_at m (block_of p)) (among_is m (block_of p) ∙ h))
 
 -- all blocks were gone over
-pub Clears-all : (old new : Mapped) (place from to : ℕ) → length (blocks old) ≤ place → Clears old new (λ p. in_front place (blocks old) (block_of p) && is_between from to p) → Clears old new (is_between from to)
+pub Clears-all : (old new : MappedViews) (place from to : ℕ) → length (blocks old) ≤ place → Clears old new (λ p. in_front place (blocks old) (block_of p) && is_number_between from to p) → Clears old new (is_number_between from to)
 Clears-all old new place from to h w =
     record {
-      gone = λ p e. gone p e (is_among (block_of p) (blocks old)) refl;
-      kept = λ p e. w.kept p (right_false (in_front place (blocks old) (block_of p)) (is_between from to p) e);
+      gone = λ p e. gone p e (is_block_among (block_of p) (blocks old)) refl;
+      kept = λ p e. w.kept p (right_false (in_front place (blocks old) (block_of p)) (is_number_between from to p) e);
       quota = w.quota;
       size = w.size;
     }
@@ -139,14 +139,14 @@ Clears-all old new place from to h w =
     right_false true b e = e
     right_false false b e = refl
 
-    gone : (p : ℕ) → is_between from to p ≡ true → (b : Bool) → is_among (block_of p) (blocks old) ≡ b → frame_at new p ≡ None
+    gone : (p : ℕ) → is_number_between from to p ≡ true → (b : Bool) → is_block_among (block_of p) (blocks old) ≡ b → frame_at new p ≡ None
     gone p e true f = w.gone p (join _ _ (in_front-all place (blocks old) (block_of p) h ∙ f) e)
     gone p e false f =
-        w.kept p (ap (λ z. z && is_between from to p) (in_front-all place (blocks old) (block_of p) h ∙ f)) ∙ no_frame old p f
+        w.kept p (ap (λ z. z && is_number_between from to p) (in_front-all place (blocks old) (block_of p) h ∙ f)) ∙ no_frame old p f
 
-absent : (x : ℕ) (ks : List ℕ) → AllByRecursion (λ y. nat_eq x y ≡ false) ks → is_among x ks ≡ false
+absent : (x : ℕ) (ks : List ℕ) → AllByRecursion (λ y. nat_eq x y ≡ false) ks → is_block_among x ks ≡ false
 absent x [] h = refl
-absent x (k ∷ ks) h = ap (λ b. b || is_among x ks) (nat_eq_equiv.symm k x ∙ h.0) ∙ absent x ks h.1
+absent x (k ∷ ks) h = ap (λ b. b || is_block_among x ks) (nat_eq_equiv.symm k x ∙ h.0) ∙ absent x ks h.1
 
 apart : (x : ℕ) (ks : List ℕ) (i b : ℕ) → AllByRecursion (λ y. nat_eq x y ≡ false) ks → slice_get ks i ≡ Some b → (x == b) ≡ false
 apart x [] i b h at = absurd (true≢false (sym (ap is_some at)))
@@ -171,21 +171,21 @@ length-take_within : (n : ℕ) (xs : List ℕ) → n ≤ length xs → length (t
 length-take_within n xs h = grind (arith, common_steps)
 
 -- a block without others of its number: what stands before it, and after it
-without_at : (xs : List ℕ) (i b : ℕ) → IsDistinct nat_eq xs → slice_get xs i ≡ Some b → without b xs ≡ take i xs ++ drop (suc i) xs
+without_at : (xs : List ℕ) (i b : ℕ) → IsDistinct nat_eq xs → slice_get xs i ≡ Some b → order_without b xs ≡ take i xs ++ drop (suc i) xs
 unfolding IsDistinct
 without_at [] i b d at = absurd (true≢false (sym (ap is_some at)))
 without_at (x ∷ xs) zero b d at =
     let same : x ≡ b = same_Some x b at in
-    ap (λ c. cond (not c) (x ∷ without b xs) (without b xs)) (eq-eqb x b same) ∙ ap (λ c. without c xs) (sym same) ∙ without_absent x xs (absent x xs d.0)
+    ap (λ c. cond (not c) (x ∷ order_without b xs) (order_without b xs)) (eq-eqb x b same) ∙ ap (λ c. order_without c xs) (sym same) ∙ without_absent x xs (absent x xs d.0)
 without_at (x ∷ xs) (suc i) b d at =
-    ap (λ c. cond (not c) (x ∷ without b xs) (without b xs)) (apart x xs i b d.0 at) ∙ ap (λ l. x ∷ l) (without_at xs i b d.1 at)
+    ap (λ c. cond (not c) (x ∷ order_without b xs) (order_without b xs)) (apart x xs i b d.0 at) ∙ ap (λ l. x ∷ l) (without_at xs i b d.1 at)
 
 -- what a pass from the last block to the first has done
 pub record Dropped (f : ℕ → Bool) (first now : List ℕ) (place : ℕ) : Type 0 where
   pub within : place ≤ length now
   pub left : filter f (take place now) ++ drop place now ≡ filter f first
 
-pub Dropped-more : (f : ℕ → Bool) (first now next : List ℕ) (from place b : ℕ) → from ≡ place + 1 → IsDistinct nat_eq now → slice_get now place ≡ Some b → next ≡ (if f b then now else without b now) → Dropped f first now from → Dropped f first next place
+pub Dropped-more : (f : ℕ → Bool) (first now next : List ℕ) (from place b : ℕ) → from ≡ place + 1 → IsDistinct nat_eq now → slice_get now place ≡ Some b → next ≡ (if f b then now else order_without b now) → Dropped f first now from → Dropped f first next place
 Dropped-more f first now next from place b n d at e w = by (f b) refl
   where
     within : place < length now
@@ -201,7 +201,7 @@ Dropped-more f first now next from place b n d at e w = by (f b) refl
 
     by : (t : Bool) → f b ≡ t → Dropped f first next place
     by true t =
-        let same : next ≡ now = e ∙ ap (λ c. if c then now else without b now) t in
+        let same : next ≡ now = e ∙ ap (λ c. if c then now else order_without b now) t in
         record {
           within = omega (arith, within, ap length same);
           left =
@@ -210,7 +210,7 @@ Dropped-more f first now next from place b n d at e w = by (f b) refl
               ∙ ap (λ l. l ++ drop (suc place) now) (sym (filter-push f (take place now) b ∙ ap (λ c. filter f (take place now) ++ cond c (b ∷ []) []) t)) ∙ was;
         }
     by false t =
-        let same : next ≡ take place now ++ drop (suc place) now = e ∙ ap (λ c. if c then now else without b now) t ∙ without_at now place b d at in
+        let same : next ≡ take place now ++ drop (suc place) now = e ∙ ap (λ c. if c then now else order_without b now) t ∙ without_at now place b d at in
         let long : length (take place now) ≡ place = length-take_within place now (omega (arith, within)) in
         record {
           within = omega (arith, long, ap length same, length-append (take place now) (drop (suc place) now));
@@ -222,7 +222,7 @@ Dropped-more f first now next from place b n d at e w = by (f b) refl
         }
 
 -- the number of a mapped block is small
-pub small_block : (m : Mapped) (order : List ℕ) (place block size : ℕ) → IsSound m → order ≡ blocks m → slice_get order place ≡ Some block → size ≡ m.size → size < 2 ^ 64 → block < 2 ^ 46
+pub small_block : (m : MappedViews) (order : List ℕ) (place block size : ℕ) → ViewsAreSound m → order ≡ blocks m → slice_get order place ≡ Some block → size ≡ m.size → size < 2 ^ 64 → block < 2 ^ 46
 small_block m order place block size sound same at e fits =
     let there : is_some (frames_at m block) ≡ true = among_is m block ∙ among_at (blocks m) place block (ap (λ l. slice_get l place) (sym same) ∙ at) in
     omega (arith, sound.below block there, e, fits)
@@ -231,7 +231,7 @@ twice : (o : Option ℕ) → option_map {U = ℕ} (λ _. 0) (option_map {U = ℕ
 twice None = refl
 twice (Some x) = refl
 
-pub Zeroes-then : (old mid new : Mapped) (s u t : ℕ → Bool) → Zeroes old mid s → Zeroes mid new u → ((i : ℕ) → t i ≡ (s i || u i)) → Zeroes old new t
+pub Zeroes-then : (old mid new : MappedViews) (s u t : ℕ → Bool) → Zeroes old mid s → Zeroes mid new u → ((i : ℕ) → t i ≡ (s i || u i)) → Zeroes old new t
 Zeroes-then old mid new s u t a b h =
     record {
       inside = λ i e. inside i (u i) (s i) refl refl (sym (h i) ∙ e);
@@ -251,14 +251,14 @@ Zeroes-then old mid new s u t a b h =
     outside i false true f e k = absurd (true≢false (sym (ap (λ z. z || u i) f ∙ e) ∙ k))
     outside i false false f e k = b.outside i e ∙ a.outside i f
 
-pub no_byte : (m : Mapped) (i : ℕ) → page_at m (i / 4096) ≡ None → byte_at m i ≡ None
+pub no_byte : (m : MappedViews) (i : ℕ) → page_bytes_at m (i / 4096) ≡ None → byte_at m i ≡ None
 no_byte m i h = byte_is m i ∙ ap (option_map (λ bytes. get_or bytes (i % 4096) 0)) h
 
-pub Covers-all : (old new : Mapped) (place from to : ℕ) → length (blocks old) ≤ place → Zeroes old new (λ i. in_front place (blocks old) (block_of (i / 4096)) && is_between from to i) → Covers old new (record { from = from; to = to }) (λ _. 0)
+pub Covers-all : (old new : MappedViews) (place from to : ℕ) → length (blocks old) ≤ place → Zeroes old new (λ i. in_front place (blocks old) (block_of (i / 4096)) && is_number_between from to i) → CoversRange old new (record { from = from; to = to }) (λ _. 0)
 Covers-all old new place from to h w =
     record {
-      inside = λ i e. inside i e (is_among (block_of (i / 4096)) (blocks old)) refl;
-      outside = λ i e. w.outside i (right_false (in_front place (blocks old) (block_of (i / 4096))) (is_between from to i) e);
+      inside = λ i e. inside i e (is_block_among (block_of (i / 4096)) (blocks old)) refl;
+      outside = λ i e. w.outside i (right_false (in_front place (blocks old) (block_of (i / 4096))) (is_number_between from to i) e);
       pages = w.pages;
       shared = w.shared;
     }
@@ -267,30 +267,30 @@ Covers-all old new place from to h w =
     right_false true b e = e
     right_false false b e = refl
 
-    inside : (i : ℕ) → is_between from to i ≡ true → (b : Bool) → is_among (block_of (i / 4096)) (blocks old) ≡ b → byte_at new i ≡ option_map (λ _. 0) (byte_at old i)
+    inside : (i : ℕ) → is_number_between from to i ≡ true → (b : Bool) → is_block_among (block_of (i / 4096)) (blocks old) ≡ b → byte_at new i ≡ option_map (λ _. 0) (byte_at old i)
     inside i e true f = w.inside i (join _ _ (in_front-all place (blocks old) (block_of (i / 4096)) h ∙ f) e)
     inside i e false f =
         let none : byte_at old i ≡ None = no_byte old i (page_from old (i / 4096) None (no_frame old (i / 4096) f)) in
-        w.outside i (ap (λ z. z && is_between from to i) (in_front-all place (blocks old) (block_of (i / 4096)) h ∙ f)) ∙ none ∙ sym (ap (option_map (λ _. 0)) none)
+        w.outside i (ap (λ z. z && is_number_between from to i) (in_front-all place (blocks old) (block_of (i / 4096)) h ∙ f)) ∙ none ∙ sym (ap (option_map (λ _. 0)) none)
 
 -- zeros written over a part of one page, which is resident or not
-pub Zeroes-covers : (old new : Mapped) (a b : ℕ) (zs : List ℕ) → Covers old new (record { from = a; to = a + length zs }) (λ i. get_or zs (i - a) 0) → a + length zs ≡ b → ((k : ℕ) → get_or zs k 0 ≡ 0) → Zeroes old new (is_between a b)
+pub Zeroes-covers : (old new : MappedViews) (a b : ℕ) (zs : List ℕ) → CoversRange old new (record { from = a; to = a + length zs }) (λ i. get_or zs (i - a) 0) → a + length zs ≡ b → ((k : ℕ) → get_or zs k 0 ≡ 0) → Zeroes old new (is_number_between a b)
 Zeroes-covers old new a b zs w n zeros =
     record {
-      inside = λ i e. w.inside i (ap (λ t. is_between a t i) n ∙ e) ∙ ap (λ v. option_map (λ _. v) (byte_at old i)) (zeros (i - a));
-      outside = λ i e. w.outside i (ap (λ t. is_between a t i) n ∙ e);
+      inside = λ i e. w.inside i (ap (λ t. is_number_between a t i) n ∙ e) ∙ ap (λ v. option_map (λ _. v) (byte_at old i)) (zeros (i - a));
+      outside = λ i e. w.outside i (ap (λ t. is_number_between a t i) n ∙ e);
       pages = w.pages;
       shared = w.shared;
     }
 
-pub Zeroes-absent : (m : Mapped) (page from to : ℕ) → page_at m page ≡ None → to ≤ 4096 → Zeroes m m (is_between (4096 * page + from) (4096 * page + to))
+pub Zeroes-absent : (m : MappedViews) (page from to : ℕ) → page_bytes_at m page ≡ None → to ≤ 4096 → Zeroes m m (is_number_between (4096 * page + from) (4096 * page + to))
 Zeroes-absent m page from to h fits =
     record { inside = λ i e. inside i (between-true (4096 * page + from) (4096 * page + to) i e); outside = λ i _. refl; pages = λ p. refl; shared = λ p. refl }
   where
     inside : (i : ℕ) → (4096 * page + from ≤ i) × (i < 4096 * page + to) → byte_at m i ≡ option_map (λ _. 0) (byte_at m i)
     inside i k =
         let e : i / 4096 ≡ page = omega (arith, k.0, k.1, fits) in
-        let none : byte_at m i ≡ None = no_byte m i (ap (page_at m) e ∙ h) in
+        let none : byte_at m i ≡ None = no_byte m i (ap (page_bytes_at m) e ∙ h) in
         none ∙ sym (ap (option_map (λ _. 0)) none)
 
 pub zero_within : (n k : ℕ) → get_or {A = ℕ} (replicate n 0) k 0 ≡ 0
@@ -308,7 +308,7 @@ zeros_at n from count k =
       | inr h ↦ get_or_past (take count (drop from (replicate {A = ℕ} n 0))) k 0 (omega (arith, length-take count (drop from (replicate {A = ℕ} n 0)), h))
     ]
 
-pub Zeroes-written : (old new : Mapped) (n page from to : ℕ) → from ≤ to → to ≤ n → Covers old new (whole_range (4096 * page + from) (length (take (to - from) (drop from (replicate {A = ℕ} n 0))))) (λ i. get_or (take (to - from) (drop from (replicate {A = ℕ} n 0))) (i - (4096 * page + from)) 0)
-    → Zeroes old new (is_between (4096 * page + from) (4096 * page + to))
+pub Zeroes-written : (old new : MappedViews) (n page from to : ℕ) → from ≤ to → to ≤ n → CoversRange old new (whole_range (4096 * page + from) (length (take (to - from) (drop from (replicate {A = ℕ} n 0))))) (λ i. get_or (take (to - from) (drop from (replicate {A = ℕ} n 0))) (i - (4096 * page + from)) 0)
+    → Zeroes old new (is_number_between (4096 * page + from) (4096 * page + to))
 Zeroes-written old new n page from to a b w =
     Zeroes-covers old new (4096 * page + from) (4096 * page + to) (take (to - from) (drop from (replicate {A = ℕ} n 0))) w (omega (arith, zeros_long n from to a b, a)) (zeros_at n from (to - from))

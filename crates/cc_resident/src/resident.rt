@@ -5,9 +5,9 @@ ghost use Rattle.std.specs.List.{list_all, filter, find};
 ghost use Rattle.std.specs.Option.{option_copied};
 ghost use Rattle.cc_entry.specs.Pages.{block_of, blocks_of, pages_of, whole_range};
 ghost use Rattle.cc_vacb.specs.Levels.{levels_of};
-ghost use Rattle.cc_views.specs.Views.{IsSound, first_not_in};
-ghost use Rattle.cc_resident.specs.Residents.{page_at, is_resident, all_resident, all_mapped, is_shared, AllOwned, rest_of_page, blocks, has_pages, is_among, used};
-ghost use Rattle.cc_resident.specs.Changes.{KeepsOthers, Keeps, SameBytes, StaysOwned, OwnsOnly, SharesOnly, Covers, Zeroes, Cuts, CutsPages, is_between};
+ghost use Rattle.cc_views.specs.Views.{ViewsAreSound, first_not_in};
+ghost use Rattle.cc_resident.specs.Residents.{page_bytes_at, is_resident, all_resident, all_mapped, is_shared, AllOwned, rest_of_page, blocks, has_pages, is_block_among, used};
+ghost use Rattle.cc_resident.specs.Changes.{KeepsOthers, KeepsFrames, SameBytes, StaysOwned, OwnsOnly, SharesOnly, CoversRange, Zeroes, Cuts, CutsPages, is_number_between};
 
 use crate::steps;
 use cc_entry::{NoMemory, Quota};
@@ -26,10 +26,10 @@ pub struct ResidentPages {
 }
 
 impl Model for ResidentPages {
-    ghost use Rattle.cc_views.specs.Views.{Mapped};
+    ghost use Rattle.cc_views.specs.Views.{MappedViews};
     ghost use Rattle.cc_resident.specs.Residents.{AreResidents};
 
-    ghost Value = { Mapped };
+    ghost Value = { MappedViews };
 
     ghost view = { λ r. r.views };
 
@@ -39,7 +39,7 @@ impl Model for ResidentPages {
 impl ResidentPages {
     /// No page, of a stream of that many bytes. Answers `NoMemory` where memory is wanting.
     pub fn new(alloc: Global, quota: Quota, size: u64) -> Result<ResidentPages, NoMemory>
-        ensures empty { IfOk result (λ r. (p : ℕ) → page_at r p ≡ None) }
+        ensures empty { IfOk result (λ r. (p : ℕ) → page_bytes_at r p ≡ None) }
         ensures blocks { IfOk result (λ r. blocks r ≡ []) }
         ensures quota { IfOk result (λ r. r.quota ≡ quota) }
         ensures size { IfOk result (λ r. r.size ≡ size) }
@@ -50,7 +50,7 @@ impl ResidentPages {
 
     /// The page at this number.
     pub fn get(&self, page: u64) -> Option<&[u8; 4096]>
-        ensures page { option_copied result ≡ page_at self.now page }
+        ensures page { option_copied result ≡ page_bytes_at self.now page }
         ensures starts { IsSome result → 4096 * page < self.now.size }
     {
         match self.views.frames(page / 64) {
@@ -84,15 +84,15 @@ impl ResidentPages {
         ensures count { result ≡ length (blocks self.now) }
         ensures blocks_have_pages { list_all (has_pages self.now) (blocks self.now) ≡ true }
         ensures starts { (p : ℕ) → is_resident self.now p ≡ true → 4096 * p < self.now.size }
-        ensures whole { (p : ℕ) → IfSome (page_at self.now p) (λ bytes. length bytes ≡ 4096) }
-        ensures sound { IsSound self.now }
+        ensures whole { (p : ℕ) → IfSome (page_bytes_at self.now p) (λ bytes. length bytes ≡ 4096) }
+        ensures sound { ViewsAreSound self.now }
     {
         self.views.len() as u32
     }
 
     /// Whether a block is mapped: whether a page of it is resident.
     pub fn is_mapped(&self, block: u64) -> bool
-        ensures mapped { result ≡ is_among block (blocks self.now) }
+        ensures mapped { result ≡ is_block_among block (blocks self.now) }
         ensures has_pages { result ≡ has_pages self.now block }
     {
         self.views.frames(block).is_some()
@@ -129,7 +129,7 @@ impl ResidentPages {
     /// Makes a snapshot of a page, which is shared then; `None` where the page is not resident. Answers `NoMemory`
     /// where memory is wanting; no byte changes in either case.
     pub fn share(&mut self, page: u64) -> Result<Option<Frame>, NoMemory>
-        ensures snapshot { IfOk result (λ frame. frame ≡ page_at self.old page) }
+        ensures snapshot { IfOk result (λ frame. frame ≡ page_bytes_at self.old page) }
         ensures whole { IfOk result (λ frame. IfSome frame (λ bytes. length bytes ≡ 4096)) }
         ensures bytes { SameBytes self.old self.new }
         ensures others { SharesOnly self.old self.new page }
@@ -167,9 +167,9 @@ impl ResidentPages {
     /// then nothing has changed.
     pub fn bring_in(&mut self, page: u64, bytes: &[u8; 4096]) -> Result<(), NoMemory>
         requires starts { 4096 * page < self.old.size }
-        requires room { (is_among (block_of page) (blocks self.old) ≡ true)
+        requires room { (is_block_among (block_of page) (blocks self.old) ≡ true)
             ⊎ (length (blocks self.old) < self.old.quota) }
-        ensures page { OnOk result (page_at self.new page ≡ Some bytes.now) }
+        ensures page { OnOk result (page_bytes_at self.new page ≡ Some bytes.now) }
         ensures others { KeepsOthers self.old self.new page }
         ensures blocks { OnOk result
             (blocks self.new ≡ used (block_of page ∷ []) (blocks self.old)) }
@@ -186,7 +186,7 @@ impl ResidentPages {
 
     /// Takes a page out, where it is resident. Its block goes with the last of its pages.
     pub fn take_out(&mut self, page: u64)
-        ensures page { page_at self.new page ≡ None }
+        ensures page { page_bytes_at self.new page ≡ None }
         ensures others { KeepsOthers self.old self.new page }
         ensures blocks { blocks self.new ≡ filter (has_pages self.new) (blocks self.old) }
         ensures quota { self.new.quota ≡ self.old.quota }
@@ -198,8 +198,8 @@ impl ResidentPages {
 
     /// Takes out the pages from one up to, and without, another.
     pub fn drop_span(&mut self, from_page: u64, to_page: u64)
-        ensures gone { (p : ℕ) → from_page ≤ p → p < to_page → page_at self.new p ≡ None }
-        ensures others { (p : ℕ) → (p < from_page) ⊎ (to_page ≤ p) → page_at self.new p ≡ page_at self.old p }
+        ensures gone { (p : ℕ) → from_page ≤ p → p < to_page → page_bytes_at self.new p ≡ None }
+        ensures others { (p : ℕ) → (p < from_page) ⊎ (to_page ≤ p) → page_bytes_at self.new p ≡ page_bytes_at self.old p }
         ensures blocks { blocks self.new ≡ filter (has_pages self.new) (blocks self.old) }
         ensures quota { self.new.quota ≡ self.old.quota }
         ensures size { self.new.size ≡ self.old.size }
@@ -229,7 +229,7 @@ impl ResidentPages {
         requires resident { all_resident self.old (whole_range at (length bytes.now)) ≡ true }
         requires owned { AllOwned self.old (whole_range at (length bytes.now)) }
         requires fits { at + length bytes.now ≤ 2 ^ 63 }
-        ensures bytes { Covers self.old self.new (whole_range at (length bytes.now))
+        ensures bytes { CoversRange self.old self.new (whole_range at (length bytes.now))
             (λ i. slice_index bytes.now (i - at)) }
         ensures blocks { blocks self.new ≡ blocks self.old }
         ensures quota { self.new.quota ≡ self.old.quota }
@@ -248,7 +248,7 @@ impl ResidentPages {
     /// Makes the bytes of a range 0, wherever their page is resident, and so owned.
     pub fn zero(&mut self, from: u64, to: u64)
         requires { AllOwned self.old (record { from = from; to = to }) }
-        ensures bytes { Covers self.old self.new (record { from = from; to = to }) (λ _. 0) }
+        ensures bytes { CoversRange self.old self.new (record { from = from; to = to }) (λ _. 0) }
         ensures blocks { blocks self.new ≡ blocks self.old }
         ensures quota { self.new.quota ≡ self.old.quota }
         ensures size { self.new.size ≡ self.old.size }
@@ -264,7 +264,7 @@ impl ResidentPages {
     /// Notes a use of each block of a range, one after the other.
     pub fn use_range(&mut self, from: u64, to: u64)
         requires { all_mapped self.old (record { from = from; to = to }) ≡ true }
-        ensures pages { (p : ℕ) → page_at self.new p ≡ page_at self.old p }
+        ensures pages { (p : ℕ) → page_bytes_at self.new p ≡ page_bytes_at self.old p }
         ensures shared { (p : ℕ) → is_shared self.new p ≡ is_shared self.old p }
         ensures blocks { blocks self.new
             ≡ used (blocks_of (record { from = from; to = to })) (blocks self.old) }
@@ -321,7 +321,7 @@ impl ResidentPages {
         requires resident { is_resident self.old page ≡ true }
         requires owned { is_shared self.old page ≡ false }
         requires fits { at + length bytes.now ≤ 4096 }
-        ensures bytes { Covers self.old self.new (whole_range (4096 * page + at) (length bytes.now))
+        ensures bytes { CoversRange self.old self.new (whole_range (4096 * page + at) (length bytes.now))
             (λ i. slice_index bytes.now (i - (4096 * page + at))) }
         ensures blocks { blocks self.new ≡ blocks self.old }
         ensures quota { self.new.quota ≡ self.old.quota }
@@ -334,7 +334,7 @@ impl ResidentPages {
         requires number { block < 2 ^ 46 }
         requires owned { AllOwned self.old (record { from = from; to = to }) }
         ensures bytes { Zeroes self.old self.new
-            (λ i. block_of (i / 4096) == block && is_between from to i) }
+            (λ i. block_of (i / 4096) == block && is_number_between from to i) }
         ensures blocks { blocks self.new ≡ blocks self.old }
         ensures quota { self.new.quota ≡ self.old.quota }
         ensures size { self.new.size ≡ self.old.size }
@@ -347,7 +347,7 @@ impl ResidentPages {
     fn zero_in_page(&mut self, page: u64, from: u64, to: u64)
         requires number { page < 2 ^ 52 }
         requires owned { AllOwned self.old (record { from = from; to = to }) }
-        ensures bytes { Zeroes self.old self.new (λ i. i / 4096 == page && is_between from to i) }
+        ensures bytes { Zeroes self.old self.new (λ i. i / 4096 == page && is_number_between from to i) }
         ensures blocks { blocks self.new ≡ blocks self.old }
         ensures quota { self.new.quota ≡ self.old.quota }
         ensures size { self.new.size ≡ self.old.size }
@@ -365,7 +365,7 @@ impl ResidentPages {
         requires order { from ≤ to }
         requires within { to ≤ 4096 }
         requires owned { is_shared self.old page ≡ false }
-        ensures bytes { Zeroes self.old self.new (is_between (4096 * page + from) (4096 * page + to)) }
+        ensures bytes { Zeroes self.old self.new (is_number_between (4096 * page + from) (4096 * page + to)) }
         ensures blocks { blocks self.new ≡ blocks self.old }
         ensures quota { self.new.quota ≡ self.old.quota }
         ensures size { self.new.size ≡ self.old.size }
@@ -376,8 +376,8 @@ impl ResidentPages {
     }
 
     fn use_block(&mut self, block: u64)
-        requires { is_among block (blocks self.old) ≡ true }
-        ensures pages { Keeps self.old self.new }
+        requires { is_block_among block (blocks self.old) ≡ true }
+        ensures pages { KeepsFrames self.old self.new }
         ensures blocks { blocks self.new ≡ used (block ∷ []) (blocks self.old) }
     {
         steps::use_block(&mut self.views, block);

@@ -3,10 +3,10 @@
 ghost use Rattle.std.specs.Prelude.{◌≡◌, ◌≢◌, ℕ, ◌+◌, ◌-◌, ◌*◌, ◌/◌, ◌%◌, ◌^◌, ◌<◌, ◌≤◌, ◌==◌, ◌&&◌, not, nat_eq, [], ◌∷◌, length, IsSome, OnOk, OnErr, IfOk, None, Some, is_some, true, false, IfSome, if◌then◌else◌};
 ghost use Rattle.std.specs.List.{filter, find, list_any, range_with_len, IsDistinct};
 ghost use Rattle.cc_entry.specs.Pages.{block_of};
-ghost use Rattle.cc_pages.specs.Pages.{owned, page_at as page_in, bytes_at, is_owned, overwritten, KeepsOthers};
-ghost use Rattle.cc_views.specs.Views.{frames_at, IsSound};
-ghost use Rattle.cc_resident.specs.Residents.{frame_at, page_at, is_resident, shares, is_shared, blocks, has_pages, used, without};
-ghost use Rattle.cc_resident.specs.Changes.{Puts, Keeps, SameBytes, StaysOwned, SharesOnly, OwnsBetween, Clears, is_between};
+ghost use Rattle.cc_pages.specs.Pages.{owned, page_at as page_in, bytes_at, is_owned, overwritten, KeepsOtherFrames};
+ghost use Rattle.cc_views.specs.Views.{frames_at, ViewsAreSound};
+ghost use Rattle.cc_resident.specs.Residents.{frame_at, page_bytes_at, is_resident, shares, is_shared, blocks, has_pages, used, order_without};
+ghost use Rattle.cc_resident.specs.Changes.{Puts, KeepsFrames, SameBytes, StaysOwned, SharesOnly, OwnsBetween, Clears, is_number_between};
 
 use cc_entry::NoMemory;
 use cc_pages::{Frame, Frames};
@@ -60,7 +60,7 @@ pub(crate) fn overwrite(views: &mut Views, page: u64, at: u16, bytes: &[u8])
 
 // Makes a snapshot of a page, where it is resident.
 pub(crate) fn share(views: &mut Views, page: u64) -> Result<Option<Frame>, NoMemory>
-    ensures snapshot { IfOk result (λ frame. frame ≡ page_at views.old page) }
+    ensures snapshot { IfOk result (λ frame. frame ≡ page_bytes_at views.old page) }
     ensures bytes { SameBytes views.old views.new }
     ensures others { SharesOnly views.old views.new page }
 {
@@ -92,7 +92,7 @@ pub(crate) fn own_span(views: &mut Views, from: u64, to: u64) -> Result<(), NoMe
 // Notes a use of a mapped block.
 pub(crate) fn use_block(views: &mut Views, block: u64)
     requires { IsSome (frames_at views.old block) }
-    ensures pages { Keeps views.old views.new }
+    ensures pages { KeepsFrames views.old views.new }
     ensures blocks { blocks views.new ≡ used (block ∷ []) (blocks views.old) }
 {
     // The number of blocks is what says that none is mapped twice.
@@ -112,7 +112,7 @@ pub(crate) fn clear(views: &mut Views, page: u64)
 
 // Takes the pages from one up to, and without, another out of their blocks, which stay.
 pub(crate) fn clear_span(views: &mut Views, from: u64, to: u64)
-    ensures pages { Clears views.old views.new (is_between from to) }
+    ensures pages { Clears views.old views.new (is_number_between from to) }
     ensures blocks { blocks views.new ≡ blocks views.old }
 {
     // The size is what says that the numbers of the pages are in range.
@@ -125,7 +125,7 @@ pub(crate) fn clear_span(views: &mut Views, from: u64, to: u64)
 
 // Gives up each block that has no page.
 pub(crate) fn drop_empty(views: &mut Views)
-    ensures pages { Keeps views.old views.new }
+    ensures pages { KeepsFrames views.old views.new }
     ensures blocks { blocks views.new ≡ filter (has_pages views.old) (blocks views.old) }
 {
     let mut place = views.len();
@@ -139,9 +139,9 @@ pub(crate) fn drop_empty(views: &mut Views)
 // Gives up a block that has no page.
 pub(crate) fn drop_if_empty(views: &mut Views, block: u64)
     ensures distinct { IsDistinct nat_eq (blocks views.old) }
-    ensures pages { Keeps views.old views.new }
+    ensures pages { KeepsFrames views.old views.new }
     ensures blocks { blocks views.new
-        ≡ (if has_pages views.old block then blocks views.old else without block (blocks views.old)) }
+        ≡ (if has_pages views.old block then blocks views.old else order_without block (blocks views.old)) }
 {
     if !has_page(views, block) {
         let _frames = views.remove(block);
@@ -194,7 +194,7 @@ fn own_in(frames: &mut Frames, i: u8) -> Result<(), NoMemory>
     requires { i < 64 }
     ensures owned { OnOk result (shares (page_in frames.new i) ≡ false) }
     ensures bytes { bytes_at frames.new i ≡ bytes_at frames.old i }
-    ensures others { KeepsOthers frames.old frames.new i }
+    ensures others { KeepsOtherFrames frames.old frames.new i }
     ensures err { OnErr result (frames.new ≡ frames.old) }
 {
     if frames.get(i).is_none() {
@@ -208,7 +208,7 @@ fn own_in(frames: &mut Frames, i: u8) -> Result<(), NoMemory>
 
 fn clear_in_block(views: &mut Views, block: u64, from: u64, to: u64)
     requires { block < 2 ^ 46 }
-    ensures pages { Clears views.old views.new (λ p. block_of p == block && is_between from to p) }
+    ensures pages { Clears views.old views.new (λ p. block_of p == block && is_number_between from to p) }
     ensures blocks { blocks views.new ≡ blocks views.old }
 {
     for page in 64 * block..64 * block + 64 {
@@ -217,7 +217,7 @@ fn clear_in_block(views: &mut Views, block: u64, from: u64, to: u64)
 }
 
 fn clear_if_between(views: &mut Views, page: u64, from: u64, to: u64)
-    ensures pages { Clears views.old views.new (λ p. p == page && is_between from to p) }
+    ensures pages { Clears views.old views.new (λ p. p == page && is_number_between from to p) }
     ensures blocks { blocks views.new ≡ blocks views.old }
 {
     if from <= page && page < to {
@@ -246,7 +246,7 @@ pub(crate) fn absent_in_block(views: &Views, from: u64, to: u64) -> Option<u64>
 // Whether a block has a resident page.
 fn has_page(views: &Views, block: u64) -> bool
     ensures has { result ≡ has_pages views.now block }
-    ensures sound { IsSound views.now }
+    ensures sound { ViewsAreSound views.now }
 {
     match views.frames(block) {
         Some(frames) => any_page(frames),

@@ -28,7 +28,7 @@ use Rattle.cc_laws.proofs.Lists1.{among-any, among-pages}
 use Rattle.cc_laws.proofs.UnrefusedCalls.{unrefused}
 use Rattle.cc_own.proofs.FoundHolds.{changed-found, changed-other, ended-gone, ended-other, some-is}
 use Rattle.cc_own.proofs.OwnHolds.{filed-at}
-use Rattle.cc_own.specs.Own.{new_hold}
+use Rattle.cc_own.specs.Own.{hold_of_range}
 use Rattle.cc_restart_laws.proofs.Entries.{admitted, did-entry, good-tail}
 
 -- of the open holds, two pins with a page in common of which one is exclusive are one
@@ -183,21 +183,21 @@ pinned-step holds pass named exclusive (Some old) is serves free apart = apart-p
 repinned-step : (id pass : ℕ) (o : Option Hold) (holds : List Hold) → AreApart holds → AreApart (repinned id pass o holds)
 repinned-step id pass None holds apart = apart
 repinned-step id pass (Some it) holds apart =
-    let new = new_hold id pass it.file it.at it.len kind.Repin false [] in
+    let new = hold_of_range id pass it.file it.at it.len kind.Repin false [] in
     apart-made new holds (no-pin holds new refl) apart
 
 call-step : (holds : List Hold) (pass id s : ℕ) (it : Call) → (changes_holds it ≡ true → busy holds it ≡ None) → IsFiled holds pass (Some s) it (file_of it) → AreApart holds → AreApart (held_after pass it id holds)
 call-step holds pass id s (call.Map file at len) free filed apart =
-    let new = new_hold id pass file at len kind.Map false [] in apart-made new holds (no-pin holds new refl) apart
+    let new = hold_of_range id pass file at len kind.Map false [] in apart-made new holds (no-pin holds new refl) apart
 call-step holds pass id s (call.PinRead file at len exclusive) free filed apart =
-    let new = new_hold id pass file at len kind.Pin exclusive [] in
+    let new = hold_of_range id pass file at len kind.Pin exclusive [] in
     apart-made new holds (free-pin (whole_range at len) exclusive holds new (busy-none _ (free refl)) refl refl) apart
 call-step holds pass id s (call.PinMapped named exclusive) free filed apart = pinned-step holds pass named exclusive (hold_at holds named) refl filed (free refl) apart
 call-step holds pass id s (call.PreparePin file at len true exclusive) free filed apart =
-    let new = new_hold id pass file at len kind.Pin exclusive (whole_range at len ∷ []) in
+    let new = hold_of_range id pass file at len kind.Pin exclusive (whole_range at len ∷ []) in
     apart-made new holds (free-pin (whole_range at len) exclusive holds new (busy-none _ (free refl)) refl refl) apart
 call-step holds pass id s (call.PreparePin file at len false exclusive) free filed apart =
-    let new = new_hold id pass file at len kind.Pin exclusive [] in
+    let new = hold_of_range id pass file at len kind.Pin exclusive [] in
     apart-made new holds (free-pin (whole_range at len) exclusive holds new (busy-none _ (free refl)) refl refl) apart
 call-step holds pass id s (call.PinnedWrite named at bytes) free filed apart =
     apart-less holds _ (λ n now found. changed-before holds named n _ now (λ it. refl) (λ it. record { kind = λ k. k; exclusive = refl; range = refl }) found) apart
@@ -206,9 +206,9 @@ call-step holds pass id s (call.SetDirty named lsn) free filed apart =
 call-step holds pass id s (call.EndHold named) free filed apart = apart-less holds _ (λ n now found. ended-before holds named n now found) apart
 call-step holds pass id s (call.Repin named) free filed apart = repinned-step id pass (hold_at holds named) holds apart
 call-step holds pass id s (call.MdlRead file at len) free filed apart =
-    let new = new_hold id pass file at len kind.ReadChain false [] in apart-made new holds (no-pin holds new refl) apart
+    let new = hold_of_range id pass file at len kind.ReadChain false [] in apart-made new holds (no-pin holds new refl) apart
 call-step holds pass id s (call.MdlWrite file at len) free filed apart =
-    let new = new_hold id pass file at len kind.WriteChain false [] in apart-made new holds (no-pin holds new refl) apart
+    let new = hold_of_range id pass file at len kind.WriteChain false [] in apart-made new holds (no-pin holds new refl) apart
 call-step holds pass id s other free filed apart = apart
 
 not-busy : (u : Setup) (past : List Entry) (h : List Effect) (it : Call) → IsAdmitted u past h it → changes_holds it ≡ true → busy (holds_of h) it ≡ None

@@ -37,7 +37,7 @@ use Rattle.cc_restart_laws.proofs.Entries.{IsCall, call-effect, did-entry, good-
 use Rattle.cc_restart_laws.proofs.Orders.{IsChange, IsChangeBy, order-of}
 use Rattle.cc_restart_laws.proofs.Records.{range_of}
 use Rattle.cc_restart_laws.proofs.Stamped.{no-truncation}
-use Rattle.cc_restart_laws.specs.Updates.{HasRecord, IsUpdate, IsUpdated, IsUpdatedBy, MayAct, MayDo, Updating}
+use Rattle.cc_restart_laws.specs.Updates.{HasRecord, IsUpdate, IsUpdated, IsUpdatedBy, MayActByUpdate, MayDoByUpdate, Updating}
 
 clash : true ≡ false → ⊥
 clash is = absurd (cc)
@@ -212,14 +212,14 @@ module _ (u : Setup) (pages : ℕ → List ℕ) (s log : ℕ) (past : List Entry
       go other (inl by) covers = absurd (clash (sym covers ∙ (sym (other-range other by) ∙ none)))
       go other (inr before) covers = k.last other before covers
 
-may-do : (s log : ℕ) (e : Entry) (past : List Entry) (pass : ℕ) (c : Call) (reply : Reply) → effect_of e s ≡ Some (Did pass c reply) → IsUpdated s log (e ∷ past) → MayDo s log past pass c
+may-do : (s log : ℕ) (e : Entry) (past : List Entry) (pass : ℕ) (c : Call) (reply : Reply) → effect_of e s ≡ Some (Did pass c reply) → IsUpdated s log (e ∷ past) → MayDoByUpdate s log past pass c
 may-do s log e past pass c reply effect updated =
     let k = did-entry e s pass c reply effect in
     let by : IsUpdatedBy s log past (entry.Call pass k.nth (Some s) c (outcome.Done reply)) = subst (λ (x : Entry). IsUpdatedBy s log past x) k.is (updated-head s log e past updated).by in
     by refl
 
 module _ (u : Setup) (pages : ℕ → List ℕ) (s log i : ℕ) where
-  decided-did : (past : List Entry) (e : Entry) (pass : ℕ) (c : Call) (reply : Reply) → effect_of e s ≡ Some (Did pass c reply) → IsGoodSoFar u past → (a : Act) → act_of c ≡ a → MayAct s log past pass c a → IsDecided pages s log past i →
+  decided-did : (past : List Entry) (e : Entry) (pass : ℕ) (c : Call) (reply : Reply) → effect_of e s ≡ Some (Did pass c reply) → IsGoodSoFar u past → (a : Act) → act_of c ≡ a → MayActByUpdate s log past pass c a → IsDecided pages s log past i →
       IsDecided pages s log (e ∷ past) i
   decided-did past e pass c reply effect good (Opens file given quota temporary) a acts k =
       decided-same pages s log past e i (ap (λ (h : List Effect). content pages h i) (history-effect e past s (Some (Did pass c reply)) effect) ∙ content-opens pages pass c reply (history past s) i a)
@@ -301,7 +301,7 @@ module _ (u : Setup) (s log : ℕ) where
       steady.0.within
 
   sizes-did : (past : List Entry) (e : Entry) (pass : ℕ) (c : Call) (reply : Reply) → effect_of e s ≡ Some (Did pass c reply) → IsGoodSoFar u (e ∷ past) → IsUpdated s log (e ∷ past) → had_map (history past s) ≡ true →
-      (a : Act) → act_of c ≡ a → MayAct s log past pass c a → Steps past e
+      (a : Act) → act_of c ≡ a → MayActByUpdate s log past pass c a → Steps past e
   sizes-did past e pass c reply effect good updated had (Opens file given quota temporary) a acts =
       inl (ap sizes (history-effect e past s (Some (Did pass c reply)) effect) ∙ sizes-opens_mapped pass c reply (history past s) a (mapped-at s log past (updated-tail s log e past updated) had))
   sizes-did past e pass c reply effect good updated had (Closes file truncate) a acts =

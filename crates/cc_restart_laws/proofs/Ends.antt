@@ -30,7 +30,7 @@ use Rattle.cc_model.specs.Stamps.{dirty_table}
 use Rattle.cc_model.specs.Touches.{size_of, touches, valid_of}
 use Rattle.cc_traits.specs.Log.{LogEntry}
 use Rattle.cc_redo.specs.Changes.{byte_after, bytes_after, page_after}
-use Rattle.cc_redo.specs.Heard.{Change, change_said, end_of, is_given, readings, redone_of}
+use Rattle.cc_redo.specs.Heard.{Change, change_said, end_of_change, is_given, readings, redone_of}
 use Rattle.cc_redo.specs.Reading.{said_by}
 use Rattle.cc_redo.specs.declared.record.LogRecord.{LogRecord}
 use Rattle.cc_redo.specs.declared.record.LogRecord.TheVariants.{Update}
@@ -45,8 +45,8 @@ use Rattle.cc_restart_laws.proofs.Records.{IsAppended, appended-before, appended
 use Rattle.cc_restart_laws.proofs.Redoing.{EndsBehind, IsAmong, IsFromCheckpoint, IsGivenBy, IsUngiven, contains-any, covers, oldest-least, oldest-row, own_byte}
 use Rattle.cc_restart_laws.proofs.Stamped.{has_stamp}
 use Rattle.cc_restart_laws.proofs.Walks.{Behind, Front, IsBegunFront, IsFrontOf, front-rest, front-tail, traced}
-use Rattle.cc_restart_laws.specs.Stops.{IsGivenAs, IsKept}
-use Rattle.cc_restart_laws.specs.Updates.{IsCheckpoint, IsUpdated, MayAppend, MayLog, Updating, WasStamped, row_told}
+use Rattle.cc_restart_laws.specs.Stops.{IsGivenAs, LogKeeps}
+use Rattle.cc_restart_laws.specs.Updates.{IsCheckpoint, IsUpdated, MayAppend, MayLogRecord, Updating, WasStamped, row_told}
 
 -- ---- bytes of a page
 
@@ -82,7 +82,7 @@ byte-covers at bytes i is =
 byte-below : (r : Range) (i : ℕ) → has_byte r i ≡ true → i < r.to
 byte-below r i has = ltb-true i r.to (and_parts (nat_le r.from i) (nat_lt i r.to) has).1
 
-pub covered-below : (change : Change) (i : ℕ) → covers change (i / 4096) (i % 4096) ≡ true → i < end_of change
+pub covered-below : (change : Change) (i : ℕ) → covers change (i / 4096) (i % 4096) ≡ true → i < end_of_change change
 covered-below change i is = byte-below (whole_range change.at (length change.bytes)) i (byte-covers change.at change.bytes i is)
 
 -- two tests that guard two bytes
@@ -97,7 +97,7 @@ chosen true x y is = refl
 chosen false x y is = absurd (cc)
 
 module _ (u : Setup) (whole : List Entry) (s log first durable : ℕ) (pages : ℕ → List ℕ) (below : s < 16) (good : IsGoodSoFar u whole) (updated : IsUpdated s log whole) (long : (p : ℕ) → length (pages p) ≡ 4096)
-    (streams : List Redo) (redo : Redo) (handed : Contains streams redo) (given : IsGivenAs s first whole redo) (kept : List LogEntry) (flushed : flushed_to whole log ≤ durable) (keeps : IsKept durable (appended whole log) kept)
+    (streams : List Redo) (redo : Redo) (handed : Contains streams redo) (given : IsGivenAs s first whole redo) (kept : List LogEntry) (flushed : flushed_to whole log ≤ durable) (keeps : LogKeeps durable (appended whole log) kept)
     (settled-left : (p : ℕ) → is_settled (history whole s) p ≡ true → CrashLeaves ⊥ (Front u s log p whole) pages s p (history whole s))
     (from : ℕ) (check-of : (x : LogEntry) → IsAmong kept x → x.lsn < from → IsFromCheckpoint streams kept from) (i : ℕ) where
   -- ---- a change of which the record is durable is among those kept
@@ -261,7 +261,7 @@ module _ (u : Setup) (whole : List Entry) (s log first durable : ℕ) (pages : �
         go : (b : Bool) → nat_le k.change.at i ≡ b → ⊥
         go true le =
             none.none k.entry k.change k.among
-            (k.said, covers-byte k.change.at k.change.bytes i (and_from (nat_le k.change.at i) (nat_lt i (end_of k.change)) le (lt-ltb i (end_of k.change) k.below)))
+            (k.said, covers-byte k.change.at k.change.bytes i (and_from (nat_le k.change.at i) (nat_lt i (end_of_change k.change)) le (lt-ltb i (end_of_change k.change) k.below)))
         go false le =
             let valid : i < valid_of (history at-log.front s) = before k.change.at i (valid_of (history at-log.front s)) le may.within in
             older (valid-covered u s log at-log.front i good-front updated-front valid) valid
@@ -417,7 +417,7 @@ module _ (u : Setup) (whole : List Entry) (s log first durable : ℕ) (pages : �
 
       checkpoint : IsCheckpoint s log check.rows at-log.front
       checkpoint =
-          subst (λ (o : Option LogRecord). MayLog s log at-log.pass o at-log.front) check.says
+          subst (λ (o : Option LogRecord). MayLogRecord s log at-log.pass o at-log.front) check.says
           ((updated-head s log appending at-log.front updated_at).by refl)
 
       lower : last.entry.lsn < check.entry.lsn
@@ -505,7 +505,7 @@ module _ (u : Setup) (whole : List Entry) (s log first durable : ℕ) (pages : �
           let had_front : had_map (history at.front s) ≡ true = held-had u at.front s may.hold may.pinned.it (good-tail u appending at.front good_at) may.pinned.found in
           ap (λ (l : List Entry). had_map (history l s)) at.splits ∙ had-more u s log at.later (appending ∷ at.front) (had-more u s log (appending ∷ []) at.front had_front)
 
-      pub last-ends : (last : IsGivenBy redo from (i / 4096) (i % 4096) kept) → i < end_of last.change
+      pub last-ends : (last : IsGivenBy redo from (i / 4096) (i % 4096) kept) → i < end_of_change last.change
       last-ends last = byte-below (whole_range last.change.at (length last.change.bytes)) i (byte-covers last.change.at last.change.bytes i last.gives.1)
 
       pub last-byte : (last : IsGivenBy redo from (i / 4096) (i % 4096) kept) (byte : ℕ) → (last.entry.lsn < from → byte ≡ slice_index (disk (i / 4096)) (i % 4096)) →

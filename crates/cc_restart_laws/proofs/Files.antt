@@ -15,7 +15,7 @@ use Rattle.cc_model.specs.Records.{is_settled}
 use Rattle.cc_model.specs.Setup.{Setup}
 use Rattle.cc_traits.specs.Log.{LogEntry}
 use Rattle.cc_redo.specs.Changes.{byte_after, page_after}
-use Rattle.cc_redo.specs.Heard.{Change, change_said, end_of, from_of, raised, reading, readings, redone_by, redone_of, valid_behind}
+use Rattle.cc_redo.specs.Heard.{Change, change_said, end_of_change, from_of, raised_by_change, reading, readings, redone_by, redone_of, valid_behind}
 use Rattle.cc_redo.specs.Reading.{said_by}
 use Rattle.cc_redo.specs.declared.redo.Redo.{Redo}
 use Rattle.cc_restart_laws.proofs.Ends.{chosen, covered-below, guarded, last-byte, last-ends, made-byte, none-ends, opening-byte, zero-byte}
@@ -24,7 +24,7 @@ use Rattle.cc_restart_laws.proofs.Logs.{among-cases, among-left, kept-appended, 
 use Rattle.cc_restart_laws.proofs.Walks.{Front}
 use Rattle.cc_restart_laws.proofs.Redoing.{EndsBehind, IsAmong, IsFromCheckpoint, IsGivenBy, IsUngiven, decided-so, from-cases, oldest-least, valid-cases, valid-ends, valid-least, valid-same, valid-within}
 use Rattle.cc_restart_laws.proofs.Settled.{settled-leaves}
-use Rattle.cc_restart_laws.specs.Stops.{AreAscending, HadBegun, IsGivenAs, IsKept, MakesFile, file_byte, pages_redone, updated_byte, updates_in, valid_after}
+use Rattle.cc_restart_laws.specs.Stops.{AreAscending, HadBegun, IsGivenAs, LogKeeps, MakesFile, file_byte, pages_redone, updated_byte, updates_in, valid_after_changes}
 use Rattle.cc_restart_laws.specs.Updates.{IsUpdated}
 
 -- ---- entries before others
@@ -49,13 +49,13 @@ after-append : (xs ys : List Change) (page place byte : ℕ) → byte_after (xs 
 after-append [] ys page place byte = refl
 after-append (x ∷ xs) ys page place byte = after-append xs ys page place (byte_after (x ∷ []) page place byte)
 
-raised-append : (xs ys : List Change) (valid : ℕ) → valid_after (xs ++ ys) valid ≡ valid_after ys (valid_after xs valid)
+raised-append : (xs ys : List Change) (valid : ℕ) → valid_after_changes (xs ++ ys) valid ≡ valid_after_changes ys (valid_after_changes xs valid)
 raised-append [] ys valid = refl
-raised-append (x ∷ xs) ys valid = raised-append xs ys (max valid (end_of x))
+raised-append (x ∷ xs) ys valid = raised-append xs ys (max valid (end_of_change x))
 
 behind-append : (redo : Redo) (first rest : List LogEntry) (valid : ℕ) → valid_behind (readings (first ++ rest)) redo valid ≡ valid_behind (readings rest) redo (valid_behind (readings first) redo valid)
 behind-append redo [] rest valid = refl
-behind-append redo (entry ∷ first) rest valid = behind-append redo first rest (raised valid (change_said redo (said_by entry.bytes)))
+behind-append redo (entry ∷ first) rest valid = behind-append redo first rest (raised_by_change valid (change_said redo (said_by entry.bytes)))
 
 -- ---- none of what went before is redone where what is kept is older than that
 
@@ -69,9 +69,9 @@ passed-all redo from page place byte (entry ∷ entries) early =
     none true is = let le = leb-true from entry.lsn is in let lt = early entry (inl refl) in absurd (omega (arith, le, lt))
 
 module _ (u : Setup) (whole : List Entry) (s log first durable : ℕ) (pages : ℕ → List ℕ) (below : s < 16) (good : IsGoodSoFar u whole) (updated : IsUpdated s log whole) (long : (p : ℕ) → length (pages p) ≡ 4096)
-    (streams : List Redo) (redo : Redo) (handed : Contains streams redo) (given : IsGivenAs s first whole redo) (kept : List LogEntry) (flushed : flushed_to whole log ≤ durable) (keeps : IsKept durable (appended whole log) kept)
+    (streams : List Redo) (redo : Redo) (handed : Contains streams redo) (given : IsGivenAs s first whole redo) (kept : List LogEntry) (flushed : flushed_to whole log ≤ durable) (keeps : LogKeeps durable (appended whole log) kept)
     (begun : List LogEntry) (pages0 : ℕ → List ℕ) (first0 : ℕ) (ascending : AreAscending begun) (apart : (x y : LogEntry) → IsAmong begun x → IsAmong kept y → x.lsn < y.lsn)
-    (reached : valid_after (updates_in redo begun) first0 ≤ first) (i : ℕ) (opening : i < redo.size → file_byte pages first i ≡ updated_byte pages0 first0 (updates_in redo begun) i)
+    (reached : valid_after_changes (updates_in redo begun) first0 ≤ first) (i : ℕ) (opening : i < redo.size → file_byte pages first i ≡ updated_byte pages0 first0 (updates_in redo begun) i)
     (disk : ℕ → List ℕ) (left : 4096 * (i / 4096) < redo.size → Contains (crash_pages pages (history whole s) (i / 4096)) (disk (i / 4096))) where
   abbrev from : ℕ
   from = from_of streams (readings (begun ++ kept))
@@ -103,7 +103,7 @@ module _ (u : Setup) (whole : List Entry) (s log first durable : ℕ) (pages : �
   reached-is = let is = valid-same redo begun first0 in let le = reached in omega (arith, is, le)
 
   -- what the opening file has by the entries before it is within the valid data that they made
-  begun-ends : EndsBehind redo begun i → i < valid_after (updates_in redo begun) first0
+  begun-ends : EndsBehind redo begun i → i < valid_after_changes (updates_in redo begun) first0
   begun-ends k = let ends = valid-ends redo begun first0 k.entry k.change k.among k.said in let is = valid-same redo begun first0 in let lt = k.below in omega (arith, ends, is, lt)
 
   begun-valid : valid_behind (readings begun) redo redo.valid ≡ redo.valid
@@ -128,10 +128,10 @@ module _ (u : Setup) (whole : List Entry) (s log first durable : ℕ) (pages : �
   made-is : valid_behind (readings (begun ++ kept)) redo redo.valid ≡ valid_behind (readings kept) redo redo.valid
   made-is = behind-append redo begun kept redo.valid ∙ ap (valid_behind (readings kept) redo) begun-valid
 
-  file-is : valid_after (updates_in redo (begun ++ kept)) first0 ≡ valid_behind (readings kept) redo (valid_after (updates_in redo begun) first0)
+  file-is : valid_after_changes (updates_in redo (begun ++ kept)) first0 ≡ valid_behind (readings kept) redo (valid_after_changes (updates_in redo begun) first0)
   file-is =
-      ap (λ (l : List Change). valid_after l first0) (updates-append redo begun kept)
-      ∙ (raised-append (updates_in redo begun) (updates_in redo kept) first0 ∙ valid-same redo kept (valid_after (updates_in redo begun) first0))
+      ap (λ (l : List Change). valid_after_changes l first0) (updates-append redo begun kept)
+      ∙ (raised-append (updates_in redo begun) (updates_in redo kept) first0 ∙ valid-same redo kept (valid_after_changes (updates_in redo begun) first0))
 
   -- ---- the bytes
 
@@ -153,17 +153,17 @@ module _ (u : Setup) (whole : List Entry) (s log first durable : ℕ) (pages : �
         made-byte u whole s log first durable pages below good updated long streams redo handed given kept flushed keeps settled-left from check-of i disk left inside (redone_of redo from (readings (begun ++ kept)))
         ∙ redone-is byte
 
-    below-first : IsUngiven redo from (i / 4096) (i % 4096) kept → i < valid_behind (readings kept) redo (valid_after (updates_in redo begun) first0) → i < first
-    below-first none lt = go (nat_lt i first) refl (valid-cases redo kept (valid_after (updates_in redo begun) first0) i lt)
+    below-first : IsUngiven redo from (i / 4096) (i % 4096) kept → i < valid_behind (readings kept) redo (valid_after_changes (updates_in redo begun) first0) → i < first
+    below-first none lt = go (nat_lt i first) refl (valid-cases redo kept (valid_after_changes (updates_in redo begun) first0) i lt)
       where
-        go : (b : Bool) → nat_lt i first ≡ b → (i < valid_after (updates_in redo begun) first0) ⊎ EndsBehind redo kept i → i < first
+        go : (b : Bool) → nat_lt i first ≡ b → (i < valid_after_changes (updates_in redo begun) first0) ⊎ EndsBehind redo kept i → i < first
         go b is (inl it) = let le = reached in omega (arith, le, it)
         go true is (inr ends) = ltb-true i first is
         go false is (inr ends) =
             absurd (none-ends u whole s log first durable pages below good updated long streams redo handed given kept flushed keeps settled-left from check-of i none (ltb-false i first is) ends)
 
     -- past what the entries before it made valid, they give no byte
-    past-begun : valid_after (updates_in redo begun) first0 ≤ i → IsUngiven redo from (i / 4096) (i % 4096) begun
+    past-begun : valid_after_changes (updates_in redo begun) first0 ≤ i → IsUngiven redo from (i / 4096) (i % 4096) begun
     past-begun above = go (decided-so redo from (i / 4096) (i % 4096) begun ascending)
       where
         go : IsUngiven redo from (i / 4096) (i % 4096) begun ⊎ IsGivenBy redo from (i / 4096) (i % 4096) begun → IsUngiven redo from (i / 4096) (i % 4096) begun
@@ -178,8 +178,8 @@ module _ (u : Setup) (whole : List Entry) (s log first durable : ℕ) (pages : �
         opening-byte u whole s log first durable pages below good updated long streams redo handed given kept flushed keeps settled-left from check-of i disk left inside none lt
         ∙ (sym (chosen (nat_lt i first) (slice_index (pages (i / 4096)) (i % 4096)) 0 (lt-ltb i first lt)) ∙ opening inside)
 
-    zero-opened : IsUngiven redo from (i / 4096) (i % 4096) kept → i < first → valid_after (updates_in redo begun) first0 ≤ i → byte ≡ 0
-    zero-opened none lt above = opening-is none lt ∙ unchosen (nat_lt i (valid_after (updates_in redo begun) first0)) _ (over i (valid_after (updates_in redo begun) first0) above)
+    zero-opened : IsUngiven redo from (i / 4096) (i % 4096) kept → i < first → valid_after_changes (updates_in redo begun) first0 ≤ i → byte ≡ 0
+    zero-opened none lt above = opening-is none lt ∙ unchosen (nat_lt i (valid_after_changes (updates_in redo begun) first0)) _ (over i (valid_after_changes (updates_in redo begun) first0) above)
       where
         unchosen : (b : Bool) (x : ℕ) → b ≡ false → (if b then x else 0) ≡ 0
         unchosen false x is = refl
@@ -189,9 +189,9 @@ module _ (u : Setup) (whole : List Entry) (s log first durable : ℕ) (pages : �
         over n v le = grind arith
 
     opened : IsUngiven redo from (i / 4096) (i % 4096) kept → i < first → byte ≡ byte_after (updates_in redo begun) (i / 4096) (i % 4096) (file_byte pages0 first0 i)
-    opened none lt = go (nat_lt i (valid_after (updates_in redo begun) first0)) refl
+    opened none lt = go (nat_lt i (valid_after_changes (updates_in redo begun) first0)) refl
       where
-        base-zero : valid_after (updates_in redo begun) first0 ≤ i → file_byte pages0 first0 i ≡ 0
+        base-zero : valid_after_changes (updates_in redo begun) first0 ≤ i → file_byte pages0 first0 i ≡ 0
         base-zero above =
             unchosen (nat_lt i first0) _
             (over i first0 (let least = valid-least redo begun first0 in let is = valid-same redo begun first0 in omega (arith, least, is, above)))
@@ -203,10 +203,10 @@ module _ (u : Setup) (whole : List Entry) (s log first durable : ℕ) (pages : �
             over : (n v : ℕ) → v ≤ n → nat_lt n v ≡ false
             over n v le = grind arith
 
-        go : (b : Bool) → nat_lt i (valid_after (updates_in redo begun) first0) ≡ b → byte ≡ byte_after (updates_in redo begun) (i / 4096) (i % 4096) (file_byte pages0 first0 i)
-        go true is = opening-is none lt ∙ chosen (nat_lt i (valid_after (updates_in redo begun) first0)) _ 0 is
+        go : (b : Bool) → nat_lt i (valid_after_changes (updates_in redo begun) first0) ≡ b → byte ≡ byte_after (updates_in redo begun) (i / 4096) (i % 4096) (file_byte pages0 first0 i)
+        go true is = opening-is none lt ∙ chosen (nat_lt i (valid_after_changes (updates_in redo begun) first0)) _ 0 is
         go false is =
-            let above = ltb-false i (valid_after (updates_in redo begun) first0) is in
+            let above = ltb-false i (valid_after_changes (updates_in redo begun) first0) is in
             zero-opened none lt above ∙ (sym (base-zero above) ∙ sym ((past-begun above).all (file_byte pages0 first0 i)))
 
     -- what is redone of the entries before it makes the same of it
@@ -225,10 +225,10 @@ module _ (u : Setup) (whole : List Entry) (s log first durable : ℕ) (pages : �
         go (inr k) = late k (nat_le from k.entry.lsn) refl
 
     both : IsUngiven redo from (i / 4096) (i % 4096) kept ⊎ IsGivenBy redo from (i / 4096) (i % 4096) kept → nat_lt i (valid_behind (readings (begun ++ kept)) redo redo.valid) ≡ true →
-        nat_lt i (valid_after (updates_in redo (begun ++ kept)) first0) ≡ true →
+        nat_lt i (valid_after_changes (updates_in redo (begun ++ kept)) first0) ≡ true →
         slice_index (page_after (redone_of redo from (readings (begun ++ kept))) (i / 4096) (disk (i / 4096))) (i % 4096) ≡ byte_after (updates_in redo (begun ++ kept)) (i / 4096) (i % 4096) (file_byte pages0 first0 i)
     both (inl none) yields file =
-        let lt = below-first none (let below_file = ltb-true i (valid_after (updates_in redo (begun ++ kept)) first0) file in let is = file-is in omega (arith, below_file, is)) in
+        let lt = below-first none (let below_file = ltb-true i (valid_after_changes (updates_in redo (begun ++ kept)) first0) file in let is = file-is in omega (arith, below_file, is)) in
         made
         ∙ (none.redone _
         ∙ (before-same (file_byte pages0 first0 i) (opened none lt)
@@ -242,14 +242,14 @@ module _ (u : Setup) (whole : List Entry) (s log first durable : ℕ) (pages : �
 
     -- past the file's valid data the byte is zero
     alone : IsUngiven redo from (i / 4096) (i % 4096) kept ⊎ IsGivenBy redo from (i / 4096) (i % 4096) kept → nat_lt i (valid_behind (readings (begun ++ kept)) redo redo.valid) ≡ true →
-        nat_lt i (valid_after (updates_in redo (begun ++ kept)) first0) ≡ false → slice_index (page_after (redone_of redo from (readings (begun ++ kept))) (i / 4096) (disk (i / 4096))) (i % 4096) ≡ 0
+        nat_lt i (valid_after_changes (updates_in redo (begun ++ kept)) first0) ≡ false → slice_index (page_after (redone_of redo from (readings (begun ++ kept))) (i / 4096) (disk (i / 4096))) (i % 4096) ≡ 0
     alone (inl none) yields file = made ∙ (none.redone _ ∙ ((past-begun above-begun).redone byte ∙ go (nat_lt i first) refl))
       where
-        above-begun : valid_after (updates_in redo begun) first0 ≤ i
+        above-begun : valid_after_changes (updates_in redo begun) first0 ≤ i
         above-begun =
             let is = file-is in
-            let least = valid-least redo kept (valid_after (updates_in redo begun) first0) in
-            let past_file = ltb-false i (valid_after (updates_in redo (begun ++ kept)) first0) file in
+            let least = valid-least redo kept (valid_after_changes (updates_in redo begun) first0) in
+            let past_file = ltb-false i (valid_after_changes (updates_in redo (begun ++ kept)) first0) file in
             omega (arith, is, least, past_file)
 
         settled : first ≤ i → (i < redo.valid) ⊎ EndsBehind redo kept i → is_settled (history whole s) (i / 4096) ≡ true
@@ -268,19 +268,19 @@ module _ (u : Setup) (whole : List Entry) (s log first durable : ℕ) (pages : �
             zero-byte u whole s log first durable pages below good updated long streams redo handed given kept flushed keeps settled-left from check-of i disk left inside none above (told above)
     alone (inr last) yields file =
         let is = file-is in
-        let ends = valid-ends redo kept (valid_after (updates_in redo begun) first0) last.entry last.change last.among last.gives.0 in
+        let ends = valid-ends redo kept (valid_after_changes (updates_in redo begun) first0) last.entry last.change last.among last.gives.0 in
         let lt = last-ends u whole s log first durable pages below good updated long streams redo handed given kept flushed keeps settled-left from check-of i disk left inside last in
-        let past_file = ltb-false i (valid_after (updates_in redo (begun ++ kept)) first0) file in
+        let past_file = ltb-false i (valid_after_changes (updates_in redo (begun ++ kept)) first0) file in
         absurd (omega (arith, is, ends, lt, past_file))
 
-    file-alone : nat_lt i (valid_behind (readings (begun ++ kept)) redo redo.valid) ≡ false → nat_lt i (valid_after (updates_in redo (begun ++ kept)) first0) ≡ true → ⊥
+    file-alone : nat_lt i (valid_behind (readings (begun ++ kept)) redo redo.valid) ≡ false → nat_lt i (valid_after_changes (updates_in redo (begun ++ kept)) first0) ≡ true → ⊥
     file-alone yields file =
-        go (valid-cases redo kept (valid_after (updates_in redo begun) first0) i (let lt = ltb-true i (valid_after (updates_in redo (begun ++ kept)) first0) file in let is = file-is in omega (arith, lt, is)))
+        go (valid-cases redo kept (valid_after_changes (updates_in redo begun) first0) i (let lt = ltb-true i (valid_after_changes (updates_in redo (begun ++ kept)) first0) file in let is = file-is in omega (arith, lt, is)))
       where
         past_made : valid_behind (readings kept) redo redo.valid ≤ i
         past_made = let over = ltb-false i (valid_behind (readings (begun ++ kept)) redo redo.valid) yields in let is = made-is in omega (arith, over, is)
 
-        go : (i < valid_after (updates_in redo begun) first0) ⊎ EndsBehind redo kept i → ⊥
+        go : (i < valid_after_changes (updates_in redo begun) first0) ⊎ EndsBehind redo kept i → ⊥
         go (inl lt) = let least = valid-least redo kept redo.valid in let told = given.least in let le = reached in let over = past_made in omega (arith, least, told, le, over, lt)
         go (inr k) = let ends = valid-ends redo kept redo.valid k.entry k.change k.among k.said in let lt = k.below in let over = past_made in omega (arith, ends, lt, over)
 
@@ -289,7 +289,7 @@ module _ (u : Setup) (whole : List Entry) (s log first durable : ℕ) (pages : �
 
     inside-file : file_byte (pages_redone streams (begun ++ kept) redo disk) (valid_behind (readings (begun ++ kept)) redo redo.valid) i ≡ updated_byte pages0 first0 (updates_in redo (begun ++ kept)) i
     inside-file =
-        guarded (nat_lt i (valid_behind (readings (begun ++ kept)) redo redo.valid)) (nat_lt i (valid_after (updates_in redo (begun ++ kept)) first0)) _ _ (both decision) (alone decision) file-alone
+        guarded (nat_lt i (valid_behind (readings (begun ++ kept)) redo redo.valid)) (nat_lt i (valid_after_changes (updates_in redo (begun ++ kept)) first0)) _ _ (both decision) (alone decision) file-alone
 
   pub whole-file : redo.valid ≤ redo.size → file_byte (pages_redone streams (begun ++ kept) redo disk) (valid_behind (readings (begun ++ kept)) redo redo.valid) i ≡ updated_byte pages0 first0 (updates_in redo (begun ++ kept)) i
   whole-file within = go (nat_lt i redo.size) refl
@@ -309,11 +309,11 @@ module _ (u : Setup) (whole : List Entry) (s log first durable : ℕ) (pages : �
           let made_within = valid-within redo (begun ++ kept) redo.valid within in
           let least = given.least in
           let le = reached in
-          let file_within = valid-within redo kept (valid_after (updates_in redo begun) first0) (omega (arith, within, least, le)) in
+          let file_within = valid-within redo kept (valid_after_changes (updates_in redo begun) first0) (omega (arith, within, least, le)) in
           let same = file-is in
-          past (nat_lt i (valid_behind (readings (begun ++ kept)) redo redo.valid)) (nat_lt i (valid_after (updates_in redo (begun ++ kept)) first0)) _ _
+          past (nat_lt i (valid_behind (readings (begun ++ kept)) redo redo.valid)) (nat_lt i (valid_after_changes (updates_in redo (begun ++ kept)) first0)) _ _
           (over i (valid_behind (readings (begun ++ kept)) redo redo.valid) (omega (arith, above, made_within)))
-          (over i (valid_after (updates_in redo (begun ++ kept)) first0) (omega (arith, above, file_within, same)))
+          (over i (valid_after_changes (updates_in redo (begun ++ kept)) first0) (omega (arith, above, file_within, same)))
 
 -- ---- a log that had no entry
 
@@ -328,7 +328,7 @@ none-lower : (kept : List LogEntry) (x y : LogEntry) → IsAmong [] x → IsAmon
 none-lower kept x y among here = absurd among
 
 module _ (u : Setup) (whole : List Entry) (s log first durable : ℕ) (pages : ℕ → List ℕ) (below : s < 16) (good : IsGoodSoFar u whole) (updated : IsUpdated s log whole) (long : (p : ℕ) → length (pages p) ≡ 4096)
-    (streams : List Redo) (redo : Redo) (handed : Contains streams redo) (given : IsGivenAs s first whole redo) (kept : List LogEntry) (flushed : flushed_to whole log ≤ durable) (keeps : IsKept durable (appended whole log) kept) where
+    (streams : List Redo) (redo : Redo) (handed : Contains streams redo) (given : IsGivenAs s first whole redo) (kept : List LogEntry) (flushed : flushed_to whole log ≤ durable) (keeps : LogKeeps durable (appended whole log) kept) where
   pub first-file : (disk : ℕ → List ℕ) → ((p : ℕ) → 4096 * p < redo.size → Contains (crash_pages pages (history whole s) p) (disk p)) → (i : ℕ) →
       file_byte (pages_redone streams kept redo disk) (valid_behind (readings kept) redo redo.valid) i ≡ updated_byte pages first (updates_in redo kept) i
   first-file disk left i =

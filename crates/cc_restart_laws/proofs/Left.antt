@@ -3,10 +3,10 @@ use Rattle.std.specs.Prelude.{◌≡◌, ℕ, ◌<◌, ◌≤◌, List, [], ◌�
 use Rattle.std.specs.List.{AllByRecursion}
 use Rattle.std.proofs.Common.{ap, sym, ◌∙◌, arith}
 use Rattle.cc_entry.specs.declared.entry.Entry.{Entry}
-use Rattle.cc_log.specs.Turn.{Holds, appended}
+use Rattle.cc_log.specs.Turn.{HoldsLogEntries, appended}
 use Rattle.cc_model.specs.Logs.{flushed_to}
 use Rattle.cc_traits.specs.Log.{Log, LogEntry}
-use Rattle.cc_restart_laws.specs.Stops.{IsKept, KeepsBehind}
+use Rattle.cc_restart_laws.specs.Stops.{LogKeeps, LogKeepsBehind}
 
 head-of : (x y : LogEntry) (xs ys : List LogEntry) → x ∷ xs ≡ y ∷ ys → x ≡ y
 head-of x y xs ys is = cc
@@ -15,7 +15,7 @@ tail-of : (x y : LogEntry) (xs ys : List LogEntry) → x ∷ xs ≡ y ∷ ys →
 tail-of x y xs ys is = cc
 
 behind : (durable : ℕ) (begun appends all rest : List LogEntry) → begun ++ appends ≡ all ++ rest → AllByRecursion (λ entry. entry.lsn ≤ durable) begun → AllByRecursion (λ entry. durable < entry.lsn) rest →
-    KeepsBehind durable begun appends all
+    LogKeepsBehind durable begun appends all
 behind durable [] appends all rest splits durables beyond = record { kept = all; is = refl; keeps = record { rest = rest; splits = splits; beyond = beyond } }
 behind durable (x ∷ begun) appends [] [] splits durables beyond = absurd (cc)
 behind durable (x ∷ begun) appends [] (y ∷ rest) splits durables beyond =
@@ -31,6 +31,6 @@ behind durable (x ∷ begun) appends (y ∷ all) rest splits durables beyond =
       keeps = k.keeps;
     }
 
-pub log-left : (past : List Entry) (log : ℕ) (begun now : Log) (all : List LogEntry) → Holds (appended past log) (flushed_to past log) begun now → AllByRecursion (λ entry. entry.lsn ≤ now.durable) begun.entries →
-    IsKept now.durable now.entries all → KeepsBehind now.durable begun.entries (appended past log) all
+pub log-left : (past : List Entry) (log : ℕ) (begun now : Log) (all : List LogEntry) → HoldsLogEntries (appended past log) (flushed_to past log) begun now → AllByRecursion (λ entry. entry.lsn ≤ now.durable) begun.entries →
+    LogKeeps now.durable now.entries all → LogKeepsBehind now.durable begun.entries (appended past log) all
 log-left past log begun now all holds durables keeps = behind now.durable begun.entries (appended past log) all keeps.rest (sym holds.entries_are ∙ keeps.splits) durables keeps.beyond

@@ -28,7 +28,7 @@ use Rattle.cc_model.specs.Objects.{had_map}
 use Rattle.cc_model.specs.Settings.{log_of}
 use Rattle.cc_model.specs.Setup.{Setup}
 use Rattle.cc_model.specs.Sizes.{Touch}
-use Rattle.cc_model.specs.Stamps.{dirty_table, is_log, row_of, rows_of}
+use Rattle.cc_model.specs.Stamps.{dirty_table, is_log, dirty_row_of, dirty_rows_of}
 use Rattle.cc_model.specs.Touches.{dirty_pages, size_of, touches, unwritten}
 use Rattle.cc_redo.specs.Reading.{said_by}
 use Rattle.cc_redo.specs.declared.record.LogRecord.{LogRecord}
@@ -42,7 +42,7 @@ use Rattle.cc_restart_laws.proofs.Redoing.{IsAmong}
 use Rattle.cc_restart_laws.proofs.Safe.{stamp-set}
 use Rattle.cc_restart_laws.proofs.Stamped.{has_stamp, stamp-between, stamp-open}
 use Rattle.cc_restart_laws.proofs.Walks.{Behind, IsFrontOf, IsKnownBehind, crash-walk, front-rest, front-tail, known-walk, since-walk, synced-leaves}
-use Rattle.cc_restart_laws.specs.Updates.{HasWritten, IsCheckpoint, IsUpdated, Updating, WasStamped, is_update_of, records_update}
+use Rattle.cc_restart_laws.specs.Updates.{UpdateHasWritten, IsCheckpoint, IsUpdated, Updating, WasStamped, is_update_of, records_update}
 
 -- ---- where an entry of the log was appended
 
@@ -159,19 +159,19 @@ unfolding dirty_table
 has-row s log n p past below its stamped =
     let between = stamp-between n (unwritten (history past s) p) stamped in
     let row : DirtyRow = record { page = record { stream = s; page = p }; oldest = between.pair.0; newest = between.pair.1 } in
-    let is : row_of s (history past s) p ≡ Some row = ap (option_map (λ (lsns : ℕ × ℕ). record { page = record { stream = s; page = p }; oldest = lsns.0; newest = lsns.1 })) between.is in
+    let is : dirty_row_of s (history past s) p ≡ Some row = ap (option_map (λ (lsns : ℕ × ℕ). record { page = record { stream = s; page = p }; oldest = lsns.0; newest = lsns.1 })) between.is in
     let dirty : is_among p (dirty_pages (history past s)) ≡ true = dirty-among (history past s) p (stamp-dirty n (touches false (history past s) p) stamped) in
     let mine : is_log log (log_of (history past s)) ≡ true = ap (is_log log) its ∙ eq-eqb log log refl in
-    let here : IsAmong (rows_of past log s) row = chosen (is_log log (log_of (history past s))) mine row (among-filtered (row_of s (history past s)) (dirty_pages (history past s)) p row dirty is) in
+    let here : IsAmong (dirty_rows_of past log s) row = chosen (is_log log (log_of (history past s))) mine row (among-filtered (dirty_row_of s (history past s)) (dirty_pages (history past s)) p row dirty is) in
     record {
       row = row;
-      among = among-flat (rows_of past log) (range_with_len 0 16) s row (among-range s 0 16 (omega arith) (omega (arith, below))) here;
+      among = among-flat (dirty_rows_of past log) (range_with_len 0 16) s row (among-range s 0 16 (omega arith) (omega (arith, below))) here;
       stream = refl;
       oldest = between.least;
     }
   where
-    chosen : (b : Bool) → b ≡ true → (row : DirtyRow) → IsAmong (filter_map (row_of s (history past s)) (dirty_pages (history past s))) row →
-        IsAmong (if b then filter_map (row_of s (history past s)) (dirty_pages (history past s)) else []) row
+    chosen : (b : Bool) → b ≡ true → (row : DirtyRow) → IsAmong (filter_map (dirty_row_of s (history past s)) (dirty_pages (history past s))) row →
+        IsAmong (if b then filter_map (dirty_row_of s (history past s)) (dirty_pages (history past s)) else []) row
     chosen true is row among = among
     chosen false is row among = absurd (clash (sym is))
 
@@ -193,10 +193,10 @@ module _ (u : Setup) (s log p : ℕ) (whole : List Entry) (pages : ℕ → List 
   abbrev pub base_of : (lsn : ℕ) (past : List Entry) → WasStamped s log lsn past → List Entry
   base_of lsn past w = w.stamp ∷ w.front
 
-  written-had : (it : Updating) (past : List Entry) → IsGoodSoFar u past → HasWritten s log it past → had_map (history past s) ≡ true
+  written-had : (it : Updating) (past : List Entry) → IsGoodSoFar u past → UpdateHasWritten s log it past → had_map (history past s) ≡ true
   written-had it past good k = let owing = owing-of u s log it past good k in held-had u past s it.hold owing.held.hold good owing.held.has.found
 
-  pub written-log : (it : Updating) (past : List Entry) → IsUpdated s log past → HasWritten s log it past → log_of (history past s) ≡ Some log
+  pub written-log : (it : Updating) (past : List Entry) → IsUpdated s log past → UpdateHasWritten s log it past → log_of (history past s) ≡ Some log
   written-log it past updated k =
       let wrote : Entry = entry.Call it.pass k.nth (Some s) (call.PinnedWrite it.hold it.at it.bytes) (outcome.Done k.reply) in
       let all : IsUpdated s log (k.idle.during ++ wrote ∷ k.front) = subst (λ (l : List Entry). IsUpdated s log l) k.idle.grew updated in
@@ -204,7 +204,7 @@ module _ (u : Setup) (s log p : ℕ) (whole : List Entry) (pages : ℕ → List 
       ap (λ (l : List Entry). log_of (history l s)) k.idle.grew
       ∙ log-stays s log k.idle.during (wrote ∷ k.front) all (log-stays s log (wrote ∷ []) k.front there (recorded-log s log it k.front (updated-tail s log wrote k.front there) k.recorded))
 
-  pub written-change : (it : Updating) (past : List Entry) → HasWritten s log it past → IsChange s log it past
+  pub written-change : (it : Updating) (past : List Entry) → UpdateHasWritten s log it past → IsChange s log it past
   written-change it past k =
       let wrote : Entry = entry.Call it.pass k.nth (Some s) (call.PinnedWrite it.hold it.at it.bytes) (outcome.Done k.reply) in
       subst (λ (l : List Entry). IsChange s log it l) (sym k.idle.grew)

@@ -19,7 +19,7 @@ use Rattle.cc_redo.specs.declared.redo.Redo.{Redo}
 use Rattle.cc_restart_laws.proofs.Entries.{good-tail, next-lsn}
 use Rattle.cc_restart_laws.proofs.Records.{IsAppended, appended-floor}
 use Rattle.cc_restart_laws.proofs.Redoing.{IsAmong}
-use Rattle.cc_restart_laws.specs.Stops.{AreAscending, IsKept}
+use Rattle.cc_restart_laws.specs.Stops.{AreAscending, LogKeeps}
 
 -- ---- lists of entries
 
@@ -179,7 +179,7 @@ lsn-fits u log lsn bytes (e ∷ past) good (inr before) = lsn-fits u log lsn byt
 
 -- ---- what is kept
 
-module _ (u : Setup) (log durable : ℕ) (past : List Entry) (good : IsGoodSoFar u past) (kept : List LogEntry) (keeps : IsKept durable (appended past log) kept) where
+module _ (u : Setup) (log durable : ℕ) (past : List Entry) (good : IsGoodSoFar u past) (kept : List LogEntry) (keeps : LogKeeps durable (appended past log) kept) where
   whole-rising : AreAscending (kept ++ keeps.rest)
   whole-rising = subst (λ (l : List LogEntry). AreAscending l) keeps.splits (are-rising u log past good)
 

@@ -33,7 +33,7 @@ use Rattle.cc_redo.specs.Reading.{said_by}
 use Rattle.cc_redo.specs.declared.record.LogRecord.{LogRecord}
 use Rattle.cc_redo.specs.declared.record.LogRecord.TheVariants.{Update}
 use Rattle.cc_restart_laws.proofs.Entries.{did-entry, good-tail, next-lsn, updated-head, updated-rest, updated-tail}
-use Rattle.cc_restart_laws.specs.Updates.{HasRecord, HasWritten, IsPinned, IsUpdated, IsUpdatedBy, MayAppend, MayLog, Updating}
+use Rattle.cc_restart_laws.specs.Updates.{HasRecord, UpdateHasWritten, IsPinned, IsUpdated, IsUpdatedBy, MayAppend, MayLogRecord, Updating}
 
 -- the bytes of an update
 abbrev pub range_of : Updating → Range
@@ -184,7 +184,7 @@ owing-later : (u : Setup) (s : ℕ) (it : Updating) (during past : List Entry) �
 unfolding held-later
 owing-later u s it during past good others k = record { held = held-later u s it during past good others k.held; owes = k.owes }
 
-pub owing-of : (u : Setup) (s log : ℕ) (it : Updating) (past : List Entry) → IsGoodSoFar u past → HasWritten s log it past → IsOwing s it past
+pub owing-of : (u : Setup) (s log : ℕ) (it : Updating) (past : List Entry) → IsGoodSoFar u past → UpdateHasWritten s log it past → IsOwing s it past
 owing-of u s log it past good k =
     let wrote : Entry = entry.Call it.pass k.nth (Some s) (call.PinnedWrite it.hold it.at it.bytes) (outcome.Done k.reply) in
     let whole : IsGoodSoFar u (k.idle.during ++ wrote ∷ k.front) = subst (λ (l : List Entry). IsGoodSoFar u l) k.idle.grew good in
@@ -193,7 +193,7 @@ owing-of u s log it past good k =
     (owing-later u s it k.idle.during (wrote ∷ k.front) whole k.idle.others
     (owing-begun u s k.nth it k.reply k.front there (held-of u s log it k.front (good-tail u wrote k.front there) k.recorded)))
 
-pub unstamped-of : (u : Setup) (s log : ℕ) (it : Updating) (past : List Entry) (p : ℕ) → IsGoodSoFar u past → HasWritten s log it past → has_page (range_of it) p ≡ true → is_unstamped (history past s) p ≡ true
+pub unstamped-of : (u : Setup) (s log : ℕ) (it : Updating) (past : List Entry) (p : ℕ) → IsGoodSoFar u past → UpdateHasWritten s log it past → has_page (range_of it) p ≡ true → is_unstamped (history past s) p ≡ true
 unstamped-of u s log it past p good k in_range =
     let owing = owing-of u s log it past good k in
     any-found (λ (hold : Hold). hold.id == it.hold) (owes_stamp p) (holds_of (history past s)) owing.held.hold owing.held.has.found (owing.owes p in_range)
@@ -255,8 +255,8 @@ log-one s log (e ∷ past) updated =
 pub may-append : (s log pass lsn at : ℕ) (bytes spelled : List ℕ) (front : List Entry) → IsUpdated s log (entry.Append pass log lsn spelled ∷ front) → said_by spelled ≡ Some (Update s at bytes) →
     MayAppend s log pass at bytes front
 may-append s log pass lsn at bytes spelled front updated said =
-    let may : MayLog s log pass (said_by spelled) front = (updated-head s log (entry.Append pass log lsn spelled) front updated).by refl in
-    (subst (λ (o : Option LogRecord). MayLog s log pass o front) said may) refl
+    let may : MayLogRecord s log pass (said_by spelled) front = (updated-head s log (entry.Append pass log lsn spelled) front updated).by refl in
+    (subst (λ (o : Option LogRecord). MayLogRecord s log pass o front) said may) refl
 
 pub recorded-log : (s log : ℕ) (it : Updating) (past : List Entry) → IsUpdated s log past → HasRecord s log it past → log_of (history past s) ≡ Some log
 recorded-log s log it past updated k =

@@ -8,12 +8,12 @@ use Rattle.std.proofs.lemmas.Bool.{leb-true, leb-false, le-leb, or_left, or_righ
 use Rattle.cc_traits.specs.Log.{LogEntry}
 use Rattle.cc_format.specs.declared.log.OldestRow.{OldestRow}
 use Rattle.cc_redo.specs.Changes.{byte_after, byte_by}
-use Rattle.cc_redo.specs.Heard.{Change, change_said, end_of, from_behind, from_said, is_given, oldest_in, raised, reading, readings, redone_by, redone_of, valid_behind}
+use Rattle.cc_redo.specs.Heard.{Change, change_said, end_of_change, from_behind, from_said, is_given, oldest_given_in, raised_by_change, reading, readings, redone_by, redone_of, valid_behind}
 use Rattle.cc_redo.specs.Reading.{said_by}
 use Rattle.cc_redo.specs.declared.record.LogRecord.{LogRecord}
 use Rattle.cc_redo.specs.declared.record.LogRecord.TheVariants.{Update, Checkpoint}
 use Rattle.cc_redo.specs.declared.redo.Redo.{Redo}
-use Rattle.cc_restart_laws.specs.Stops.{AreAscending, valid_after}
+use Rattle.cc_restart_laws.specs.Stops.{AreAscending, valid_after_changes}
 
 -- one of a list
 abbrev pub IsAmong : {A : Type 0} → List A → A → Type 0
@@ -27,7 +27,7 @@ all-among P (y ∷ ys) x all (inr among) = all-among P ys x all.1 among
 
 -- whether a change gives a place of a page its byte, and that byte
 abbrev pub covers : Change → ℕ → ℕ → Bool
-covers change page place = nat_lt place 4096 && (nat_le change.at (4096 * page + place) && nat_lt (4096 * page + place) (end_of change))
+covers change page place = nat_lt place 4096 && (nat_le change.at (4096 * page + place) && nat_lt (4096 * page + place) (end_of_change change))
 
 abbrev pub own_byte : Change → ℕ → ℕ → ℕ
 own_byte change page place = slice_index change.bytes (4096 * page + place - change.at)
@@ -229,7 +229,7 @@ module _ (redo : Redo) (from page place : ℕ) where
 
 -- ---- the valid data length
 
-raised-more : (valid : ℕ) (o : Option Change) → valid ≤ raised valid o
+raised-more : (valid : ℕ) (o : Option Change) → valid ≤ raised_by_change valid o
 raised-more valid None = omega arith
 raised-more valid (Some change) = omega arith
 
@@ -237,7 +237,7 @@ pub valid-least : (redo : Redo) (entries : List LogEntry) (valid : ℕ) → vali
 valid-least redo [] valid = omega arith
 valid-least redo (entry ∷ entries) valid =
     let here = raised-more valid (change_said redo (said_by entry.bytes)) in
-    let rest = valid-least redo entries (raised valid (change_said redo (said_by entry.bytes))) in
+    let rest = valid-least redo entries (raised_by_change valid (change_said redo (said_by entry.bytes))) in
     omega arith
 
 -- a place below it is below what was given, or below the end of an update
@@ -246,64 +246,64 @@ pub record EndsBehind (redo : Redo) (entries : List LogEntry) (i : ℕ) : Type 0
   pub change : Change
   pub among : IsAmong entries entry
   pub said : change_said redo (said_by entry.bytes) ≡ Some change
-  pub below : i < end_of change
+  pub below : i < end_of_change change
 
 pub valid-cases : (redo : Redo) (entries : List LogEntry) (valid i : ℕ) → i < valid_behind (readings entries) redo valid → (i < valid) ⊎ EndsBehind redo entries i
 valid-cases redo [] valid i below = inl below
-valid-cases redo (entry ∷ entries) valid i below = go (change_said redo (said_by entry.bytes)) refl (valid-cases redo entries (raised valid (change_said redo (said_by entry.bytes))) i below)
+valid-cases redo (entry ∷ entries) valid i below = go (change_said redo (said_by entry.bytes)) refl (valid-cases redo entries (raised_by_change valid (change_said redo (said_by entry.bytes))) i below)
   where
     far : EndsBehind redo entries i → EndsBehind redo (entry ∷ entries) i
     far k = record { entry = k.entry; change = k.change; among = inr k.among; said = k.said; below = k.below }
 
-    here : (change : Change) → change_said redo (said_by entry.bytes) ≡ Some change → (b : Bool) → nat_lt i valid ≡ b → i < max valid (end_of change) → (i < valid) ⊎ EndsBehind redo (entry ∷ entries) i
+    here : (change : Change) → change_said redo (said_by entry.bytes) ≡ Some change → (b : Bool) → nat_lt i valid ≡ b → i < max valid (end_of_change change) → (i < valid) ⊎ EndsBehind redo (entry ∷ entries) i
     here change said true is lt = inl (ltb i valid is)
       where
         ltb : (a b : ℕ) → nat_lt a b ≡ true → a < b
         ltb a b is = grind arith
-    here change said false is lt = inr (record { entry = entry; change = change; among = inl refl; said = said; below = less i valid (end_of change) is lt })
+    here change said false is lt = inr (record { entry = entry; change = change; among = inl refl; said = said; below = less i valid (end_of_change change) is lt })
       where
         less : (a b c : ℕ) → nat_lt a b ≡ false → a < max b c → a < c
         less a b c is lt = grind arith
 
-    go : (o : Option Change) → change_said redo (said_by entry.bytes) ≡ o → (i < raised valid o) ⊎ EndsBehind redo entries i → (i < valid) ⊎ EndsBehind redo (entry ∷ entries) i
+    go : (o : Option Change) → change_said redo (said_by entry.bytes) ≡ o → (i < raised_by_change valid o) ⊎ EndsBehind redo entries i → (i < valid) ⊎ EndsBehind redo (entry ∷ entries) i
     go o said (inr k) = inr (far k)
     go None said (inl lt) = inl lt
     go (Some change) said (inl lt) = here change said (nat_lt i valid) refl lt
 
 -- the end of an update is no farther
-pub valid-ends : (redo : Redo) (entries : List LogEntry) (valid : ℕ) (entry : LogEntry) (change : Change) → IsAmong entries entry → change_said redo (said_by entry.bytes) ≡ Some change → end_of change ≤ valid_behind (readings entries) redo valid
+pub valid-ends : (redo : Redo) (entries : List LogEntry) (valid : ℕ) (entry : LogEntry) (change : Change) → IsAmong entries entry → change_said redo (said_by entry.bytes) ≡ Some change → end_of_change change ≤ valid_behind (readings entries) redo valid
 valid-ends redo [] valid entry change among said = absurd among
 valid-ends redo (first ∷ entries) valid entry change (inl same) said =
     let its : change_said redo (said_by first.bytes) ≡ Some change = ap (λ (e : LogEntry). change_said redo (said_by e.bytes)) (sym same) ∙ said in
-    let rest = valid-least redo entries (raised valid (change_said redo (said_by first.bytes))) in
-    let reached : raised valid (change_said redo (said_by first.bytes)) ≡ max valid (end_of change) = ap (raised valid) its in
+    let rest = valid-least redo entries (raised_by_change valid (change_said redo (said_by first.bytes))) in
+    let reached : raised_by_change valid (change_said redo (said_by first.bytes)) ≡ max valid (end_of_change change) = ap (raised_by_change valid) its in
     omega arith
-valid-ends redo (first ∷ entries) valid entry change (inr among) said = valid-ends redo entries (raised valid (change_said redo (said_by first.bytes))) entry change among said
+valid-ends redo (first ∷ entries) valid entry change (inr among) said = valid-ends redo entries (raised_by_change valid (change_said redo (said_by first.bytes))) entry change among said
 
-raised-within : (valid size : ℕ) (redo : Redo) (o : Option LogRecord) → size ≡ redo.size → valid ≤ size → raised valid (change_said redo o) ≤ size
+raised-within : (valid size : ℕ) (redo : Redo) (o : Option LogRecord) → size ≡ redo.size → valid ≤ size → raised_by_change valid (change_said redo o) ≤ size
 raised-within valid size redo None same within = within
 raised-within valid size redo (Some (Checkpoint rows)) same within = within
 raised-within valid size redo (Some (Update stream at bytes)) same within = go (stream == redo.stream) (nat_le (at + length bytes) redo.size) refl
   where
-    go : (b c : Bool) → nat_le (at + length bytes) redo.size ≡ c → raised valid (if b && c then Some (record { at = at; bytes = bytes }) else None) ≤ size
+    go : (b c : Bool) → nat_le (at + length bytes) redo.size ≡ c → raised_by_change valid (if b && c then Some (record { at = at; bytes = bytes }) else None) ≤ size
     go true true is = let le = leb-true (at + length bytes) redo.size is in omega arith
     go true false is = within
     go false c is = within
 
 pub valid-within : (redo : Redo) (entries : List LogEntry) (valid : ℕ) → valid ≤ redo.size → valid_behind (readings entries) redo valid ≤ redo.size
 valid-within redo [] valid within = within
-valid-within redo (entry ∷ entries) valid within = valid-within redo entries (raised valid (change_said redo (said_by entry.bytes))) (raised-within valid redo.size redo (said_by entry.bytes) refl within)
+valid-within redo (entry ∷ entries) valid within = valid-within redo entries (raised_by_change valid (change_said redo (said_by entry.bytes))) (raised-within valid redo.size redo (said_by entry.bytes) refl within)
 
 -- ---- the updates as the definitions name them
 
-pub valid-same : (redo : Redo) (entries : List LogEntry) (valid : ℕ) → valid_after (all_of redo entries) valid ≡ valid_behind (readings entries) redo valid
+pub valid-same : (redo : Redo) (entries : List LogEntry) (valid : ℕ) → valid_after_changes (all_of redo entries) valid ≡ valid_behind (readings entries) redo valid
 valid-same redo [] valid = refl
 valid-same redo (entry ∷ entries) valid = go (change_said redo (said_by entry.bytes)) refl (λ (v : ℕ). valid-same redo entries v)
   where
-    go : (o : Option Change) → change_said redo (said_by entry.bytes) ≡ o → ((v : ℕ) → valid_after (all_of redo entries) v ≡ valid_behind (readings entries) redo v) →
-        valid_after (cons_option o (all_of redo entries)) valid ≡ valid_behind (readings entries) redo (raised valid o)
+    go : (o : Option Change) → change_said redo (said_by entry.bytes) ≡ o → ((v : ℕ) → valid_after_changes (all_of redo entries) v ≡ valid_behind (readings entries) redo v) →
+        valid_after_changes (cons_option o (all_of redo entries)) valid ≡ valid_behind (readings entries) redo (raised_by_change valid o)
     go None is rest = rest valid
-    go (Some change) is rest = rest (max valid (end_of change))
+    go (Some change) is rest = rest (max valid (end_of_change change))
 
 -- ---- from where updates are redone
 
@@ -312,7 +312,7 @@ pub record IsFromCheckpoint (streams : List Redo) (entries : List LogEntry) (fro
   pub rows : List OldestRow
   pub among : IsAmong entries entry
   pub says : (said_by entry.bytes) ≡ Some (Checkpoint rows)
-  pub is : from ≡ oldest_in streams entry.lsn rows
+  pub is : from ≡ oldest_given_in streams entry.lsn rows
 
 pub from-cases : (streams : List Redo) (entries : List LogEntry) (from : ℕ) → (from_behind streams from (readings entries) ≡ from) ⊎ IsFromCheckpoint streams entries (from_behind streams from (readings entries))
 from-cases streams [] from = inl refl
@@ -332,22 +332,22 @@ from-cases streams (entry ∷ entries) from = go (said_by entry.bytes) refl (fro
     go (Some (Checkpoint rows)) says (inl same) = inr (record { entry = entry; rows = rows; among = inl refl; says = says; is = same ∙ said (Some (Checkpoint rows)) says })
 
 -- it is no farther than the checkpoint, and than the oldest LSN of each row of a given stream
-pub oldest-least : (streams : List Redo) (lsn : ℕ) (rows : List OldestRow) → oldest_in streams lsn rows ≤ lsn
+pub oldest-least : (streams : List Redo) (lsn : ℕ) (rows : List OldestRow) → oldest_given_in streams lsn rows ≤ lsn
 oldest-least streams lsn [] = omega arith
 oldest-least streams lsn (row ∷ rows) = go (is_given streams row.stream) (λ (n : ℕ). oldest-least streams n rows)
   where
-    go : (b : Bool) → ((n : ℕ) → oldest_in streams n rows ≤ n) → oldest_in streams (if b then min lsn row.oldest else lsn) rows ≤ lsn
+    go : (b : Bool) → ((n : ℕ) → oldest_given_in streams n rows ≤ n) → oldest_given_in streams (if b then min lsn row.oldest else lsn) rows ≤ lsn
     go true rest = let le = rest (min lsn row.oldest) in omega arith
     go false rest = rest lsn
 
-pub oldest-row : (streams : List Redo) (lsn : ℕ) (rows : List OldestRow) (row : OldestRow) → IsAmong rows row → is_given streams row.stream ≡ true → oldest_in streams lsn rows ≤ row.oldest
+pub oldest-row : (streams : List Redo) (lsn : ℕ) (rows : List OldestRow) (row : OldestRow) → IsAmong rows row → is_given streams row.stream ≡ true → oldest_given_in streams lsn rows ≤ row.oldest
 oldest-row streams lsn [] row among given = absurd among
 oldest-row streams lsn (first ∷ rows) row (inl same) given =
     let its : is_given streams first.stream ≡ true = ap (λ (r : OldestRow). is_given streams r.stream) (sym same) ∙ given in
     let oldest : first.oldest ≡ row.oldest = ap (λ (r : OldestRow). r.oldest) (sym same) in
     go (is_given streams first.stream) its oldest
   where
-    go : (b : Bool) → b ≡ true → first.oldest ≡ row.oldest → oldest_in streams (if b then min lsn first.oldest else lsn) rows ≤ row.oldest
+    go : (b : Bool) → b ≡ true → first.oldest ≡ row.oldest → oldest_given_in streams (if b then min lsn first.oldest else lsn) rows ≤ row.oldest
     go true is oldest = let le = oldest-least streams (min lsn first.oldest) rows in omega arith
     go false is oldest = absurd (cc)
 oldest-row streams lsn (first ∷ rows) row (inr among) given = oldest-row streams (if is_given streams first.stream then min lsn first.oldest else lsn) rows row among given

@@ -30,11 +30,11 @@ use Rattle.cc_restart_laws.proofs.Entries.{IsBegin, began-entry, did-entry, good
 use Rattle.cc_restart_laws.proofs.Orders.{IsChange, IsChangeBy}
 use Rattle.cc_restart_laws.proofs.Records.{held-page, log-stays, owing-of, range_of, recorded-log, unstamped-of}
 use Rattle.cc_restart_laws.proofs.Stamped.{has_stamp, stamp-between, stamp-did, stamp-new, stamp-open}
-use Rattle.cc_restart_laws.specs.Updates.{HasWritten, IsStamp, IsUpdated, Updating}
+use Rattle.cc_restart_laws.specs.Updates.{UpdateHasWritten, IsStamp, IsUpdated, Updating}
 
 -- A change of a page waits for its set-dirty, or its record is flushed, or its stamp is not yet in a transfer.
 abbrev pub IsSafe : ℕ → ℕ → Updating → ℕ → List Entry → Type 0
-IsSafe s log it p past = HasWritten s log it past ⊎ ((it.lsn ≤ flushed_to past log) ⊎ (has_stamp it.lsn (touches true (history past s) p) ≡ true))
+IsSafe s log it p past = UpdateHasWritten s log it past ⊎ ((it.lsn ≤ flushed_to past log) ⊎ (has_stamp it.lsn (touches true (history past s) p) ≡ true))
 
 -- the stream's log is the one
 pub change-log : (s log : ℕ) (it : Updating) (past : List Entry) → IsUpdated s log past → IsChange s log it past → log_of (history past s) ≡ Some log
@@ -88,7 +88,7 @@ stamped-step u s log n p e past good updated its is (Some (Ended pass page how))
 stamped-step u s log n p e past good updated its is (Some (Synced pass how)) effect = inr (ap (has_stamp n) (touches-synced true pass how (history past s) p) ∙ is)
 
 -- the set-dirty of an update stamps the pages of its range
-pub stamp-set : (u : Setup) (s log : ℕ) (it : Updating) (p : ℕ) (e : Entry) (past : List Entry) → IsGoodSoFar u past → HasWritten s log it past → IsStamp s it e → has_page (range_of it) p ≡ true → (ended : Bool) →
+pub stamp-set : (u : Setup) (s log : ℕ) (it : Updating) (p : ℕ) (e : Entry) (past : List Entry) → IsGoodSoFar u past → UpdateHasWritten s log it past → IsStamp s it e → has_page (range_of it) p ≡ true → (ended : Bool) →
     has_stamp it.lsn (touches ended (history (e ∷ past) s) p) ≡ true
 stamp-set u s log it p e past good written stamp in_range ended =
     let owing = owing-of u s log it past good written in
@@ -102,7 +102,7 @@ stamp-set u s log it p e past good written stamp in_range ended =
     own : (nth : ℕ) (reply : Reply) → effect_of (entry.Call it.pass nth (Some s) (call.SetDirty it.hold (Some it.lsn)) (outcome.Done reply)) s ≡ Some (Did it.pass (call.SetDirty it.hold (Some it.lsn)) reply)
     own nth reply = rw (eq-eqb s s refl) refl
 
-safe-begun : (s log : ℕ) (it : Updating) (e : Entry) (past : List Entry) → IsChangeBy s log it past e → HasWritten s log it (e ∷ past)
+safe-begun : (s log : ℕ) (it : Updating) (e : Entry) (past : List Entry) → IsChangeBy s log it past e → UpdateHasWritten s log it (e ∷ past)
 safe-begun s log it e past by = record {
   nth = by.nth;
   reply = by.reply;
@@ -111,7 +111,7 @@ safe-begun s log it e past by = record {
   idle = record { during = []; grew = ap (λ (x : Entry). x ∷ past) by.is; others = tt };
 }
 
-written-longer : (s log : ℕ) (it : Updating) (e : Entry) (past : List Entry) → is_mine it.pass e ≡ false → HasWritten s log it past → HasWritten s log it (e ∷ past)
+written-longer : (s log : ℕ) (it : Updating) (e : Entry) (past : List Entry) → is_mine it.pass e ≡ false → UpdateHasWritten s log it past → UpdateHasWritten s log it (e ∷ past)
 written-longer s log it e past other k = record {
   nth = k.nth;
   reply = k.reply;
@@ -137,7 +137,7 @@ change-safe u s log it p (e ∷ past) good updated in_range (inr before) = step 
     same : (n : ℕ) → has_stamp n (touches true (cons_option (effect_of e s) (history past s)) p) ≡ true → has_stamp n (touches true (history (e ∷ past) s) p) ≡ true
     same n is = ap (λ (h : List Effect). has_stamp n (touches true h p)) (history-effect e past s (effect_of e s) refl) ∙ is
 
-    waiting : HasWritten s log it past → (b : Bool) → is_mine it.pass e ≡ b → IsSafe s log it p (e ∷ past)
+    waiting : UpdateHasWritten s log it past → (b : Bool) → is_mine it.pass e ≡ b → IsSafe s log it p (e ∷ past)
     waiting written false other = inl (written-longer s log it e past other written)
     waiting written true mine = inr (inr (stamp-set u s log it p e past rest written ((updated-head s log e past updated).finishes it written mine) in_range true))
 

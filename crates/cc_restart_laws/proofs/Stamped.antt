@@ -5,7 +5,7 @@ use Rattle.std.specs.declared.option.Option.{Option}
 use Rattle.std.specs.declared.option.Option.TheVariants.{Some, None}
 use Rattle.std.proofs.Common.{ap, sym, subst, ◌∙◌, arith}
 use Rattle.std.proofs.lemmas.Bool.{eqb-true, eq-eqb, or_right}
-use Rattle.cc_entry.specs.Lsns.{alone, joined}
+use Rattle.cc_entry.specs.Lsns.{lsn_alone, joined}
 use Rattle.cc_entry.specs.Pages.{has_page}
 use Rattle.cc_entry.specs.Place.{File}
 use Rattle.cc_entry.specs.declared.call.Call.{Call}
@@ -31,7 +31,7 @@ use Rattle.cc_model.specs.Sizes.{Touch, cut_if, dropped_if, ended_ok, hold_has, 
 use Rattle.cc_model.specs.Stamps.{is_log, lsns_among}
 use Rattle.cc_model.specs.Touches.{size_of, touches}
 use Rattle.cc_restart_laws.proofs.Entries.{good-tail, updated-head}
-use Rattle.cc_restart_laws.specs.Updates.{IsUpdated, MayAct, MayDo}
+use Rattle.cc_restart_laws.specs.Updates.{IsUpdated, MayActByUpdate, MayDoByUpdate}
 
 -- whether one of the touches has the LSN
 abbrev pub has_stamp : ℕ → List Touch → Bool
@@ -57,7 +57,7 @@ pub record IsBetween (n : ℕ) (o : Option (ℕ × ℕ)) : Type 0 where
   pub least : pair.0 ≤ n
   pub greatest : n ≤ pair.1
 
-between-first : (n : ℕ) (o : Option (ℕ × ℕ)) → IsBetween n (joined (alone (Some n)) o)
+between-first : (n : ℕ) (o : Option (ℕ × ℕ)) → IsBetween n (joined (lsn_alone (Some n)) o)
 between-first n None = record { pair = (n, n); is = refl; least = omega arith; greatest = omega arith }
 between-first n (Some b) = record { pair = (min n b.0, max n b.1); is = refl; least = omega arith; greatest = omega arith }
 
@@ -67,7 +67,7 @@ none-pair x is = cc
 some-pair : (x y : ℕ × ℕ) → Some x ≡ Some y → x ≡ y
 some-pair x y is = cc
 
-between-rest : (n : ℕ) (lsn : Option ℕ) (o : Option (ℕ × ℕ)) → IsBetween n o → IsBetween n (joined (alone lsn) o)
+between-rest : (n : ℕ) (lsn : Option ℕ) (o : Option (ℕ × ℕ)) → IsBetween n o → IsBetween n (joined (lsn_alone lsn) o)
 between-rest n None o k = k
 between-rest n (Some m) None k = absurd (none-pair k.pair k.is)
 between-rest n (Some m) (Some b) k =
@@ -82,11 +82,11 @@ pub stamp-between : (n : ℕ) (ts : List Touch) → has_stamp n ts ≡ true → 
 stamp-between n [] is = absurd (cc)
 stamp-between n (t ∷ ts) is = go t.lsn is (stamp-between n ts)
   where
-    first : (m : ℕ) (b : Bool) → (m == n) ≡ b → (b || has_stamp n ts) ≡ true → (has_stamp n ts ≡ true → IsBetween n (lsns_among ts)) → IsBetween n (joined (alone (Some m)) (lsns_among ts))
-    first m true same is rest = subst (λ (k : ℕ). IsBetween n (joined (alone (Some k)) (lsns_among ts))) (sym (eqb-true m n same)) (between-first n (lsns_among ts))
+    first : (m : ℕ) (b : Bool) → (m == n) ≡ b → (b || has_stamp n ts) ≡ true → (has_stamp n ts ≡ true → IsBetween n (lsns_among ts)) → IsBetween n (joined (lsn_alone (Some m)) (lsns_among ts))
+    first m true same is rest = subst (λ (k : ℕ). IsBetween n (joined (lsn_alone (Some k)) (lsns_among ts))) (sym (eqb-true m n same)) (between-first n (lsns_among ts))
     first m false same is rest = between-rest n (Some m) (lsns_among ts) (rest is)
 
-    go : (o : Option ℕ) → (is_log n o || has_stamp n ts) ≡ true → (has_stamp n ts ≡ true → IsBetween n (lsns_among ts)) → IsBetween n (joined (alone o) (lsns_among ts))
+    go : (o : Option ℕ) → (is_log n o || has_stamp n ts) ≡ true → (has_stamp n ts ≡ true → IsBetween n (lsns_among ts)) → IsBetween n (joined (lsn_alone o) (lsns_among ts))
     go None is rest = rest is
     go (Some m) is rest = first m (m == n) refl is rest
 
@@ -182,7 +182,7 @@ module _ (u : Setup) (s log : ℕ) (past : List Entry) (pass nth : ℕ) (it : Ca
   abbrev did : Entry
   did = entry.Call pass nth (Some s) it (outcome.Done reply)
 
-  may : MayDo s log past pass it
+  may : MayDoByUpdate s log past pass it
   may = (updated-head s log did past updated).by refl
 
   now : history (did ∷ past) s ≡ Did pass it reply ∷ h
@@ -202,7 +202,7 @@ module _ (u : Setup) (s log : ℕ) (past : List Entry) (pass nth : ℕ) (it : Ca
   pub stamp-did : (ended : Bool) (n p : ℕ) → has_stamp n (touches ended h p) ≡ true → has_stamp n (touches ended (Did pass it reply ∷ h) p) ≡ true
   stamp-did ended n p is = go (act_of it) refl may.acts
     where
-      go : (a : Act) → act_of it ≡ a → MayAct s log past pass it a → has_stamp n (touches ended (Did pass it reply ∷ h) p) ≡ true
+      go : (a : Act) → act_of it ≡ a → MayActByUpdate s log past pass it a → has_stamp n (touches ended (Did pass it reply ∷ h) p) ≡ true
       go (Opens file given quota temporary) a acts = ap (has_stamp n) (touches-opens ended pass it reply h p a) ∙ is
       go (Closes file truncate) a acts =
           ap (has_stamp n) (touches-closes ended pass it reply h p a) ∙ (ap (λ (o : Option ℕ). has_stamp n (cut_if o p (touches ended h p))) (no-truncation file truncate a) ∙ is)

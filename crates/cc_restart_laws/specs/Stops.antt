@@ -8,7 +8,7 @@ use Rattle.cc_model.specs.Records.{first_valid, is_settled}
 use Rattle.cc_model.specs.Touches.{size_of}
 use Rattle.cc_traits.specs.Log.{LogEntry}
 use Rattle.cc_redo.specs.Changes.{byte_after, page_after}
-use Rattle.cc_redo.specs.Heard.{Change, change_said, end_of, from_of, readings, redone_of, valid_of}
+use Rattle.cc_redo.specs.Heard.{Change, change_said, end_of_change, from_of, readings, redone_of, redone_valid}
 use Rattle.cc_redo.specs.Reading.{said_by}
 use Rattle.cc_redo.specs.declared.redo.Redo.{Redo}
 
@@ -18,16 +18,16 @@ AreAscending [] = Unit {0}
 AreAscending (entry ∷ entries) = AllByRecursion (λ later. entry.lsn < later.lsn) entries × AreAscending entries
 
 -- The log keeps the first of its entries, all that are durable among them.
-pub record IsKept (durable : ℕ) (all kept : List LogEntry) : Type 0 where
+pub record LogKeeps (durable : ℕ) (all kept : List LogEntry) : Type 0 where
   pub rest : List LogEntry
   pub splits : all ≡ kept ++ rest
   pub beyond : AllByRecursion (λ entry. durable < entry.lsn) rest
 
 -- So of a log that had entries before, which are all durable: what it keeps begins with them.
-pub record KeepsBehind (durable : ℕ) (begun appended all : List LogEntry) : Type 0 where
+pub record LogKeepsBehind (durable : ℕ) (begun appended all : List LogEntry) : Type 0 where
   pub kept : List LogEntry
   pub is : all ≡ begun ++ kept
-  pub keeps : IsKept durable appended kept
+  pub keeps : LogKeeps durable appended kept
 
 -- A stream is given to a restart with its size, and with a valid data length that it may be told to have: that of its first
 -- initialise, or one that a record of it told since.
@@ -51,17 +51,17 @@ abbrev pub updates_in : Redo → List LogEntry → List Change
 updates_in redo entries = filter_map (λ entry. change_said redo (said_by entry.bytes)) entries
 
 -- the valid data length as changes raise it
-abbrev pub valid_after : List Change → ℕ → ℕ
-valid_after changes valid = fold (λ reached change. max reached (end_of change)) valid changes
+abbrev pub valid_after_changes : List Change → ℕ → ℕ
+valid_after_changes changes valid = fold (λ reached change. max reached (end_of_change change)) valid changes
 
 -- the byte at i of that file as changes leave it that are applied whole, in their order
 abbrev pub updated_byte : (ℕ → List ℕ) → ℕ → List Change → ℕ → ℕ
 updated_byte pages valid changes i =
-    if nat_lt i (valid_after changes valid) then byte_after changes (i / 4096) (i % 4096) (file_byte pages valid i) else 0
+    if nat_lt i (valid_after_changes changes valid) then byte_after changes (i / 4096) (i % 4096) (file_byte pages valid i) else 0
 
 -- the byte at i of the file that a restart makes of these pages
 abbrev pub redone_byte : List Redo → List LogEntry → Redo → (ℕ → List ℕ) → ℕ → ℕ
-redone_byte streams kept redo disk i = file_byte (pages_redone streams kept redo disk) (valid_of (readings kept) redo) i
+redone_byte streams kept redo disk i = file_byte (pages_redone streams kept redo disk) (redone_valid (readings kept) redo) i
 
 -- a restart makes the file of a page that holds these bytes
 abbrev pub MakesFile : List Redo → List LogEntry → Redo → (ℕ → List ℕ) → ℕ → ℕ → List ℕ → Type 0
@@ -73,5 +73,5 @@ MakesFile streams kept redo pages first page bytes =
 pub record HadBegun (redo : Redo) (begun appended : List LogEntry) (pages : ℕ → List ℕ) (first : ℕ) (old_pages : ℕ → List ℕ) (old_first : ℕ)
     : Type 0 where
   pub ascending : AreAscending (begun ++ appended)
-  pub valid : valid_after (updates_in redo begun) old_first ≤ first
+  pub valid : valid_after_changes (updates_in redo begun) old_first ≤ first
   pub file : (i : ℕ) → i < redo.size → file_byte pages first i ≡ updated_byte old_pages old_first (updates_in redo begun) i

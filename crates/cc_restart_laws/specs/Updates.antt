@@ -67,7 +67,7 @@ pub record HasRecord (s log : ℕ) (it : Updating) (past : List Entry) : Type 0 
   pub idle : IsIdle it.pass (entry.Append it.pass log it.lsn spelled ∷ front) past
 
 -- Behind its record the bytes of an update were written through the pin, and its pass placed nothing since.
-pub record HasWritten (s log : ℕ) (it : Updating) (past : List Entry) : Type 0 where
+pub record UpdateHasWritten (s log : ℕ) (it : Updating) (past : List Entry) : Type 0 where
   pub nth : ℕ
   pub reply : Reply
   pub front : List Entry
@@ -99,7 +99,7 @@ pub record WasStamped (s log lsn : ℕ) (past : List Entry) : Type 0 where
   pub front : List Entry
   pub stamp : Entry
   pub splits : past ≡ later ++ stamp ∷ front
-  pub written : HasWritten s log it front
+  pub written : UpdateHasWritten s log it front
   pub is : IsStamp s it stamp
 
 -- The record of an update may be appended: a pin of its range is open for its pass alone, it begins within the valid data, and
@@ -118,20 +118,20 @@ pub record IsUpdate (s log : ℕ) (past : List Entry) (pass : ℕ) (done : Call)
   pub recorded : HasRecord s log it past
 
 -- What a done call may do to the stream: it changes bytes by an update alone, sets no size and throws no page away.
-abbrev pub MayAct : ℕ → ℕ → List Entry → ℕ → Call → Act → Type 0
-MayAct s log past pass call (Opens file sizes quota temporary) = Unit {0}
-MayAct s log past pass call (Closes file truncate) = Unit {0}
-MayAct s log past pass call (Resizes allocation size) = ⊥
-MayAct s log past pass call (Writes at bytes) = IsUpdate s log past pass call
-MayAct s log past pass call (Zeroes from to) = ⊥
-MayAct s log past pass call (Stores page bytes) = ⊥
-MayAct s log past pass call (Stamps hold lsn) = Unit {0}
-MayAct s log past pass call (Discards span) = ⊥
-MayAct s log past pass call Looks = Unit {0}
+abbrev pub MayActByUpdate : ℕ → ℕ → List Entry → ℕ → Call → Act → Type 0
+MayActByUpdate s log past pass call (Opens file sizes quota temporary) = Unit {0}
+MayActByUpdate s log past pass call (Closes file truncate) = Unit {0}
+MayActByUpdate s log past pass call (Resizes allocation size) = ⊥
+MayActByUpdate s log past pass call (Writes at bytes) = IsUpdate s log past pass call
+MayActByUpdate s log past pass call (Zeroes from to) = ⊥
+MayActByUpdate s log past pass call (Stores page bytes) = ⊥
+MayActByUpdate s log past pass call (Stamps hold lsn) = Unit {0}
+MayActByUpdate s log past pass call (Discards span) = ⊥
+MayActByUpdate s log past pass call Looks = Unit {0}
 
 -- and it gives the stream no other log
-pub record MayDo (s log : ℕ) (past : List Entry) (pass : ℕ) (call : Call) : Type 0 where
-  pub acts : MayAct s log past pass call (act_of call)
+pub record MayDoByUpdate (s log : ℕ) (past : List Entry) (pass : ℕ) (call : Call) : Type 0 where
+  pub acts : MayActByUpdate s log past pass call (act_of call)
   pub keeps_log : log_after call (Some log) ≡ Some log
 
 -- a row of a checkpoint: the page and the oldest LSN of a row of the dirty page table
@@ -139,7 +139,7 @@ abbrev pub row_told : DirtyRow → OldestRow
 row_told row = record { stream = row.page.stream; page = row.page.page; oldest = row.oldest }
 
 -- Since a moment a good sync of the stream came at which the image of each of its pages was known.
-pub record HasSynced (s : ℕ) (old past : List Entry) : Type 0 where
+pub record HasSyncedSince (s : ℕ) (old past : List Entry) : Type 0 where
   pub pass : ℕ
   pub later : List Entry
   pub since : List Entry
@@ -160,25 +160,25 @@ pub record IsCheckpoint (s log : ℕ) (rows : List OldestRow) (past : List Entry
   pub stamped : (lsn : ℕ) → HasRecorded s log lsn listed → WasStamped s log lsn listed
   pub none_since : list_any (records_update s log) later ≡ false
   pub synced : had_map (history listed s) ≡ true →
-      HasSynced s (entry.Call pass nth None (call.DirtyPages log) (outcome.Done reply) ∷ listed) past
+      HasSyncedSince s (entry.Call pass nth None (call.DirtyPages log) (outcome.Done reply) ∷ listed) past
 
 -- What may be appended to the log: an entry that says an update of the stream, or a checkpoint, is one.
-abbrev pub MayLog : ℕ → ℕ → ℕ → Option LogRecord → List Entry → Type 0
-MayLog s log pass (Some (Update stream at bytes)) past = stream ≡ s → MayAppend s log pass at bytes past
-MayLog s log pass (Some (Checkpoint rows)) past = IsCheckpoint s log rows past
-MayLog s log pass None past = Unit {0}
+abbrev pub MayLogRecord : ℕ → ℕ → ℕ → Option LogRecord → List Entry → Type 0
+MayLogRecord s log pass (Some (Update stream at bytes)) past = stream ≡ s → MayAppend s log pass at bytes past
+MayLogRecord s log pass (Some (Checkpoint rows)) past = IsCheckpoint s log rows past
+MayLogRecord s log pass None past = Unit {0}
 
 -- What an entry of the journal is to the stream, by its kind.
 abbrev pub IsUpdatedBy : ℕ → ℕ → List Entry → Entry → Type 0
-IsUpdatedBy s log past (entry.Append pass handle lsn bytes) = handle ≡ log → MayLog s log pass (said_by bytes) past
-IsUpdatedBy s log past (entry.Call pass nth (Some stream) call (outcome.Done reply)) = stream ≡ s → MayDo s log past pass call
+IsUpdatedBy s log past (entry.Append pass handle lsn bytes) = handle ≡ log → MayLogRecord s log pass (said_by bytes) past
+IsUpdatedBy s log past (entry.Call pass nth (Some stream) call (outcome.Done reply)) = stream ≡ s → MayDoByUpdate s log past pass call
 IsUpdatedBy s log past other = Unit {0}
 
 -- An entry on its front: the stream changes by updates alone, which go on to their set-dirty once their bytes are written; and
 -- object 0 is open behind it if the stream has had a map.
 pub record IsUpdatedEntry (s log : ℕ) (past : List Entry) (e : Entry) : Type 0 where
   pub by : IsUpdatedBy s log past e
-  pub finishes : (it : Updating) → HasWritten s log it past → is_mine it.pass e ≡ true → IsStamp s it e
+  pub finishes : (it : Updating) → UpdateHasWritten s log it past → is_mine it.pass e ≡ true → IsStamp s it e
   pub stays_open : had_map (history (e ∷ past) s) ≡ true → is_among 0 (objects (history (e ∷ past) s)) ≡ true
 
 -- The stream is changed by updates alone, each with its record in the log, and of checkpoints the log has none but right ones.

@@ -5,7 +5,7 @@ ghost use Rattle.std.specs.List.{AllByRecursion};
 ghost use Rattle.cc_entry.specs.declared.entry.Entry.{Entry};
 ghost use Rattle.cc_format.specs.Spelling.{IsReadAs};
 ghost use Rattle.cc_format.specs.declared.record.StreamRecord.{StreamRecord};
-ghost use Rattle.cc_log.specs.Turn.{Holds, appended};
+ghost use Rattle.cc_log.specs.Turn.{HoldsLogEntries, appended};
 ghost use Rattle.cc_model.specs.Good.{IsGoodSoFar};
 ghost use Rattle.cc_model.specs.History.{history};
 ghost use Rattle.cc_model.specs.Images.{crash_pages};
@@ -16,12 +16,12 @@ ghost use Rattle.cc_model.specs.Setup.{Setup};
 ghost use Rattle.cc_records.specs.Recorded.{told_valid};
 ghost use Rattle.cc_traits.specs.Disk.{Disk, may_of, page_of};
 ghost use Rattle.cc_traits.specs.Log.{Log, LogEntry};
-ghost use Rattle.cc_redo.specs.Disks.{IsBetween, IsMade, Was};
-ghost use Rattle.cc_redo.specs.Ends.{made_from};
-ghost use Rattle.cc_redo.specs.Heard.{is_given, readings, valid_of};
+ghost use Rattle.cc_redo.specs.Disks.{IsBetween, DiskIsMade, Was};
+ghost use Rattle.cc_redo.specs.Ends.{made_by_log};
+ghost use Rattle.cc_redo.specs.Heard.{is_given, readings, redone_valid};
 ghost use Rattle.cc_redo.specs.declared.redo.Redo.{Redo};
 ghost use Rattle.cc_restart_laws.specs.Updates.{IsUpdated};
-ghost use Rattle.cc_restart_laws.specs.Stops.{HadBegun, IsGivenAs, IsKept, KeepsBehind, MakesFile, file_byte, redone_byte, updated_byte, updates_in, valid_after};
+ghost use Rattle.cc_restart_laws.specs.Stops.{HadBegun, IsGivenAs, LogKeeps, LogKeepsBehind, MakesFile, file_byte, redone_byte, updated_byte, updates_in, valid_after_changes};
 
 /// Wherever a run stops whose journal is good and whose log had no entry at first: if a stream changes by updates alone, each
 /// with its record in the log, each page of its disk is left as a crash may leave it, and the log keeps its first entries, all
@@ -31,13 +31,13 @@ pub fn stopped_runs_are_redone()
     ensures file { (u : Setup) (past : List Entry) (s log first durable : ℕ) (pages : ℕ → List ℕ) → s < 16 →
         IsGoodSoFar u past → IsUpdated s log past → ((p : ℕ) → length (pages p) ≡ 4096) →
         (streams : List Redo) (redo : Redo) → Contains streams redo → IsGivenAs s first past redo →
-        (kept : List LogEntry) → flushed_to past log ≤ durable → IsKept durable (appended past log) kept →
+        (kept : List LogEntry) → flushed_to past log ≤ durable → LogKeeps durable (appended past log) kept →
         (disk : ℕ → List ℕ) → ((p : ℕ) → 4096 * p < redo.size → Contains (crash_pages pages (history past s) p) (disk p)) →
         (i : ℕ) → redone_byte streams kept redo disk i ≡ updated_byte pages first (updates_in redo kept) i }
     ensures page { (u : Setup) (past : List Entry) (s log first durable : ℕ) (pages : ℕ → List ℕ) → s < 16 →
         IsGoodSoFar u past → IsUpdated s log past → ((p : ℕ) → length (pages p) ≡ 4096) →
         (streams : List Redo) (redo : Redo) → Contains streams redo → IsGivenAs s first past redo →
-        (kept : List LogEntry) → flushed_to past log ≤ durable → IsKept durable (appended past log) kept →
+        (kept : List LogEntry) → flushed_to past log ≤ durable → LogKeeps durable (appended past log) kept →
         (page : ℕ) (bytes : List ℕ) → 4096 * page < redo.size → Contains (crash_pages pages (history past s) page) bytes →
         MakesFile streams kept redo pages first page bytes }
 {}
@@ -48,7 +48,7 @@ pub fn restarted_runs_are_redone()
     ensures file { (u : Setup) (past : List Entry) (s log first durable : ℕ) (pages : ℕ → List ℕ) → s < 16 →
         IsGoodSoFar u past → IsUpdated s log past → ((p : ℕ) → length (pages p) ≡ 4096) →
         (streams : List Redo) (redo : Redo) → Contains streams redo → IsGivenAs s first past redo →
-        (kept : List LogEntry) → flushed_to past log ≤ durable → IsKept durable (appended past log) kept →
+        (kept : List LogEntry) → flushed_to past log ≤ durable → LogKeeps durable (appended past log) kept →
         (begun : List LogEntry) (old_pages : ℕ → List ℕ) (old_first : ℕ) →
         HadBegun redo begun (appended past log) pages first old_pages old_first →
         (disk : ℕ → List ℕ) → ((p : ℕ) → 4096 * p < redo.size → Contains (crash_pages pages (history past s) p) (disk p)) →
@@ -56,7 +56,7 @@ pub fn restarted_runs_are_redone()
     ensures page { (u : Setup) (past : List Entry) (s log first durable : ℕ) (pages : ℕ → List ℕ) → s < 16 →
         IsGoodSoFar u past → IsUpdated s log past → ((p : ℕ) → length (pages p) ≡ 4096) →
         (streams : List Redo) (redo : Redo) → Contains streams redo → IsGivenAs s first past redo →
-        (kept : List LogEntry) → flushed_to past log ≤ durable → IsKept durable (appended past log) kept →
+        (kept : List LogEntry) → flushed_to past log ≤ durable → LogKeeps durable (appended past log) kept →
         (begun : List LogEntry) (old_pages : ℕ → List ℕ) (old_first : ℕ) →
         HadBegun redo begun (appended past log) pages first old_pages old_first →
         (page : ℕ) (bytes : List ℕ) → 4096 * page < redo.size → Contains (crash_pages pages (history past s) page) bytes →
@@ -70,28 +70,28 @@ pub fn restarted_runs_are_redone()
 pub fn restarts_make_the_file()
     ensures made { (streams : List Redo) (kept : List LogEntry) (redo : Redo) (pages : ℕ → List ℕ) (first : ℕ) (old new : Disk) →
         ((p : ℕ) → 4096 * p < redo.size → MakesFile streams kept redo pages first p (page_of old p)) →
-        IsMade (made_from streams (readings kept) redo old) new →
-        (i : ℕ) → i < redo.size → file_byte (page_of new) (valid_of (readings kept) redo) i
+        DiskIsMade (made_by_log streams (readings kept) redo old) new →
+        (i : ℕ) → i < redo.size → file_byte (page_of new) (redone_valid (readings kept) redo) i
         ≡ updated_byte pages first (updates_in redo kept) i }
     ensures valid { (kept : List LogEntry) (redo : Redo) (first : ℕ) → first ≤ redo.valid →
-        valid_after (updates_in redo kept) first ≤ valid_of (readings kept) redo }
+        valid_after_changes (updates_in redo kept) first ≤ redone_valid (readings kept) redo }
     ensures greatest { (kept : List LogEntry) (redo : Redo) →
-        valid_of (readings kept) redo ≡ valid_after (updates_in redo kept) redo.valid }
+        redone_valid (readings kept) redo ≡ valid_after_changes (updates_in redo kept) redo.valid }
     ensures again { (streams : List Redo) (kept : List LogEntry) (redo : Redo) (pages : ℕ → List ℕ) (first : ℕ) (old new : Disk) →
-        IsBetween (made_from streams (readings kept) redo old) old new → (p : ℕ) → 4096 * p < redo.size →
+        IsBetween (made_by_log streams (readings kept) redo old) old new → (p : ℕ) → 4096 * p < redo.size →
         ((bytes : List ℕ) → Was old p bytes → MakesFile streams kept redo pages first p bytes) →
         (bytes : List ℕ) → Contains (may_of new p) bytes → MakesFile streams kept redo pages first p bytes }
     ensures raised { (streams others : List Redo) (kept : List LogEntry) (redo later : Redo) (pages : ℕ → List ℕ) (first : ℕ) →
-        later.stream ≡ redo.stream → later.size ≡ redo.size → later.valid ≡ valid_of (readings kept) redo →
+        later.stream ≡ redo.stream → later.size ≡ redo.size → later.valid ≡ redone_valid (readings kept) redo →
         ((n : ℕ) → is_given others n ≡ is_given streams n) → (page : ℕ) (bytes : List ℕ) →
         MakesFile streams kept redo pages first page bytes → MakesFile others kept later pages first page bytes }
 {}
 
 /// The updates of the kept entries are the first of all that the log has, and each entry that is durable is kept.
 pub fn kept_updates_are_the_first()
-    ensures first { (redo : Redo) (durable : ℕ) (all kept : List LogEntry) → IsKept durable all kept →
+    ensures first { (redo : Redo) (durable : ℕ) (all kept : List LogEntry) → LogKeeps durable all kept →
         updates_in redo kept ≡ take (length (updates_in redo kept)) (updates_in redo all) }
-    ensures durable { (durable : ℕ) (all kept : List LogEntry) → IsKept durable all kept → (entry : LogEntry) →
+    ensures durable { (durable : ℕ) (all kept : List LogEntry) → LogKeeps durable all kept → (entry : LogEntry) →
         Contains all entry → entry.lsn ≤ durable → Contains kept entry }
 {}
 
@@ -99,9 +99,9 @@ pub fn kept_updates_are_the_first()
 /// of them are durable, and behind them the first of those that the run appended, all durable ones among them.
 pub fn logs_keep_what_is_durable()
     ensures { (past : List Entry) (log : ℕ) (begun now : Log) (all : List LogEntry) →
-        Holds (appended past log) (flushed_to past log) begun now →
-        AllByRecursion (λ entry. entry.lsn ≤ now.durable) begun.entries → IsKept now.durable now.entries all →
-        KeepsBehind now.durable begun.entries (appended past log) all }
+        HoldsLogEntries (appended past log) (flushed_to past log) begun now →
+        AllByRecursion (λ entry. entry.lsn ≤ now.durable) begun.entries → LogKeeps now.durable now.entries all →
+        LogKeepsBehind now.durable begun.entries (appended past log) all }
 {}
 
 /// Whatever a crash leaves of a stream's record page, the valid data length that it then tells may be given to a restart

@@ -16,9 +16,9 @@ use Rattle.cc_script.specs.declared.script.RestartLine.{RestartLine}
 use Rattle.cc_script.specs.declared.script.StreamLine.{StreamLine}
 use Rattle.cc_redo.specs.declared.redo.Redo.{Redo}
 use Rattle.cc_redo.specs.declared.streams.Restarted.{Restarted}
-use Rattle.cc_redo.specs.Ends.{EachDisk, IsCounted, IsFaultBy, IsRefused, OneFailed, log_faults}
+use Rattle.cc_redo.specs.Ends.{EachDisk, IsCounted, IsFaultBy, IsRestartRefusal, OneFailed, log_faults}
 use Rattle.cc_redo.proofs.Disking.{get-set_other, get-set_same}
-use Rattle.cc_restarts.specs.Restarting.{IsUnread, LogRestarted, LogsRestarted, ReadingLeft, RecordsRead, WasRestarted, no_rise, numbers_of, one_rise, with_handle}
+use Rattle.cc_restarts.specs.Restarting.{LogIsUnread, LogRestarted, LogsRestarted, ReadingLeft, RecordsRead, WasRestarted, no_rise, numbers_of, one_rise, with_handle}
 use Rattle.cc_restarts.specs.Whole.{HaveNotFallen, HaveNotRisen, has_failed}
 use Rattle.cc_restarts.specs.declared.ended.LogRestart.{LogRestart}
 use Rattle.cc_restarts.specs.declared.ended.Numbers.{Numbers}
@@ -142,7 +142,7 @@ one-failed faults P given old new failed stayed =
     omega arith
 
 refused-faultless : {D : Type 0} (told : D → Option Disk) (faults : D → ℕ) (given : List Redo) (log : Option Log) (handle log_was log_now : ℕ) (old new : List D) (e : CcError) →
-    IsRefused told faults given log old new e → log_now ≡ log_was + log_faults {A = Restarted} (Err e) → HaveNotRisen faults old new → log_now ≤ log_was → is_fault (with_handle handle e) ≡ false
+    IsRestartRefusal told faults given log old new e → log_now ≡ log_was + log_faults {A = Restarted} (Err e) → HaveNotRisen faults old new → log_now ≤ log_was → is_fault (with_handle handle e) ≡ false
 refused-faultless told faults given log handle log_was log_now old new (error.TooLong limit) refused counted stayed log_stayed = refl
 refused-faultless told faults given log handle log_was log_now old new (error.LogFault h) refused counted stayed log_stayed = absurd (omega arith)
 refused-faultless told faults given log handle log_was log_now old new (error.ReadFault page) refused counted stayed log_stayed = absurd (one-failed faults (IsFaultBy told given log (error.ReadFault page)) given old new refused stayed)
@@ -169,7 +169,7 @@ module _ {D L : Type 0} (told : D → Option Disk) (faults : D → ℕ) (log_tol
   one-log_fallen handle streams ended old new was now (inr restarted) = let counts = restarted.log_counted in omega arith
 
   answered-faultless : (handle : ℕ) (given : List Redo) (log : Option Log) (log_was log_now : ℕ) (between new : List D) (answered : Result Restarted CcError) →
-      ((e : CcError) → answered ≡ Err e → IsRefused told faults given log between new e) → log_now ≡ log_was + log_faults answered → HaveNotRisen faults between new → log_now ≤ log_was →
+      ((e : CcError) → answered ≡ Err e → IsRestartRefusal told faults given log between new e) → log_now ≡ log_was + log_faults answered → HaveNotRisen faults between new → log_now ≤ log_was →
       has_failed (numbers_of handle answered) ≡ false
   answered-faultless handle given log log_was log_now between new (Ok done) refused counted stayed log_stayed = refl
   answered-faultless handle given log log_was log_now between new (Err e) refused counted stayed log_stayed =

@@ -16,7 +16,7 @@ use Rattle.cc_script.specs.declared.script.StreamLine.{StreamLine}
 use Rattle.cc_redo.specs.declared.redo.Redo.{Redo}
 use Rattle.cc_redo.proofs.Disking.{get-set_other, get-set_same}
 use Rattle.cc_restarts.specs.Given.{GivenTo, is_restarted}
-use Rattle.cc_restarts.specs.Restarting.{IsApart, IsUnread, LogRestarted, LogsRestarted, ReadingLeft, RecordsRead, WasRestarted, no_rise}
+use Rattle.cc_restarts.specs.Restarting.{IsNotRestarted, LogIsUnread, LogRestarted, LogsRestarted, ReadingLeft, RecordsRead, WasRestarted, no_rise}
 use Rattle.cc_restarts.specs.Whole.{LogsTell}
 use Rattle.cc_restarts.specs.declared.ended.LogRestart.{LogRestart}
 use Rattle.cc_restarts.specs.declared.ended.Numbers.{Numbers}
@@ -24,14 +24,14 @@ use Rattle.cc_restarts.proofs.Counts.{held}
 use Rattle.cc_restarts.proofs.Giving.{given-named}
 
 reading-others : {D : Type 0} (told : D → Option Disk) (faults : D → ℕ) (handle : ℕ) (streams : List StreamLine) (old new : List D) (why : CcError) (s : ℕ) →
-    ReadingLeft told faults handle streams old new why → IsApart handle streams s → slice_get new s ≡ slice_get old s
+    ReadingLeft told faults handle streams old new why → IsNotRestarted handle streams s → slice_get new s ≡ slice_get old s
 reading-others told faults handle streams old new (error.ReadFault page) s left apart = left.1.read.others s apart
 reading-others told faults handle streams old new error.NoMemory s left apart = left.others s apart
 reading-others told faults handle streams old new other s left apart = absurd left
 
 module _ {D L : Type 0} (told : D → Option Disk) (faults : D → ℕ) (log_told : L → Option Log) (log_count : L → ℕ) where
   pub one-others : (handle : ℕ) (streams : List StreamLine) (ended : Result Numbers CcError) (old new : List D) (was now : L) (s : ℕ) →
-      LogRestarted told faults log_told log_count handle streams ended old new was now → IsApart handle streams s → slice_get new s ≡ slice_get old s
+      LogRestarted told faults log_told log_count handle streams ended old new was now → IsNotRestarted handle streams s → slice_get new s ≡ slice_get old s
   one-others handle streams ended old new was now s (inl unread) apart = reading-others told faults handle streams old new unread.why s unread.left apart
   one-others handle streams ended old new was now s (inr restarted) apart =
       restarted.leaves.others s
@@ -47,7 +47,7 @@ module _ {D L : Type 0} (told : D → Option Disk) (faults : D → ℕ) (log_tol
   one-tells handle streams ended old new was now (inr restarted) = restarted.log_tells
 
   pub all-others : (streams : List StreamLine) (restarts : List RestartLine) (ended : List LogRestart) (old new : List D) (logs logs_after : List L) →
-      LogsRestarted told faults log_told log_count streams restarts ended old new logs logs_after → (s : ℕ) → All (λ restart. IsApart restart.handle streams s) restarts →
+      LogsRestarted told faults log_told log_count streams restarts ended old new logs logs_after → (s : ℕ) → All (λ restart. IsNotRestarted restart.handle streams s) restarts →
       slice_get new s ≡ slice_get old s
   all-others streams [] [] old new logs logs_after restarted s apart = ap (λ (l : List D). slice_get l s) restarted.0
   all-others streams [] (one ∷ ended) old new logs logs_after restarted s apart = absurd restarted

@@ -13,7 +13,7 @@ use Rattle.cc_script.specs.declared.script.StreamLine.{StreamLine}
 use Rattle.cc_redo.specs.declared.redo.Redo.{Redo}
 use Rattle.cc_redo.specs.Scanned.{IsRecordRefusal, disk_faults}
 use Rattle.cc_redo.proofs.Disking.{get-set_other, get-set_same}
-use Rattle.cc_restarts.specs.Given.{GivenOf, GivenTo, Gives, is_restarted}
+use Rattle.cc_restarts.specs.Given.{GivenOf, GivenTo, GivesRedo, is_restarted}
 use Rattle.cc_restarts.specs.Restarting.{ReadingLeft, RecordsRead, no_rise, one_rise}
 use Rattle.cc_restarts.proofs.Counts.{held}
 use Rattle.cc_restarts.proofs.Giving.{given-more}
@@ -105,7 +105,7 @@ module _ {D : Type 0} (told : D → Option Disk) (faults : D → ℕ) (handle : 
   stops error.NoMemory may restarted counted = goes-on counted
   stops other may restarted counted = absurd may
 
-  pub gives-more : (given more : List Redo) → GivenTo told old handle 0 (take n streams) given → Gives (told (get_or now n one)) handle n stream given more → GivenTo told old handle 0 (take (n + 1) streams) more
+  pub gives-more : (given more : List Redo) → GivenTo told old handle 0 (take n streams) given → GivesRedo (told (get_or now n one)) handle n stream given more → GivenTo told old handle 0 (take (n + 1) streams) more
   gives-more given more before gives =
       let begun = held old n (let enough = at_it.enough in let below = at_it.below in omega arith) in
       let tells : told here ≡ told begun.0 = at_it.read.tells n begun.0 here begun.1 here_is in

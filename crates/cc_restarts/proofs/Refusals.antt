@@ -11,7 +11,7 @@ use Rattle.cc_script.specs.declared.script.RestartLine.{RestartLine}
 use Rattle.cc_script.specs.declared.script.StreamLine.{StreamLine}
 use Rattle.cc_redo.specs.declared.redo.Redo.{Redo}
 use Rattle.cc_redo.specs.declared.streams.Restarted.{Restarted}
-use Rattle.cc_redo.specs.Ends.{IsRefused}
+use Rattle.cc_redo.specs.Ends.{IsRestartRefusal}
 use Rattle.cc_restarts.specs.Restarting.{IsOwnRefusal, LogRestarted, LogsRestarted, ReadingLeft, numbers_of, with_handle}
 use Rattle.cc_restarts.specs.declared.ended.LogRestart.{LogRestart}
 use Rattle.cc_restarts.specs.declared.ended.Numbers.{Numbers}
@@ -21,7 +21,7 @@ reading-own told faults handle streams old new (error.ReadFault page) left = tt
 reading-own told faults handle streams old new error.NoMemory left = tt
 reading-own told faults handle streams old new other left = absurd left
 
-refused-own : {D : Type 0} (told : D → Option Disk) (faults : D → ℕ) (given : List Redo) (log : Option Log) (handle : ℕ) (old new : List D) (e : CcError) → IsRefused told faults given log old new e → IsOwnRefusal (Err (with_handle handle e))
+refused-own : {D : Type 0} (told : D → Option Disk) (faults : D → ℕ) (given : List Redo) (log : Option Log) (handle : ℕ) (old new : List D) (e : CcError) → IsRestartRefusal told faults given log old new e → IsOwnRefusal (Err (with_handle handle e))
 refused-own told faults given log handle old new (error.TooLong limit) refused = tt
 refused-own told faults given log handle old new (error.LogFault h) refused = tt
 refused-own told faults given log handle old new (error.ReadFault page) refused = tt
@@ -30,7 +30,7 @@ refused-own told faults given log handle old new error.NoMemory refused = tt
 refused-own told faults given log handle old new other refused = absurd refused
 
 answered-own : {D : Type 0} (told : D → Option Disk) (faults : D → ℕ) (given : List Redo) (log : Option Log) (handle : ℕ) (old new : List D) (answered : Result Restarted CcError) →
-    ((e : CcError) → answered ≡ Err e → IsRefused told faults given log old new e) → IsOwnRefusal (numbers_of handle answered)
+    ((e : CcError) → answered ≡ Err e → IsRestartRefusal told faults given log old new e) → IsOwnRefusal (numbers_of handle answered)
 answered-own told faults given log handle old new (Ok done) refused = tt
 answered-own told faults given log handle old new (Err e) refused = refused-own told faults given log handle old new e (refused e refl)
 

@@ -9,11 +9,7 @@ use Rattle.cc_format.specs.declared.record.StreamRecord.{StreamRecord}
 use Rattle.cc_script.specs.declared.script.StreamLine.{StreamLine}
 use Rattle.cc_redo.specs.declared.redo.Redo.{Redo}
 use Rattle.cc_redo.specs.Disks.{record_number}
-
--- whether it is this log, where one is named
-abbrev pub is_log : ℕ → Option ℕ → Bool
-is_log handle None = false
-is_log handle (Some other) = other == handle
+use Rattle.cc_model.specs.Stamps.{is_log}
 
 -- whether a stream is restarted from a log: it is stored, and has that log
 abbrev pub is_restarted : ℕ → StreamLine → Bool
@@ -29,7 +25,7 @@ valid_said stream None = stream.valid
 valid_said stream (Some told) = recorded_valid told
 
 -- these numbers are sizes
-pub record AreSizes (stream : StreamLine) (read : Option StreamRecord) : Type 0 where
+pub record AreRestartSizes (stream : StreamLine) (read : Option StreamRecord) : Type 0 where
   pub within : valid_said stream read ≤ size_said stream read
   pub in_range : size_said stream read < 2 ^ 63
 
@@ -39,11 +35,11 @@ pub record IsRedoOf (s : ℕ) (stream : StreamLine) (read : Option StreamRecord)
   pub disk_is : redo.disk ≡ s
   pub size_is : redo.size ≡ size_said stream read
   pub valid_is : redo.valid ≡ valid_said stream read
-  pub sizes : AreSizes stream read
+  pub sizes : AreRestartSizes stream read
 
 -- with the numbers of its record, where they are sizes, and else not at all
 abbrev pub GivenWith : ℕ → StreamLine → Option StreamRecord → List Redo → Type 0
-GivenWith s stream read [] = AreSizes stream read → ⊥
+GivenWith s stream read [] = AreRestartSizes stream read → ⊥
 GivenWith s stream read (redo ∷ []) = IsRedoOf s stream read redo
 GivenWith s stream read more = ⊥
 
@@ -55,7 +51,7 @@ GivenOf told s stream true given =
     (read : Option StreamRecord) × IfTold told (λ disk. IsReadAs (page_of disk record_number) read) × GivenWith s stream read given
 
 -- it is put behind those that are given
-pub record Gives (told : Option Disk) (handle s : ℕ) (stream : StreamLine) (old new : List Redo) : Type 0 where
+pub record GivesRedo (told : Option Disk) (handle s : ℕ) (stream : StreamLine) (old new : List Redo) : Type 0 where
   pub one : List Redo
   pub is : new ≡ old ++ one
   pub given : GivenOf told s stream (is_restarted handle stream) one

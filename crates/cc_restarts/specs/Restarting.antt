@@ -12,14 +12,14 @@ use Rattle.cc_script.specs.declared.script.RestartLine.{RestartLine}
 use Rattle.cc_redo.specs.declared.redo.Redo.{Redo}
 use Rattle.cc_redo.specs.declared.streams.Restarted.{Restarted}
 use Rattle.cc_redo.specs.Disks.{record_number}
-use Rattle.cc_redo.specs.Ends.{EachDisk, IsAnswer, IsCounted, IsRefused, Leaves, log_faults}
+use Rattle.cc_redo.specs.Ends.{EachDisk, IsRestartAnswer, IsCounted, IsRestartRefusal, LeavesDisk, log_faults}
 use Rattle.cc_restarts.specs.Given.{GivenTo, is_restarted}
 use Rattle.cc_restarts.specs.declared.ended.LogRestart.{LogRestart}
 use Rattle.cc_restarts.specs.declared.ended.Numbers.{Numbers}
 
 -- no stream of this number is restarted from a log
-abbrev pub IsApart : ℕ → List StreamLine → ℕ → Type 0
-IsApart handle streams s = (stream : StreamLine) → slice_get streams s ≡ Some stream → is_restarted handle stream ≡ false
+abbrev pub IsNotRestarted : ℕ → List StreamLine → ℕ → Type 0
+IsNotRestarted handle streams s = (stream : StreamLine) → slice_get streams s ≡ Some stream → is_restarted handle stream ≡ false
 
 -- The records of the streams that are restarted were read: each disk tells what it told, their counts of faults rose by so many,
 -- and each disk of another stream is as it was.
@@ -28,7 +28,7 @@ pub record RecordsRead {D : Type 0} (told : D → Option Disk) (faults : D → �
   pub count : length new ≡ length old
   pub tells : (s : ℕ) (was now : D) → slice_get old s ≡ Some was → slice_get new s ≡ Some now → told now ≡ told was
   pub counted : (s : ℕ) (was now : D) → slice_get old s ≡ Some was → slice_get new s ≡ Some now → faults now ≡ faults was + rise s
-  pub others : (s : ℕ) → IsApart handle streams s → slice_get new s ≡ slice_get old s
+  pub others : (s : ℕ) → IsNotRestarted handle streams s → slice_get new s ≡ slice_get old s
 
 -- no count rose, or that of the disk of one stream, by one
 abbrev pub no_rise : ℕ → ℕ
@@ -56,7 +56,7 @@ ReadingLeft told faults handle streams old new error.NoMemory = RecordsRead told
 ReadingLeft told faults handle streams old new other = ⊥
 
 -- they were not, so nothing was restarted, and the log is as it was
-pub record IsUnread {D L : Type 0} (told : D → Option Disk) (faults : D → ℕ) (handle : ℕ) (streams : List StreamLine)
+pub record LogIsUnread {D L : Type 0} (told : D → Option Disk) (faults : D → ℕ) (handle : ℕ) (streams : List StreamLine)
     (ended : Result Numbers CcError) (old new : List D) (was now : L) : Type 0 where
   pub why : CcError
   pub ended_is : ended ≡ Err why
@@ -96,9 +96,9 @@ pub record WasRestarted {D L : Type 0} (told : D → Option Disk) (faults : D �
   pub ended_is : ended ≡ numbers_of handle answered
   pub given_are : GivenTo told old handle 0 streams given
   pub read : RecordsRead told faults handle streams no_rise old between
-  pub leaves : EachDisk given (λ redo before after. Leaves given (log_told was) answered redo (told before) (told after)) between new
-  pub answer : (done : Restarted) → answered ≡ Ok done → IfTold (log_told was) (λ is. IsAnswer given is done)
-  pub refused : (e : CcError) → answered ≡ Err e → IsRefused told faults given (log_told was) between new e
+  pub leaves : EachDisk given (λ redo before after. LeavesDisk given (log_told was) answered redo (told before) (told after)) between new
+  pub answer : (done : Restarted) → answered ≡ Ok done → IfTold (log_told was) (λ is. IsRestartAnswer given is done)
+  pub refused : (e : CcError) → answered ≡ Err e → IsRestartRefusal told faults given (log_told was) between new e
   pub counted : EachDisk given (λ redo before after. IsCounted answered (faults before) (faults after)) between new
   pub log_tells : log_told now ≡ log_told was
   pub log_counted : log_count now ≡ log_count was + log_faults answered
@@ -107,7 +107,7 @@ pub record WasRestarted {D L : Type 0} (told : D → Option Disk) (faults : D �
 abbrev pub LogRestarted : {D L : Type 0} → (D → Option Disk) → (D → ℕ) → (L → Option Log) → (L → ℕ) → ℕ → List StreamLine
     → Result Numbers CcError → List D → List D → L → L → Type 0
 LogRestarted told faults log_told log_count handle streams ended old new was now =
-    IsUnread told faults handle streams ended old new was now
+    LogIsUnread told faults handle streams ended old new was now
     ⊎ WasRestarted told faults log_told log_count handle streams ended old new was now
 
 -- The restarts of a script's lines, one after the other.

@@ -1,8 +1,8 @@
 //! The streams that are given to the restart of a log, with the numbers of their records.
 
 ghost use Rattle.std.specs.Prelude.{◌≡◌, ◌+◌, ◌≤◌, false, true, IfOk, IfErr, IfSome, IsNone, OnOk, OnErr, length};
-ghost use Rattle.cc_redo.specs.Scanned.{IsRecordRefusal, faults_by};
-ghost use Rattle.cc_restarts.specs.Given.{AreSizes, Gives, GivenTo, IsRedoOf, is_restarted};
+ghost use Rattle.cc_redo.specs.Scanned.{IsRecordRefusal, disk_faults_by};
+ghost use Rattle.cc_restarts.specs.Given.{AreRestartSizes, GivesRedo, GivenTo, IsRedoOf, is_restarted};
 ghost use Rattle.cc_restarts.specs.Restarting.{RecordsRead, ReadingLeft, no_rise};
 
 use cc_entry::CcError;
@@ -44,12 +44,12 @@ fn give_stream<D: PageDisk>(
     disk: &mut D,
     given: &mut Vec<Redo>,
 ) -> Result<(), CcError>
-    ensures gives { OnOk result (Gives (D.told disk.old) handle number stream.now given.old.items given.new.items) }
+    ensures gives { OnOk result (GivesRedo (D.told disk.old) handle number stream.now given.old.items given.new.items) }
     ensures stays { D.told disk.new ≡ D.told disk.old }
     ensures untouched { is_restarted handle stream.now ≡ false → disk.new ≡ disk.old }
     ensures refused { IfErr result IsRecordRefusal }
     ensures restarted { OnErr result (is_restarted handle stream.now ≡ true) }
-    ensures counted { D.faults disk.new ≡ D.faults disk.old + faults_by result }
+    ensures counted { D.faults disk.new ≡ D.faults disk.old + disk_faults_by result }
 {
     if !is_restarted(stream, handle) {
         return Ok(());
@@ -74,7 +74,7 @@ fn is_restarted(stream: &StreamLine, handle: u8) -> bool
 // A stream with the numbers of its record, or else of its line, where they are sizes.
 fn redo_of(number: u8, stream: &StreamLine, read: Option<StreamRecord>) -> Option<Redo>
     ensures some { IfSome result (IsRedoOf number stream.now read) }
-    ensures none { IsNone result → AreSizes stream.now read → ⊥ }
+    ensures none { IsNone result → AreRestartSizes stream.now read → ⊥ }
 {
     let (size, valid) = match read {
         Some(told) => (told.size(), told.valid()),

@@ -4,7 +4,7 @@ ghost use Rattle.std.specs.Prelude.{◌≡◌, ◌≢◌, ℕ, List, false, map,
 ghost use Rattle.std.specs.List.{All, AllByRecursion, list_any};
 ghost use Rattle.cc_script.specs.declared.script.RestartLine.{RestartLine};
 ghost use Rattle.cc_script.specs.declared.script.StreamLine.{StreamLine};
-ghost use Rattle.cc_restarts.specs.Restarting.{IsApart, IsOwnRefusal, LogsRestarted};
+ghost use Rattle.cc_restarts.specs.Restarting.{IsNotRestarted, IsOwnRefusal, LogsRestarted};
 ghost use Rattle.cc_restarts.specs.Whole.{HaveNotFallen, HaveNotRisen, LogsTell, has_failed};
 ghost use Rattle.cc_restarts.specs.declared.ended.LogRestart.{LogRestart};
 
@@ -53,7 +53,7 @@ pub fn restarts_keep_what_they_are_not_given<D: PageDisk, L: LogFile>()
     ensures disks { (streams : List StreamLine) → (restarts : List RestartLine) → (ended : List LogRestart) →
         (old new : List D) → (logs logs_after : List L) →
         LogsRestarted D.told D.faults L.told L.faults streams restarts ended old new logs logs_after → (s : ℕ) →
-        All (λ restart. IsApart restart.handle streams s) restarts → slice_get new s ≡ slice_get old s }
+        All (λ restart. IsNotRestarted restart.handle streams s) restarts → slice_get new s ≡ slice_get old s }
     ensures others { (streams : List StreamLine) → (restarts : List RestartLine) → (ended : List LogRestart) →
         (old new : List D) → (logs logs_after : List L) →
         LogsRestarted D.told D.faults L.told L.faults streams restarts ended old new logs logs_after → (k : ℕ) →

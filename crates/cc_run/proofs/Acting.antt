@@ -19,25 +19,25 @@ use Rattle.cc_effects.specs.Moments.{IsIdle}
 use Rattle.cc_effects.proofs.Stretches.{some-end}
 use Rattle.cc_pieces.specs.Answered.{CallAnswered}
 use Rattle.cc_pieces.specs.Bindings.{Binding}
-use Rattle.cc_pieces.specs.Rooms.{HadNoRoom, ToldNoRoom, WasFull}
+use Rattle.cc_pieces.specs.Rooms.{HadNoRoom, ToldNoRoom, JournalWasFull}
 use Rattle.cc_pieces.specs.Served.{Served}
 use Rattle.cc_turns.specs.Standing.{Standing}
 use Rattle.cc_turns.specs.Takes.{HasActed}
-use Rattle.cc_run.specs.Desks.{IsReady, IsSameRun, IsSamePass}
+use Rattle.cc_run.specs.Desks.{PassIsReady, IsSameRun, IsSamePass}
 use Rattle.cc_lines.specs.Holds.{NamesStand, NamesState}
 use Rattle.cc_lines.specs.Line.{CanServe, IsFullError, IsFullIn, IsFullTold, IsServable, LineEnds, WasFullError, WasFullIn, WasFullTold, WentOn}
 use Rattle.cc_run.specs.Lines.{LineEnd, LineLeft, MayServeLine}
 use Rattle.cc_run.proofs.Others.{idle-acted}
 
 -- a journal that is full, with nothing of the pass under way and not much of others, was so at the end of the line
-pub full-at : (w : Standing) (limit entries asked : ℕ) → 0 < asked → (during old : List Entry) → w.seen ≡ during ++ old → w.in_flight ≡ 0 → w.others + asked ≤ limit → IsFullError asked w (error.JournalFull entries) → WasFull w.setup limit entries old w.seen
+pub full-at : (w : Standing) (limit entries asked : ℕ) → 0 < asked → (during old : List Entry) → w.seen ≡ during ++ old → w.in_flight ≡ 0 → w.others + asked ≤ limit → IsFullError asked w (error.JournalFull entries) → JournalWasFull w.setup limit entries old w.seen
 unfolding room_in
 full-at w limit entries asked above during old grew rest few full =
     rw grew (some-end (λ moment. (entries ≡ length moment) × (room_in w.setup moment 0 < limit)) during old
     (rw (← grew) (full.0, omega (arith, full.1, rest, few, above))))
 
 -- so at a moment of a line
-full-then : (w v : Standing) (limit entries asked : ℕ) → 0 < asked → w.in_flight ≡ 0 → w.most_others + asked ≤ limit → WasFullError asked w v (error.JournalFull entries) → WasFull w.setup limit entries w.seen v.seen
+full-then : (w v : Standing) (limit entries asked : ℕ) → 0 < asked → w.in_flight ≡ 0 → w.most_others + asked ≤ limit → WasFullError asked w v (error.JournalFull entries) → JournalWasFull w.setup limit entries w.seen v.seen
 unfolding room_in
 full-then w v limit entries asked above rest few was = record {
   moment = was.moment;
@@ -105,7 +105,7 @@ pass-then old between new first second = record {
 }
 
 -- a line is served by its caller, as what is kept of the caller's words allows
-pub can-serve-line : (w0 w1 : Standing) (line : ActionLine) (names : NamesState) → w1 ≡ record w0 { number = line.caller; since = w0.seen } → IsReady w0 → IsServable w0.streams line.action → IsGood w1.setup w1.seen → MayServeLine w0.streams w0.seen line names → CanServe w1 line.action names
+pub can-serve-line : (w0 w1 : Standing) (line : ActionLine) (names : NamesState) → w1 ≡ record w0 { number = line.caller; since = w0.seen } → PassIsReady w0 → IsServable w0.streams line.action → IsGood w1.setup w1.seen → MayServeLine w0.streams w0.seen line names → CanServe w1 line.action names
 can-serve-line w0 w1 line names acts ready servable good may =
     let streams : w1.streams ≡ w0.streams = ap (λ w. w.streams) acts in
     let number : w1.number ≡ line.caller = ap (λ w. w.number) acts in
@@ -122,7 +122,7 @@ can-serve-line w0 w1 line names acts ready servable good may =
       room = may.room;
     }
 
-module _ (w0 w1 w2 : Standing) (caller : ℕ) (acts : w1 ≡ record w0 { number = caller; since = w0.seen }) (went : WentOn w1 w2) (own : HasActed w2.number w2.since w2.seen) (ready : IsReady w0) where
+module _ (w0 w1 w2 : Standing) (caller : ℕ) (acts : w1 ≡ record w0 { number = caller; since = w0.seen }) (went : WentOn w1 w2) (own : HasActed w2.number w2.since w2.seen) (ready : PassIsReady w0) where
   number-is : w2.number ≡ caller
   number-is = ap (λ w. w.number) went.same ∙ ap (λ w. w.number) acts
 
@@ -145,7 +145,7 @@ module _ (w0 w1 w2 : Standing) (caller : ℕ) (acts : w1 ≡ record w0 { number 
   at_rest : w2.in_flight ≡ 0
   at_rest = ap (λ w. w.in_flight) went.same ∙ (ap (λ w. w.in_flight) acts ∙ ready.at_rest)
 
-  pub ready-after : IsReady w2
+  pub ready-after : PassIsReady w2
   ready-after = record {
     free = ap (λ w. w.held) went.same ∙ (ap (λ w. w.held) acts ∙ ready.free);
     at_rest = at_rest;

@@ -14,28 +14,28 @@ use Rattle.cc_traits.specs.Log.{Log}
 use Rattle.cc_turns.specs.Desk.{DeskState, standing_of}
 use Rattle.cc_turns.specs.Standing.{Standing}
 use Rattle.cc_restarts.specs.declared.ended.LogRestart.{LogRestart}
-use Rattle.cc_run.specs.Begun.{HasBegun}
+use Rattle.cc_run.specs.Begun.{RunHasBegun}
 use Rattle.cc_run.specs.Desks.{IsSameRun}
 use Rattle.cc_run.specs.Lines.{StreamsOpened}
 use Rattle.cc_program.specs.Restarting.{AreEndsOf, RestartsEnded}
 use Rattle.cc_run.proofs.Ending.{ended-lines, ended-long}
 use Rattle.cc_run.proofs.RowSteps.{reverse_twice}
 
-pub begun-long : (u : Setup) (script : Script) (restarted : List LogRestart) (ended between : List LineReply) (ends begun : List Entry) → HasBegun u script restarted ended between ends begun → length ended ≡ length script.restarts
+pub begun-long : (u : Setup) (script : Script) (restarted : List LogRestart) (ended between : List LineReply) (ends begun : List Entry) → RunHasBegun u script restarted ended between ends begun → length ended ≡ length script.restarts
 begun-long u script restarted ended between ends begun begins = ended-long u script.restarts restarted ended [] ends begins.are begins.ended_are
 
 -- each restart that ended has a reply
-pub told-long : (u : Setup) (script : Script) (restarted : List LogRestart) (ended between : List LineReply) (ends begun : List Entry) → HasBegun u script restarted ended between ends begun → length ended ≡ length restarted
+pub told-long : (u : Setup) (script : Script) (restarted : List LogRestart) (ended between : List LineReply) (ends begun : List Entry) → RunHasBegun u script restarted ended between ends begun → length ended ≡ length restarted
 told-long u script restarted ended between ends begun begins =
     sym (length-map ended (λ r. r.line)) ∙ (ap length (ended-lines u restarted ended [] ends begins.ended_are) ∙ length-map restarted (λ r. r.line))
 
 -- behind the replies of the restarts are those of the run
-pub kept-behind : (u : Setup) (script : Script) (restarted : List LogRestart) (ended between kept all : List LineReply) (ends begun : List Entry) → HasBegun u script restarted ended between ends begun → all ≡ ended ++ kept → drop (length script.restarts) all ≡ kept
+pub kept-behind : (u : Setup) (script : Script) (restarted : List LogRestart) (ended between kept all : List LineReply) (ends begun : List Entry) → RunHasBegun u script restarted ended between ends begun → all ≡ ended ++ kept → drop (length script.restarts) all ≡ kept
 kept-behind u script restarted ended between kept all ends begun begins is =
     ap (drop (length script.restarts)) is ∙ drop_at ended kept (length script.restarts) (begun-long u script restarted ended between ends begun begins)
 
 -- each stream has a reply
-pub streams-long : (u : Setup) (script : Script) (restarted : List LogRestart) (ended between : List LineReply) (ends begun : List Entry) → HasBegun u script restarted ended between ends begun → length between ≡ length script.streams
+pub streams-long : (u : Setup) (script : Script) (restarted : List LogRestart) (ended between : List LineReply) (ends begun : List Entry) → RunHasBegun u script restarted ended between ends begun → length between ≡ length script.streams
 streams-long u script restarted ended between ends begun begins =
     ap length begins.opened.grew ∙ (sym (length-map begins.opened.answers (λ r. r.line)) ∙ (ap length begins.opened.lines_are ∙ length-map script.streams (λ s. s.line)))
 
@@ -55,7 +55,7 @@ module _ {D L Q : Type 0} (told : D → Option Disk) (faults : D → ℕ) (log_t
   pub begun-so : (script : Script) (restarted : List LogRestart) (ended before between : List LineReply) → d0.last.entries ≡ [] → before ≡ [] → AreEndsOf script.restarts restarted →
       RestartsEnded (at d0).setup restarted ended d0.last.entries d1.last.entries → ((me : ℕ) → me ≢ 0 → IsIdle me d0.last.entries d1.last.entries) →
       StreamsOpened (at d2).setup script.restarts ended 0 script.streams before between d2.last.entries d3.last.entries → ((me : ℕ) → me ≢ 0 → IsIdle me d2.last.entries d3.last.entries) →
-      HasBegun (at d0).setup script restarted ended between d1.last.entries d3.last.entries
+      RunHasBegun (at d0).setup script restarted ended between d1.last.entries d3.last.entries
   begun-so script restarted ended before between empty none are ended_are ended_alone opened opened_alone = record {
     are = are;
     ended_are = subst (λ (l : List Entry). RestartsEnded (at d0).setup restarted ended l d1.last.entries) empty ended_are;

@@ -12,7 +12,7 @@ use Rattle.cc_script.specs.declared.script.StreamLine.{StreamLine}
 use Rattle.cc_traits.specs.Disk.{Disk}
 use Rattle.cc_traits.specs.Log.{Log}
 use Rattle.cc_restarts.specs.Given.{is_restarted}
-use Rattle.cc_restarts.specs.Restarting.{IsApart, LogsRestarted}
+use Rattle.cc_restarts.specs.Restarting.{IsNotRestarted, LogsRestarted}
 use Rattle.cc_restarts.specs.Whole.{HaveNotFallen, HaveNotRisen, has_failed}
 use Rattle.cc_restarts.specs.declared.ended.LogRestart.{LogRestart}
 use Rattle.cc_restarts.proofs.Counts.{all-fallen, all-faultless, all-logs_fallen, held}
@@ -59,10 +59,10 @@ module _ {D : Type 0} (faults : D → ℕ) (n : ℕ) (old begun new : List D) (f
   ]
 
 -- no stream is past the sixteenth, and no log that is restarted past the fourth
-few-apart : (handle : ℕ) (streams : List StreamLine) (s : ℕ) → length streams ≤ 16 → 16 ≤ s → IsApart handle streams s
+few-apart : (handle : ℕ) (streams : List StreamLine) (s : ℕ) → length streams ≤ 16 → 16 ≤ s → IsNotRestarted handle streams s
 few-apart handle streams s few high = λ stream is. absurd (let inside = slice_get_within streams s stream is in omega arith)
 
-all-apart : (restarts : List RestartLine) (streams : List StreamLine) (s : ℕ) → length streams ≤ 16 → 16 ≤ s → All (λ restart. IsApart restart.handle streams s) restarts
+all-apart : (restarts : List RestartLine) (streams : List StreamLine) (s : ℕ) → length streams ≤ 16 → 16 ≤ s → All (λ restart. IsNotRestarted restart.handle streams s) restarts
 all-apart restarts streams s few high = λ i d inside. few-apart _ streams s few high
 
 logs-apart : (restarts : List RestartLine) (k : ℕ) → AreRestartsWithin restarts → 4 ≤ k → (i : ℕ) (d : RestartLine) → i < length restarts → (get_or restarts i d).handle ≢ k

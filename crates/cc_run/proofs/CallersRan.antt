@@ -14,19 +14,19 @@ use Rattle.cc_pieces.proofs.LineSteps.{ran-more}
 use Rattle.cc_turns.specs.Desk.{Tells}
 use Rattle.cc_turns.specs.Slots.{setup_in}
 use Rattle.cc_turns.specs.Standing.{Standing, nothing}
-use Rattle.cc_board.specs.Board.{BoardState, SeatedState, pass_of}
-use Rattle.cc_board.specs.View.{held_of, standing_at}
+use Rattle.cc_board.specs.Board.{BoardState, SeatedState, seated_pass}
+use Rattle.cc_board.specs.View.{turns_held, standing_at}
 use Rattle.cc_board.proofs.Names.{same_board}
 use Rattle.cc_script.specs.declared.bound.Bound.{Bound}
 use Rattle.cc_script.specs.HoldWords.{AreUsedRight, UsesRight, bound_so_far, words_bound}
 use Rattle.cc_model.specs.Good.{IsGood}
-use Rattle.cc_run.specs.Callers.{MayRun, CallerRan, AllRan, WordsStand, asked_own, count_of}
+use Rattle.cc_run.specs.Callers.{MayRun, CallerRan, AllRan, WordsStand, asked_own, count_of_caller}
 use Rattle.cc_lines.specs.Holds.{NamesStand, NamesState}
 use Rattle.cc_lines.specs.Line.{CanServe, IsServable, LineEnds, WentOn}
 use Rattle.cc_lines.specs.Queues.{PlacesWent, queues_of}
 use Rattle.cc_lines.specs.declared.queues.Queues.{Queues}
 use Rattle.cc_run.specs.declared.callers.Caller.{Caller}
-use Rattle.cc_run.specs.declared.callers.Finished.{Finished}
+use Rattle.cc_run.specs.declared.callers.FinishedCaller.{FinishedCaller}
 use Rattle.cc_run.proofs.Acting.{room-then}
 use Rattle.cc_run.proofs.Lists.{all-back, all-front, parted}
 use Rattle.cc_run.proofs.PlacesWent.{both-idle, both-then}
@@ -34,11 +34,11 @@ use Rattle.cc_run.proofs.Merging.{own-more, own-none, own-other, count-more, cou
 use Rattle.cc_run.proofs.WordSteps.{bindings-append, bound-long, bound-other, bound-own, right-back, right-first, right-front, words-append, words-first}
 
 -- how many lines of two parts are a caller's
-pub count-append : (me : ℕ) (xs ys : List ActionLine) → count_of me (xs ++ ys) ≡ count_of me xs + count_of me ys
+pub count-append : (me : ℕ) (xs ys : List ActionLine) → count_of_caller me (xs ++ ys) ≡ count_of_caller me xs + count_of_caller me ys
 count-append me [] ys = omega arith
 count-append me (x ∷ xs) ys = by (count-append me xs ys) (x.caller == me) refl
   where
-    by : count_of me (xs ++ ys) ≡ count_of me xs + count_of me ys → (b : Bool) → (x.caller == me) ≡ b → count_of me (x ∷ (xs ++ ys)) ≡ count_of me (x ∷ xs) + count_of me ys
+    by : count_of_caller me (xs ++ ys) ≡ count_of_caller me xs + count_of_caller me ys → (b : Bool) → (x.caller == me) ≡ b → count_of_caller me (x ∷ (xs ++ ys)) ≡ count_of_caller me (x ∷ xs) + count_of_caller me ys
     by rest true at =
         let is = eqb-true x.caller me at in
         omega (arith, rest, count-more me x (xs ++ ys) is, count-more me x xs is)
@@ -47,18 +47,18 @@ count-append me (x ∷ xs) ys = by (count-append me xs ys) (x.caller == me) refl
         omega (arith, rest, count-other me x (xs ++ ys) apart, count-other me x xs apart)
 
 -- a line of a caller is one more than those of it before
-pub count-before : (me : ℕ) (lines : List ActionLine) (i : ℕ) (line : ActionLine) → i < length lines → line ≡ get_or lines i line → line.caller ≡ me → count_of me (take i lines) < count_of me lines
+pub count-before : (me : ℕ) (lines : List ActionLine) (i : ℕ) (line : ActionLine) → i < length lines → line ≡ get_or lines i line → line.caller ≡ me → count_of_caller me (take i lines) < count_of_caller me lines
 count-before me lines i line low is own =
     let at : (get_or lines i line).caller ≡ me = ap (λ l. l.caller) (sym is) ∙ own in
-    omega (arith, ap (count_of me) (parted lines i line low), count-append me (take i lines) (get_or lines i line ∷ drop (suc i) lines), count-more me (get_or lines i line) (drop (suc i) lines) at)
+    omega (arith, ap (count_of_caller me) (parted lines i line low), count-append me (take i lines) (get_or lines i line ∷ drop (suc i) lines), count-more me (get_or lines i line) (drop (suc i) lines) at)
 
 -- one line more of the caller behind the others, and one of another
-own-last : (me : ℕ) (lines : List ActionLine) (line : ActionLine) (answers : List Answer) (told : Answer) → line.caller ≡ me → length answers ≡ count_of me lines → asked_own me (lines ++ line ∷ []) (answers ++ told ∷ []) ≡ asked_own me lines answers ++ (line.action, told) ∷ []
+own-last : (me : ℕ) (lines : List ActionLine) (line : ActionLine) (answers : List Answer) (told : Answer) → line.caller ≡ me → length answers ≡ count_of_caller me lines → asked_own me (lines ++ line ∷ []) (answers ++ told ∷ []) ≡ asked_own me lines answers ++ (line.action, told) ∷ []
 own-last me [] line [] told is long = own-more me line [] told [] is
 own-last me [] line (a ∷ answers) told is long = absurd (omega (arith, long))
 own-last me (l ∷ lines) line answers told is long = by (λ rest same. own-last me lines line rest told is same) (l.caller == me) refl answers long
   where
-    by : ((rest : List Answer) → length rest ≡ count_of me lines → asked_own me (lines ++ line ∷ []) (rest ++ told ∷ []) ≡ asked_own me lines rest ++ (line.action, told) ∷ []) → (b : Bool) → (l.caller == me) ≡ b → (rest : List Answer) → length rest ≡ count_of me (l ∷ lines) → asked_own me (l ∷ (lines ++ line ∷ [])) (rest ++ told ∷ []) ≡ asked_own me (l ∷ lines) rest ++ (line.action, told) ∷ []
+    by : ((rest : List Answer) → length rest ≡ count_of_caller me lines → asked_own me (lines ++ line ∷ []) (rest ++ told ∷ []) ≡ asked_own me lines rest ++ (line.action, told) ∷ []) → (b : Bool) → (l.caller == me) ≡ b → (rest : List Answer) → length rest ≡ count_of_caller me (l ∷ lines) → asked_own me (l ∷ (lines ++ line ∷ [])) (rest ++ told ∷ []) ≡ asked_own me (l ∷ lines) rest ++ (line.action, told) ∷ []
     by later true at [] same = absurd (omega (arith, same, count-more me l lines (eqb-true l.caller me at)))
     by later true at (a ∷ rest) same =
         let own = eqb-true l.caller me at in
@@ -102,8 +102,8 @@ seat_of board caller = record { board = board; knows = caller.pass.knows; device
 pub record RanSoFar {D L Q : Type 0} (tells : Tells D L Q) (board : BoardState D L) (all : List ActionLine) (caller : Caller D L Q)
     (lines : List ActionLine) (answers : List Answer) (seated : SeatedState D L) (names : NamesState) : Type 0 where
   pub went : WentOn (seat_at tells (seat_of board caller)) (seat_at tells seated)
-  pub free : held_of seated.knows ≡ nothing
-  pub whole : length answers ≡ count_of caller.pass.knows.number lines
+  pub free : turns_held seated.knows ≡ nothing
+  pub whole : length answers ≡ count_of_caller caller.pass.knows.number lines
   pub good : IsGood (setup_in tells board.begun) seated.knows.seen
   pub room : names.room ≡ caller.names.room
   pub placed :
@@ -118,11 +118,11 @@ pub record RanSoFar {D L Q : Type 0} (tells : Tells D L Q) (board : BoardState D
       (bindings_of bindings (asked_own caller.pass.knows.number lines answers)) names.named
 
 -- lines that are none of a caller's bind nothing of it
-bound-none : (me : ℕ) (bounds : List Bound) (lines : List ActionLine) → count_of me lines ≡ 0 → bound_so_far me bounds lines ≡ bounds
+bound-none : (me : ℕ) (bounds : List Bound) (lines : List ActionLine) → count_of_caller me lines ≡ 0 → bound_so_far me bounds lines ≡ bounds
 bound-none me bounds [] none = refl
 bound-none me bounds (line ∷ lines) none = by (bound-none me bounds lines) (line.caller == me) refl
   where
-    by : (count_of me lines ≡ 0 → bound_so_far me bounds lines ≡ bounds) → (b : Bool) → (line.caller == me) ≡ b → bound_so_far me bounds (line ∷ lines) ≡ bounds
+    by : (count_of_caller me lines ≡ 0 → bound_so_far me bounds lines ≡ bounds) → (b : Bool) → (line.caller == me) ≡ b → bound_so_far me bounds (line ∷ lines) ≡ bounds
     by rest true at = absurd (omega (arith, none, count-more me line lines (eqb-true line.caller me at)))
     by rest false at = rw at (rest (sym (count-other me line lines (eqb-false line.caller me at)) ∙ none))
 
@@ -131,7 +131,7 @@ module _ {D L Q : Type 0} (tells : Tells D L Q) (board : BoardState D L) (all : 
   me = caller.pass.knows.number
 
   -- none at first
-  pub ran-none : (seated : SeatedState D L) (names : NamesState) → seated.board ≡ board → pass_of seated ≡ caller.pass → held_of seated.knows ≡ nothing → names ≡ caller.names → RanSoFar tells board all caller [] [] seated names
+  pub ran-none : (seated : SeatedState D L) (names : NamesState) → seated.board ≡ board → seated_pass seated ≡ caller.pass → turns_held seated.knows ≡ nothing → names ≡ caller.names → RanSoFar tells board all caller [] [] seated names
   ran-none seated names here is free names_are =
       let same : seated ≡ seat_of board caller = λ i. record { board = here i; knows = (is i).knows; device_turns = (is i).device_turns } in
       let seen : seated.knows.seen ≡ caller.pass.knows.seen = ap (λ p. p.knows.seen) is in
@@ -236,7 +236,7 @@ module _ {D L Q : Type 0} (tells : Tells D L Q) (board : BoardState D L) (all : 
     }
 
     -- all were run
-    pub caller-ran : (ended : Finished D L Q) → lines ≡ all → ended.pass ≡ pass_of seated → ended.answers.items ≡ answers → ended.names ≡ names → CallerRan tells board all caller ended
+    pub caller-ran : (ended : FinishedCaller D L Q) → lines ≡ all → ended.pass ≡ seated_pass seated → ended.answers.items ≡ answers → ended.names ≡ names → CallerRan tells board all caller ended
     caller-ran ended whole is told names_are =
         let seen : ended.pass.knows.seen ≡ seated.knows.seen = ap (λ p. p.knows.seen) is in
         let number : ended.pass.knows.number ≡ me = ap (λ p. p.knows.number) is ∙ number-is in
@@ -244,7 +244,7 @@ module _ {D L Q : Type 0} (tells : Tells D L Q) (board : BoardState D L) (all : 
           here = ap (λ p. p.board) is ∙ same_board seated.board.id board.id (ap (λ w. w.shared) ran.went.same);
           number = number;
           none = ap (λ p. p.knows.in_flight) is ∙ (ap (λ w. w.in_flight) ran.went.same ∙ may.none);
-          whole = ap length told ∙ (ran.whole ∙ ap (count_of me) whole);
+          whole = ap length told ∙ (ran.whole ∙ ap (count_of_caller me) whole);
           word_room = ap (λ n. n.room) names_are ∙ ran.room;
           placed = rw (← whole, told, seen, names_are) ran.placed;
           ran = λ bounds bindings stand right.
@@ -256,11 +256,11 @@ module _ {D L Q : Type 0} (tells : Tells D L Q) (board : BoardState D L) (all : 
         }
 
 -- a caller that has no room has no lines
-pub ran-no_lines : {D L Q : Type 0} (tells : Tells D L Q) (board : BoardState D L) (all : List ActionLine) (caller : Caller D L Q) (ended : Finished D L Q) → MayRun tells board all caller → vec_capacity caller.room ≡ 0 → ended.pass ≡ caller.pass → ended.answers ≡ caller.room → ended.names ≡ caller.names → CallerRan tells board all caller ended
+pub ran-no_lines : {D L Q : Type 0} (tells : Tells D L Q) (board : BoardState D L) (all : List ActionLine) (caller : Caller D L Q) (ended : FinishedCaller D L Q) → MayRun tells board all caller → vec_capacity caller.room ≡ 0 → ended.pass ≡ caller.pass → ended.answers ≡ caller.room → ended.names ≡ caller.names → CallerRan tells board all caller ended
 ran-no_lines tells board all caller ended may zero same none names_are =
     let me = caller.pass.knows.number in
     let empty : ended.answers.items ≡ [] = ap (λ v. v.items) none ∙ may.room.empty in
-    let no_lines : count_of me all ≡ 0 = omega (arith, may.room.room, zero) in
+    let no_lines : count_of_caller me all ≡ 0 = omega (arith, may.room.room, zero) in
     let seen : ended.pass.knows.seen ≡ caller.pass.knows.seen = ap (λ p. p.knows.seen) same in
     let number : ended.pass.knows.number ≡ me = ap (λ p. p.knows.number) same in
     record {
@@ -277,13 +277,13 @@ ran-no_lines tells board all caller ended may zero same none names_are =
     }
 
 -- as many ended as there were callers, and one more behind them
-pub all-ran-long : {D L Q : Type 0} (tells : Tells D L Q) (board : BoardState D L) (lines : List ActionLine) (callers : List (Caller D L Q)) (ended : List (Finished D L Q)) → AllRan tells board lines callers ended → length ended ≡ length callers
+pub all-ran-long : {D L Q : Type 0} (tells : Tells D L Q) (board : BoardState D L) (lines : List ActionLine) (callers : List (Caller D L Q)) (ended : List (FinishedCaller D L Q)) → AllRan tells board lines callers ended → length ended ≡ length callers
 all-ran-long tells board lines [] [] ran = refl
 all-ran-long tells board lines [] (e ∷ ended) ran = absurd ran
 all-ran-long tells board lines (c ∷ callers) [] ran = absurd ran
 all-ran-long tells board lines (c ∷ callers) (e ∷ ended) ran = ap (λ n. suc n) (all-ran-long tells board lines callers ended ran.1)
 
-pub all-ran-last : {D L Q : Type 0} (tells : Tells D L Q) (board : BoardState D L) (lines : List ActionLine) (callers : List (Caller D L Q)) (ended : List (Finished D L Q)) (caller : Caller D L Q) (one : Finished D L Q) → AllRan tells board lines callers ended → CallerRan tells board lines caller one → AllRan tells board lines (callers ++ caller ∷ []) (ended ++ one ∷ [])
+pub all-ran-last : {D L Q : Type 0} (tells : Tells D L Q) (board : BoardState D L) (lines : List ActionLine) (callers : List (Caller D L Q)) (ended : List (FinishedCaller D L Q)) (caller : Caller D L Q) (one : FinishedCaller D L Q) → AllRan tells board lines callers ended → CallerRan tells board lines caller one → AllRan tells board lines (callers ++ caller ∷ []) (ended ++ one ∷ [])
 all-ran-last tells board lines [] [] caller one ran last = (last, tt)
 all-ran-last tells board lines [] (e ∷ ended) caller one ran last = absurd ran
 all-ran-last tells board lines (c ∷ callers) [] caller one ran last = absurd ran

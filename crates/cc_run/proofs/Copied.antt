@@ -15,7 +15,7 @@ use Rattle.cc_script.specs.declared.script.Action.{Action}
 use Rattle.cc_script.specs.declared.script.Action.TheVariants as action
 use Rattle.cc_script.specs.declared.script.ActionLine.{ActionLine}
 use Rattle.cc_script.specs.declared.script.Script.{Script}
-use Rattle.cc_script.specs.Within.{IsWithin}
+use Rattle.cc_script.specs.Within.{ScriptIsWithin}
 use Rattle.cc_model.specs.Setup.{Setup}
 use Rattle.cc_lines.specs.Holds.{NamesState}
 use Rattle.cc_lines.specs.Queues.{copies_of, new_places}
@@ -26,14 +26,14 @@ use Rattle.cc_pieces.specs.Runs.{asked_of}
 use Rattle.cc_pieces.proofs.AsyncPlaces.{has-queued, untouched}
 use Rattle.cc_queue.specs.Places.{PlaceState}
 use Rattle.cc_restarts.specs.declared.ended.LogRestart.{LogRestart}
-use Rattle.cc_run.specs.Lines.{asked_by}
+use Rattle.cc_run.specs.Lines.{asked_by_caller}
 use Rattle.cc_program.specs.Runs.{given_of, run_answered}
 use Rattle.cc_run.specs.Once.{AllTellPart, AreToldOnce, TellsPart}
 use Rattle.cc_run.specs.Phases.{PhasesServed}
 use Rattle.cc_run.specs.Places.{AreAsyncQueued, PlacesRan}
 use Rattle.cc_run.proofs.Lists.{there}
 use Rattle.cc_run.proofs.Queued.{few-asked}
-use Rattle.cc_run.specs.Begun.{HasBegun}
+use Rattle.cc_run.specs.Begun.{RunHasBegun}
 use Rattle.cc_run.proofs.Begins.{kept-behind}
 use Rattle.cc_run.proofs.ToldOnce.{told-parts}
 
@@ -118,7 +118,7 @@ fresh-at queues (row ∷ rows) zero own fresh at =
 fresh-at queues (row ∷ rows) (suc n) own fresh at = fresh-at queues rows n own fresh.1 at
 
 -- from where a run began
-pub run-copied : (u v : Setup) (script : Script) (restarted : List LogRestart) (ended between replies kept all ticked stepped : List LineReply) (took : List Request) (ends begun past : List Entry) (was now : List NamesState) (places : List (PlaceState QueuedRead)) (queues : Queues) → IsWithin script → all ≡ ended ++ kept → places ≡ map (λ (own : NamesState). own.places.copies) now → HasBegun u script restarted ended between ends begun → PhasesServed v script.ticks script.aheads script.phases script.lines between replies ticked stepped took begun past → AreToldOnce script.streams script.lines replies kept → PlacesRan script.lines between replies was now begun past → length was ≡ 16 → length now ≡ 16 → AllByRecursion (λ (own : NamesState). own.places ≡ new_places queues) was → AreAsyncQueued (given_of script) (run_answered all ticked stepped) places
+pub run-copied : (u v : Setup) (script : Script) (restarted : List LogRestart) (ended between replies kept all ticked stepped : List LineReply) (took : List Request) (ends begun past : List Entry) (was now : List NamesState) (places : List (PlaceState QueuedRead)) (queues : Queues) → ScriptIsWithin script → all ≡ ended ++ kept → places ≡ map (λ (own : NamesState). own.places.copies) now → RunHasBegun u script restarted ended between ends begun → PhasesServed v script.ticks script.aheads script.phases script.lines between replies ticked stepped took begun past → AreToldOnce script.streams script.lines replies kept → PlacesRan script.lines between replies was now begun past → length was ≡ 16 → length now ≡ 16 → AllByRecursion (λ (own : NamesState). own.places ≡ new_places queues) was → AreAsyncQueued (given_of script) (run_answered all ticked stepped) places
 run-copied u v script restarted ended between replies kept all ticked stepped took ends begun past was now places queues within all_is are begins served told_once placed sixteen_was sixteen fresh = record {
   counted = ap length are ∙ (length-map now (λ (own : NamesState). own.places.copies) ∙ sixteen);
   each = λ n place at. caller n place (subst (λ l. slice_get l n ≡ Some place) are at);
@@ -140,9 +140,9 @@ run-copied u v script restarted ended between replies kept all ticked stepped to
         let b = there now n (omega (arith, low, sixteen)) in
         let own : ActionLine → Bool = λ line. line.caller == suc n in
         let went = (placed.each served.answers n a.0 b.0 served.grew a.1 b.1).copies.ran in
-        let ran : AsyncRan (suc n) (asked_by (suc n) script.lines served.answers) untouched (copies_of b.0.places.copies) =
-        subst (λ p. AsyncRan (suc n) (asked_by (suc n) script.lines served.answers) p (copies_of b.0.places.copies)) (fresh-at queues was n a.0 fresh a.1) went in
-        let told = same-ran (suc n) (asked_of own script.lines (drop (length script.streams) (drop (length script.restarts) all))) (asked_by (suc n) script.lines served.answers) untouched (copies_of b.0.places.copies)
+        let ran : AsyncRan (suc n) (asked_by_caller (suc n) script.lines served.answers) untouched (copies_of b.0.places.copies) =
+        subst (λ p. AsyncRan (suc n) (asked_by_caller (suc n) script.lines served.answers) p (copies_of b.0.places.copies)) (fresh-at queues was n a.0 fresh a.1) went in
+        let told = same-ran (suc n) (asked_of own script.lines (drop (length script.streams) (drop (length script.restarts) all))) (asked_by_caller (suc n) script.lines served.answers) untouched (copies_of b.0.places.copies)
         (part-same own script.lines served.answers (drop (length script.streams) (drop (length script.restarts) all)) part) ran in
         let few : length (lines_told (given_of script) (run_answered all ticked stepped) (suc n)) ≤ length script.lines =
         few-asked own script.lines (drop (length script.streams) (drop (length script.restarts) all)) in

@@ -10,7 +10,7 @@ use Rattle.std.proofs.lemmas.List.{map-append}
 use Rattle.cc_entry.specs.Place.{Page}
 use Rattle.cc_entry.specs.Lsns.{joined as joined_lsns}
 use Rattle.cc_entry.specs.declared.entry.Entry.{Entry}
-use Rattle.cc_dirty.specs.Order.{precedes, same_page, IsAscending}
+use Rattle.cc_dirty.specs.Order.{precedes, same_page, RowsAscend}
 use Rattle.cc_dirty.specs.Unwritten.{is_touched}
 use Rattle.cc_dirty.specs.Table.{row_of, Sound}
 use Rattle.cc_dirty.specs.declared.row.Row.{Row}
@@ -23,7 +23,7 @@ use Rattle.cc_laws.proofs.DirtyAmong.{dirty-among, dirty_pages-dirty}
 use Rattle.cc_journal.specs.Rows.{Follows, IsRowOf, journal_place}
 use Rattle.cc_journal.proofs.RowSteps.{some-oldest}
 use Rattle.cc_print.specs.declared.table.TableRow.{TableRow}
-use Rattle.cc_pieces.specs.Table.{row_of as table_row, rows_of, table_of}
+use Rattle.cc_pieces.specs.Table.{table_row_of as table_row, table_rows_of, table_of}
 use Rattle.cc_run.specs.Rows.{printed_row}
 use Rattle.cc_run.proofs.Ascending.{rises-equal}
 use Rattle.cc_run.proofs.Lists.{all-map, all-both, all-front, all-back}
@@ -52,7 +52,7 @@ all-each : (P : Row → Type 0) (rows : List Row) → All P rows → AllByRecurs
 all-each P [] all = tt
 all-each P (r ∷ rows) all = (all 0 r (omega arith), all-each P rows (λ k d low. all (suc k) d (omega (arith, low))))
 
-ordered : (rows : List Row) → IsAscending rows → All (λ r. is_touched r ≡ true) rows → All (λ r. r.page.stream < 16) rows → Ordered rows
+ordered : (rows : List Row) → RowsAscend rows → All (λ r. is_touched r ≡ true) rows → All (λ r. r.page.stream < 16) rows → Ordered rows
 ordered [] ascend touch few = tt
 ordered (r ∷ rows) ascend touch few = (
   all-each (λ q. precedes r.page q.page ≡ true) rows (λ k d low. ascend 0 (suc k) d (omega arith) (omega (arith, low))),
@@ -175,7 +175,7 @@ page-is : (q : Page) (a : ℕ) → q.stream ≡ a → q ≡ record { stream = a;
 page-is q a is = ap (λ s. let made : Page = record { stream = s; page = q.page } in made) is
 
 -- the rows of one stream are those of the table
-stream-rows : (past : List Entry) (a : ℕ) (rows : List Row) → Ordered rows → AllByRecursion (λ r. r.page.stream ≡ a) rows → ((p : ℕ) → IsRowOf (journal_place past a) (history past a) p (row_of rows (record { stream = a; page = p }))) → map printed_row rows ≡ rows_of past a
+stream-rows : (past : List Entry) (a : ℕ) (rows : List Row) → Ordered rows → AllByRecursion (λ r. r.page.stream ≡ a) rows → ((p : ℕ) → IsRowOf (journal_place past a) (history past a) p (row_of rows (record { stream = a; page = p }))) → map printed_row rows ≡ table_rows_of past a
 stream-rows past a rows order same stand =
     map-each printed_row (table_row a (history past a)) rows
     (all-map (λ r. (r.page.stream ≡ a) × (row_of rows r.page ≡ Some r)) (λ r. printed_row r ≡ table_row a (history past a) r.page.page) rows (λ r both. each r both.0 both.1)
@@ -193,13 +193,13 @@ stream-rows past a rows order same stand =
         rw (lsns, page) refl
 
 -- the rows of several streams
-rows-from : (past : List Entry) (a n : ℕ) (rows : List Row) → Ordered rows → AllByRecursion (λ r. (a ≤ r.page.stream) × (r.page.stream < a + n)) rows → ((q : Page) → a ≤ q.stream → IsRowOf (journal_place past q.stream) (history past q.stream) q.page (row_of rows q)) → map printed_row rows ≡ flat_map (rows_of past) (range_with_len a n)
+rows-from : (past : List Entry) (a n : ℕ) (rows : List Row) → Ordered rows → AllByRecursion (λ r. (a ≤ r.page.stream) × (r.page.stream < a + n)) rows → ((q : Page) → a ≤ q.stream → IsRowOf (journal_place past q.stream) (history past q.stream) q.page (row_of rows q)) → map printed_row rows ≡ flat_map (table_rows_of past) (range_with_len a n)
 rows-from past a zero [] order within stand = refl
 rows-from past a zero (r ∷ rows) order within stand = absurd (omega (arith, within.0.0, within.0.1))
 rows-from past a (suc n) rows order within stand =
     ap (map printed_row) s.rows_are ∙ (map-append printed_row s.here s.above
     ∙ (ap (λ l. l ++ map printed_row s.above) (stream-rows past a s.here s.here_ordered s.of_stream here-stand)
-    ∙ ap (λ l. rows_of past a ++ l) (rows-from past (a + 1) n s.above s.above_ordered above-within above-stand)))
+    ∙ ap (λ l. table_rows_of past a ++ l) (rows-from past (a + 1) n s.above s.above_ordered above-within above-stand)))
   where
     s : Split a rows
     s = split a rows order (all-map (λ r. (a ≤ r.page.stream) × (r.page.stream < a + suc n)) (λ r. a ≤ r.page.stream) rows (λ r both. both.0) within)

@@ -21,7 +21,7 @@ use Rattle.cc_effects.specs.Moments.{IsIdle, PlacedOnly}
 use Rattle.cc_effects.proofs.Stretches.{idle-none}
 use Rattle.cc_pieces.specs.Explained.{answered_lines}
 use Rattle.cc_pieces.specs.Faultless.{tells_fault}
-use Rattle.cc_pieces.specs.Restarts.{LastFlushed, RestartAnswered, RestartEnded, Restarted}
+use Rattle.cc_pieces.specs.Restarts.{LastFlushed, RestartAnswered, RestartEnded, RestartsInOrder}
 use Rattle.cc_pieces.specs.Rooms.{HadNoRoom}
 use Rattle.cc_pieces.proofs.Faultless.{ShowsNone, TellNone, none-front, served-none}
 use Rattle.cc_pieces.proofs.Grown.{grew-only, grew-then}
@@ -54,7 +54,7 @@ answered-end : (u : Setup) (handle : ℕ) (ended : Result Numbers CcError) (told
 answered-end u handle (Ok numbers) told old new left = answered-ended u handle (last_number numbers.last) numbers.updates told old new left
 answered-end u handle (Err e) told old new left = subst (λ (a : Answer). RestartAnswered u handle a old new) (sym left.0) (inl left.1)
 
-pub restarted-ended : (u : Setup) (restarts : List RestartLine) (ended : List LogRestart) (replies : List LineReply) (old new : List Entry) → map (λ restart. restart.handle) ended ≡ map (λ restart. restart.handle) restarts → RestartsEnded u ended replies old new → Restarted u restarts replies old new
+pub restarted-ended : (u : Setup) (restarts : List RestartLine) (ended : List LogRestart) (replies : List LineReply) (old new : List Entry) → map (λ restart. restart.handle) ended ≡ map (λ restart. restart.handle) restarts → RestartsEnded u ended replies old new → RestartsInOrder u restarts replies old new
 restarted-ended u [] [] [] old new handles left = let same : new ≡ old = left in rw same (idle-none 0 old)
 restarted-ended u [] [] (r ∷ replies) old new handles left = absurd left
 restarted-ended u [] (one ∷ ended) replies old new handles left = absurd (cc handles)

@@ -10,7 +10,7 @@ use Rattle.cc_entry.specs.declared.entry.End.{End}
 use Rattle.cc_entry.specs.declared.entry.End.TheVariants as how
 use Rattle.cc_entry.specs.declared.entry.Entry.{Entry}
 use Rattle.cc_entry.specs.declared.entry.Entry.TheVariants as entry
-use Rattle.cc_script.specs.Within.{IsActionWithin, IsLineWithin, IsWithin}
+use Rattle.cc_script.specs.Within.{IsActionWithin, IsLineWithin, ScriptIsWithin}
 use Rattle.cc_script.specs.declared.script.Action.{Action}
 use Rattle.cc_script.specs.declared.script.Action.TheVariants as action
 use Rattle.cc_script.specs.declared.script.ActionLine.{ActionLine}
@@ -24,7 +24,7 @@ use Rattle.cc_model.specs.Good.{IsGood}
 use Rattle.cc_model.specs.Setup.{Setup}
 use Rattle.cc_effects.specs.Failures.{failures, is_failure}
 use Rattle.cc_turns.specs.Desk.{Tells}
-use Rattle.cc_turns.specs.Log.{is_log_failure, log_failures}
+use Rattle.cc_turns.specs.Log.{is_failure_of_log, log_failures}
 use Rattle.cc_turns.proofs.Handles.{handle-below}
 use Rattle.cc_pieces.specs.Faultless.{shows_fault, tells_fault}
 use Rattle.cc_pieces.proofs.Faultless.{ShowsNone, TellNone, tell-append}
@@ -60,19 +60,19 @@ counted-head true count is none = absurd (omega (arith, none))
 counted-head false count is none = absurd (cc is)
 
 -- where no failure is counted of any stream or log of the run, an entry of one of them shows none
-module _ (n logs : ℕ) (e : Entry) (past : List Entry) (of_disks : (s : ℕ) → s < n → (if is_failure s e then suc (failures s past) else failures s past) ≡ 0) (of_logs : (handle : ℕ) → handle < logs → (if is_log_failure handle e then suc (log_failures handle past) else log_failures handle past) ≡ 0) where
+module _ (n logs : ℕ) (e : Entry) (past : List Entry) (of_disks : (s : ℕ) → s < n → (if is_failure s e then suc (failures s past) else failures s past) ≡ 0) (of_logs : (handle : ℕ) → handle < logs → (if is_failure_of_log handle e then suc (log_failures handle past) else log_failures handle past) ≡ 0) where
   not-failed : (s : ℕ) → s < n → is_failure s e ≡ true → ⊥
   not-failed s low is = counted-head (is_failure s e) (failures s past) is (of_disks s low)
 
-  not-log-failed : (handle : ℕ) → handle < logs → is_log_failure handle e ≡ true → ⊥
-  not-log-failed handle low is = counted-head (is_log_failure handle e) (log_failures handle past) is (of_logs handle low)
+  not-log-failed : (handle : ℕ) → handle < logs → is_failure_of_log handle e ≡ true → ⊥
+  not-log-failed handle low is = counted-head (is_failure_of_log handle e) (log_failures handle past) is (of_logs handle low)
 
 end-shows-none : (how : End) (s : ℕ) → (((s == s) && is_failed how) ≡ true → ⊥) → is_failed how ≡ false
 end-shows-none how.Good s not = refl
 end-shows-none how.Failed s not = absurd (not (rw (eq-eqb s s refl) refl))
 end-shows-none how.NoMemory s not = refl
 
-entry-shows-none : (n logs : ℕ) (e : Entry) → IsBelow n logs e → ((s : ℕ) → s < n → is_failure s e ≡ true → ⊥) → ((handle : ℕ) → handle < logs → is_log_failure handle e ≡ true → ⊥) → shows_fault e ≡ false
+entry-shows-none : (n logs : ℕ) (e : Entry) → IsBelow n logs e → ((s : ℕ) → s < n → is_failure s e ≡ true → ⊥) → ((handle : ℕ) → handle < logs → is_failure_of_log handle e ≡ true → ⊥) → shows_fault e ≡ false
 entry-shows-none n logs (entry.FillFailed pass page) below not not_log = absurd (not page.stream below (eq-eqb page.stream page.stream refl))
 entry-shows-none n logs (entry.WriteEnd pass page how) below not not_log = end-shows-none how page.stream (not page.stream below)
 entry-shows-none n logs (entry.Sync pass stream how) below not not_log = end-shows-none how stream (not stream below)
@@ -87,7 +87,7 @@ shows-none n logs [] all of_disks of_logs = tt
 shows-none n logs (e ∷ past) all of_disks of_logs = (
   entry-shows-none n logs e all.0 (not-failed n logs e past of_disks of_logs) (not-log-failed n logs e past of_disks of_logs),
   shows-none n logs past all.1 (λ s low. counted-tail (is_failure s e) (failures s past) (of_disks s low))
-      (λ handle low. counted-tail (is_log_failure handle e) (log_failures handle past) (of_logs handle low)),
+      (λ handle low. counted-tail (is_failure_of_log handle e) (log_failures handle past) (of_logs handle low)),
 )
 
 -- an item of a row
@@ -151,7 +151,7 @@ sound-of : (u : Setup) (past : List Entry) → IsGood u past → IsSound u past
 unfolding IsAllowed
 sound-of u past good = (good.legal, good.allowed.0)
 
-module _ {D L Q : Type 0} (tells : Tells D L Q) (m : Mode) (script : Script) (disks : List D) (logs : List L) (posts : List Q) (ran : RunResult D L Q) (within : IsWithin script) (enough : has_devices (length disks) (length logs) (length posts) script ≡ true) (has : HasRun tells m script disks logs posts ran) (calm : ShowsNone (reverse ran.journal.items) → TellNone (take (length script.restarts) ran.replies.items)) where
+module _ {D L Q : Type 0} (tells : Tells D L Q) (m : Mode) (script : Script) (disks : List D) (logs : List L) (posts : List Q) (ran : RunResult D L Q) (within : ScriptIsWithin script) (enough : has_devices (length disks) (length logs) (length posts) script ≡ true) (has : HasRun tells m script disks logs posts ran) (calm : ShowsNone (reverse ran.journal.items) → TellNone (take (length script.restarts) ran.replies.items)) where
   abbrev u : Setup
   u = setup_of tells.disk tells.disk_faults script disks logs
 
@@ -225,7 +225,7 @@ ran-behind tells m script ended disks begun logs logs_begun posts done is logs_i
 }
 
 -- where a run was made behind restarts
-pub behind-without-fault : {D L Q : Type 0} (tells : Tells D L Q) (m : Mode) (script : Script) (disks : List D) (logs : List L) (posts : List Q) (done : RestartedRun D L Q) → IsWithin script → has_devices (length disks) (length logs) (length posts) script ≡ true → HasRunBehind tells m script disks logs posts done → RanWithoutFault tells.disk_faults tells.log_faults disks done.ran.disks.items logs done.ran.logs.items (done.ran.replies.items ++ done.ran.ticks.items ++ done.ran.aheads.items) (reverse done.ran.journal.items)
+pub behind-without-fault : {D L Q : Type 0} (tells : Tells D L Q) (m : Mode) (script : Script) (disks : List D) (logs : List L) (posts : List Q) (done : RestartedRun D L Q) → ScriptIsWithin script → has_devices (length disks) (length logs) (length posts) script ≡ true → HasRunBehind tells m script disks logs posts done → RanWithoutFault tells.disk_faults tells.log_faults disks done.ran.disks.items logs done.ran.logs.items (done.ran.replies.items ++ done.ran.ticks.items ++ done.ran.aheads.items) (reverse done.ran.journal.items)
 behind-without-fault tells m script disks logs posts done within enough has stayed logs_stayed =
     ran-without-fault tells m script done.disks_begun.value.items done.logs_begun.value.items posts done.ran within begun_enough has.ran calm
     (run-stayed tells.disk tells.disk_faults tells.log tells.log_faults script.streams script.restarts has.behind.ended disks done.disks_begun.value.items done.ran.disks.items logs done.logs_begun.value.items done.ran.logs.items within.few_streams within.restarts has.behind.made has.ran.disks_left.risen has.ran.logs_left.risen has.ran.disks_left.are.count has.ran.logs_left.are.count stayed logs_stayed)

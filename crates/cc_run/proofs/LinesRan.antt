@@ -19,7 +19,7 @@ use Rattle.cc_effects.specs.Moments.{IsIdle}
 use Rattle.cc_effects.proofs.Stretches.{idle-none, idle-then}
 use Rattle.cc_pieces.specs.Bindings.{Binding}
 use Rattle.cc_pieces.specs.Served.{bindings_after}
-use Rattle.cc_pieces.specs.Rooms.{WasFull, HadNoRoom, ToldNoRoom, is_alone, room_limit}
+use Rattle.cc_pieces.specs.Rooms.{JournalWasFull, HadNoRoom, ToldNoRoom, is_alone, room_limit}
 use Rattle.cc_pieces.specs.Runs.{Explains, Ran, asked_of}
 use Rattle.cc_pieces.specs.Phases.{is_of_phase, lazy_writer, read_ahead_worker}
 use Rattle.cc_pieces.specs.Explained.{answered_lines}
@@ -57,7 +57,7 @@ left-more u bindings (l ∷ lines) (r ∷ replies) line reply old between new le
 )
 
 -- a journal that was full within one limit was so within a greater one
-full-more : (u : Setup) (limit more entries : ℕ) (old new : List Entry) → limit ≤ more → WasFull u limit entries old new → WasFull u more entries old new
+full-more : (u : Setup) (limit more entries : ℕ) (old new : List Entry) → limit ≤ more → JournalWasFull u limit entries old new → JournalWasFull u more entries old new
 full-more u limit more entries old new least was = record {
   moment = was.moment;
   later = was.later;

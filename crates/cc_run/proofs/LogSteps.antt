@@ -7,20 +7,20 @@ use Rattle.cc_entry.specs.declared.entry.Entry.{Entry}
 use Rattle.cc_traits.specs.Log.{Log}
 use Rattle.cc_traits.specs.Told.{Both}
 use Rattle.cc_model.specs.Logs.{flushed_to}
-use Rattle.cc_log.specs.Turn.{Holds, appended}
+use Rattle.cc_log.specs.Turn.{HoldsLogEntries, appended}
 use Rattle.cc_turns.specs.Log.{FileStands, log_failures}
 use Rattle.cc_turns.specs.Desk.{log_at_first}
 use Rattle.cc_program.specs.Disks.{Pairwise, HaveRisen}
-use Rattle.cc_program.specs.Logs.{LogWent, LogsAre, LogsCounted, LogsLeft, LogsStand}
+use Rattle.cc_program.specs.Logs.{LogWentWith, LogsAre, LogsCounted, LogsLeft, LogsStand}
 use Rattle.cc_run.proofs.Returned.{pairwise-same, as-many, firsts, others, of-all}
 
 -- what a log's file that stands for a past tells, and its count of faults
 module _ {L : Type 0} (told : L → Option Log) (faults : L → ℕ) (past : List Entry) (handle : ℕ) (before after : L) (stood : FileStands told faults (log_at_first told faults (Some before)) past handle after) where
-  file-went : LogWent told past handle before after
+  file-went : LogWentWith told past handle before after
   file-went =
-      subst (λ file. Both (told before) (told file) (Holds (appended past handle) (flushed_to past handle))) stood.3
-      (subst (λ h. Both (told before) (told stood.0.file) (Holds (appended past h) (flushed_to past h))) stood.2
-      (subst (λ to. Both (told before) (told stood.0.file) (Holds (appended past stood.0.handle) to)) stood.1.stands.flushed_is stood.1.stands.file_is))
+      subst (λ file. Both (told before) (told file) (HoldsLogEntries (appended past handle) (flushed_to past handle))) stood.3
+      (subst (λ h. Both (told before) (told stood.0.file) (HoldsLogEntries (appended past h) (flushed_to past h))) stood.2
+      (subst (λ to. Both (told before) (told stood.0.file) (HoldsLogEntries (appended past stood.0.handle) to)) stood.1.stands.flushed_is stood.1.stands.file_is))
 
   file-counted : faults after ≡ faults before + log_failures handle past
   file-counted =
@@ -57,7 +57,7 @@ module _ {L : Type 0} (told : L → Option Log) (faults : L → ℕ) (past : Lis
   logs-left = record { are = logs-are; counted = logs-counted; risen = logs-risen }
 
 -- a log that was not used has gone nowhere
-went-none : (now : Option Log) (handle : ℕ) → Both now now (Holds (appended [] handle) (flushed_to [] handle))
+went-none : (now : Option Log) (handle : ℕ) → Both now now (HoldsLogEntries (appended [] handle) (flushed_to [] handle))
 unfolding appended flushed_to
 went-none None handle = tt
 went-none (Some log) handle = record { entries_are = sym (append-nil log.entries); durable = omega arith }
@@ -70,7 +70,7 @@ failures-none handle = refl
 logs-same : {L : Type 0} (told : L → Option Log) (logs : List L) → LogsAre told [] logs logs
 logs-same told logs = record {
   count = refl;
-  went = pairwise-same (LogWent told []) (take 4 logs) (λ handle l. went-none (told l) handle);
+  went = pairwise-same (LogWentWith told []) (take 4 logs) (λ handle l. went-none (told l) handle);
   rest = refl;
 }
 

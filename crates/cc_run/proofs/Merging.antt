@@ -10,7 +10,7 @@ use Rattle.cc_entry.specs.declared.answer.LineReply.{LineReply}
 use Rattle.cc_script.specs.declared.script.ActionLine.{ActionLine}
 use Rattle.cc_pieces.specs.Phases.{is_of_phase}
 use Rattle.cc_pieces.specs.Runs.{asked_of}
-use Rattle.cc_run.specs.Callers.{AreRows, asked_own, count_of, row_at}
+use Rattle.cc_run.specs.Callers.{AreAnswerRows, asked_own, count_of_caller, row_at}
 use Rattle.cc_run.specs.Lines.{IsCaller}
 use Rattle.cc_run.specs.Threads.{Merged}
 
@@ -26,10 +26,10 @@ pub own-other : (me : ℕ) (line : ActionLine) (lines : List ActionLine) (answer
 own-other me line lines [] apart = sym (own-none me lines)
 own-other me line lines (told ∷ answers) apart = rw (ne_eqb line.caller me apart) refl
 
-pub count-more : (me : ℕ) (line : ActionLine) (lines : List ActionLine) → line.caller ≡ me → count_of me (line ∷ lines) ≡ suc (count_of me lines)
+pub count-more : (me : ℕ) (line : ActionLine) (lines : List ActionLine) → line.caller ≡ me → count_of_caller me (line ∷ lines) ≡ suc (count_of_caller me lines)
 count-more me line lines is = rw (eq-eqb line.caller me is) refl
 
-pub count-other : (me : ℕ) (line : ActionLine) (lines : List ActionLine) → line.caller ≢ me → count_of me (line ∷ lines) ≡ count_of me lines
+pub count-other : (me : ℕ) (line : ActionLine) (lines : List ActionLine) → line.caller ≢ me → count_of_caller me (line ∷ lines) ≡ count_of_caller me lines
 count-other me line lines apart = rw (ne_eqb line.caller me apart) refl
 
 module _ (line : ActionLine) (lines : List ActionLine) (rows : List (List Answer)) (row : List Answer) (told : Answer) (caller : IsCaller line.caller) (there : get_or rows (16 - line.caller) [] ≡ row ++ told ∷ []) where
@@ -48,10 +48,10 @@ module _ (line : ActionLine) (lines : List ActionLine) (rows : List (List Answer
   row-other me apart first last =
       ap reverse (get_or-set_other rows (16 - line.caller) (16 - me) row [] (λ e. apart (omega (arith, e, caller.first, caller.last, first, last))))
 
-  pub rows-left : AreRows (line ∷ lines) rows → AreRows lines left
+  pub rows-left : AreAnswerRows (line ∷ lines) rows → AreAnswerRows lines left
   rows-left are = (length-set rows (16 - line.caller) row ∙ are.0, λ me first last. by me first last (line.caller == me) refl)
     where
-      by : (me : ℕ) → 1 ≤ me → me ≤ 16 → (b : Bool) → (line.caller == me) ≡ b → length (row_at left me) ≡ count_of me lines
+      by : (me : ℕ) → 1 ≤ me → me ≤ 16 → (b : Bool) → (line.caller == me) ≡ b → length (row_at left me) ≡ count_of_caller me lines
       by me first last true at =
           let is = eqb-true line.caller me at in
           ap length (row-own me is are.0) ∙ omega (arith, ap length (row-before me is), are.1 me first last, count-more me line lines is)

@@ -30,16 +30,16 @@ use Rattle.cc_pieces.proofs.AskedLines.{asked-none}
 use Rattle.cc_turns.specs.Desk.{DeskState, Tells, tells_of, standing_of}
 use Rattle.cc_turns.specs.Places.{IsRoomFor}
 use Rattle.cc_turns.specs.Slots.{setup_in}
-use Rattle.cc_board.specs.Board.{BoardState, FirstState, IsFirstOf, IsOf, IsOpened, IsHandedBack, IsClosed, IsSplit, after_join}
+use Rattle.cc_board.specs.Board.{BoardState, FirstState, IsFirstOf, IsOfBoard, BoardIsOpened, IsHandedBack, IsClosed, IsSplit, after_join}
 use Rattle.cc_board.specs.View.{run_of}
-use Rattle.cc_run.specs.Callers.{AllRan, AreRows, CallerRan, LinesRan, MayRun, MayAllRun, WordsStand, asked_own, count_of, row_at}
+use Rattle.cc_run.specs.Callers.{AllRan, AreAnswerRows, CallerRan, LinesRan, MayRun, MayAllRun, WordsStand, asked_own, count_of_caller, row_at}
 use Rattle.cc_lines.specs.Holds.{NamesStand, NamesState}
-use Rattle.cc_run.specs.Desks.{IsReady, IsSameRun}
+use Rattle.cc_run.specs.Desks.{PassIsReady, IsSameRun}
 use Rattle.atomic_table.specs.Seated.{TableId}
 use Rattle.cc_lines.specs.Line.{IsServable}
 use Rattle.cc_lines.specs.Queues.{PlacesWent, queues_of}
 use Rattle.cc_lines.specs.declared.queues.Queues.{Queues}
-use Rattle.cc_run.specs.Lines.{AllStand, IsCaller, KeepRoom, MayServe, after_lines, asked_by, bound_by}
+use Rattle.cc_run.specs.Lines.{AllStand, IsCaller, KeepRoom, MayServe, after_lines, asked_by_caller, bound_by}
 use Rattle.cc_run.specs.Phases.{PhaseEnds}
 use Rattle.cc_run.specs.Threads.{AreJoined, AreRooms, AreSplit, MayJoin, MaySplit, Merged, under_way_of}
 use Rattle.cc_run.specs.declared.callers.Caller.{Caller}
@@ -47,7 +47,7 @@ use Rattle.cc_run.specs.Ticks.{HasTickRoom, TicksMade}
 use Rattle.cc_run.specs.Aheads.{HasStepRoom, StepsMade}
 use Rattle.cc_run.specs.Places.{AreOfQueues, PlacesRan}
 use Rattle.cc_run.specs.Workers.{MayStepOn, MayWork, StepperRan, WorkerRan}
-use Rattle.cc_run.specs.declared.callers.Finished.{Finished}
+use Rattle.cc_run.specs.declared.callers.FinishedCaller.{FinishedCaller}
 use Rattle.cc_run.specs.declared.aheads.Aheads.{Aheads}
 use Rattle.cc_run.specs.declared.ticks.Ticks.{Ticks}
 use Rattle.cc_run.specs.declared.workers.Stepper.{Stepper}
@@ -111,14 +111,14 @@ turned-at xs n x sixteen within at =
     one.1 ∙ ap Some (sym same)
 
 -- of a phase, the lines of a caller are all its lines
-asked-phase : (phase me : ℕ) (lines : List ActionLine) (replies : List LineReply) → AllByRecursion (λ line. line.phase ≡ phase) lines → asked_of (is_of_phase phase me) lines replies ≡ asked_by me lines replies
+asked-phase : (phase me : ℕ) (lines : List ActionLine) (replies : List LineReply) → AllByRecursion (λ line. line.phase ≡ phase) lines → asked_of (is_of_phase phase me) lines replies ≡ asked_by_caller me lines replies
 asked-phase phase me [] replies those = refl
 asked-phase phase me (line ∷ lines) [] those = refl
 asked-phase phase me (line ∷ lines) (reply ∷ replies) those =
     rw (eq-eqb line.phase phase those.0, asked-phase phase me lines replies those.1) (by (line.caller == me))
   where
     asked : List (Action × Answer)
-    asked = asked_by me lines replies
+    asked = asked_by_caller me lines replies
 
     by : (b : Bool) → (if b && true then (line.action, reply.answer) ∷ asked else asked) ≡ (if b then (line.action, reply.answer) ∷ asked else asked)
     by true = refl
@@ -141,7 +141,7 @@ past-workers n above lazy ahead = by (below-or 16 n) (below-or 17 n)
 
 module _ {D L Q : Type 0} (tells : Tells D L Q) (board : BoardState D L) (lines : List ActionLine) where
   -- each caller ended so
-  ran-at : (callers : List (Caller D L Q)) (ended : List (Finished D L Q)) (n : ℕ) (caller : Caller D L Q) → AllRan tells board lines callers ended → slice_get callers n ≡ Some caller → (one : Finished D L Q) × (slice_get ended n ≡ Some one) × CallerRan tells board lines caller one
+  ran-at : (callers : List (Caller D L Q)) (ended : List (FinishedCaller D L Q)) (n : ℕ) (caller : Caller D L Q) → AllRan tells board lines callers ended → slice_get callers n ≡ Some caller → (one : FinishedCaller D L Q) × (slice_get ended n ≡ Some one) × CallerRan tells board lines caller one
   ran-at [] ended n caller ran at = absurd (cc (at))
   ran-at (c ∷ callers) [] n caller ran at = absurd ran
   ran-at (c ∷ callers) (one ∷ ended) zero caller ran at =
@@ -150,13 +150,13 @@ module _ {D L Q : Type 0} (tells : Tells D L Q) (board : BoardState D L) (lines 
   ran-at (c ∷ callers) (one ∷ ended) (suc n) caller ran at = ran-at callers ended n caller ran.1 at
 
   -- each pass is of the board, and has nothing under way
-  all-here : (callers : List (Caller D L Q)) (ended : List (Finished D L Q)) → AllRan tells board lines callers ended → AllByRecursion (λ one. IsOf board one.pass) ended
+  all-here : (callers : List (Caller D L Q)) (ended : List (FinishedCaller D L Q)) → AllRan tells board lines callers ended → AllByRecursion (λ one. IsOfBoard board one.pass) ended
   all-here [] [] ran = tt
   all-here [] (one ∷ ended) ran = absurd ran
   all-here (c ∷ callers) [] ran = absurd ran
   all-here (c ∷ callers) (one ∷ ended) ran = (ran.0.here, all-here callers ended ran.1)
 
-  none-left : (callers : List (Caller D L Q)) (ended : List (Finished D L Q)) → AllRan tells board lines callers ended → under_way_of ended ≡ 0
+  none-left : (callers : List (Caller D L Q)) (ended : List (FinishedCaller D L Q)) → AllRan tells board lines callers ended → under_way_of ended ≡ 0
   none-left [] [] ran = refl
   none-left [] (one ∷ ended) ran = absurd ran
   none-left (c ∷ callers) [] ran = absurd ran
@@ -165,7 +165,7 @@ module _ {D L Q : Type 0} (tells : Tells D L Q) (board : BoardState D L) (lines 
 
 -- ---- the phase
 
-module _ {D L Q : Type 0} (told : D → Option Disk) (faults : D → ℕ) (log_told : L → Option Log) (log_faults : L → ℕ) (posted : Q → Bool) (desk : DeskState D L Q) (board : BoardState D L) (first : FirstState D L) (ready : IsReady (standing_of told faults log_told log_faults desk)) (opened : IsOpened desk 18 board first) where
+module _ {D L Q : Type 0} (told : D → Option Disk) (faults : D → ℕ) (log_told : L → Option Log) (log_faults : L → ℕ) (posted : Q → Bool) (desk : DeskState D L Q) (board : BoardState D L) (first : FirstState D L) (ready : PassIsReady (standing_of told faults log_told log_faults desk)) (opened : BoardIsOpened desk 18 board first) where
   pub may-split : MaySplit board first
   may-split = record {
     here = opened.is_of;
@@ -214,8 +214,8 @@ module _ {D L Q : Type 0} (told : D → Option Disk) (faults : D → ℕ) (log_t
               bindings = words.bindings (suc n);
               stand = words-at words.bounds words.bindings n caller at words.stand;
               right = subst (λ k. AreUsedRight k (words.bounds (suc n)) lines) (sym is.number_is) (words.right (suc n));
-              room = subst (λ k. IsRoomFor (count_of k lines) caller.room.items (vec_capacity caller.room)) number
-                  (subst (λ (room : Vec Answer Global). IsRoomFor (count_of (16 - (15 - n)) lines) room.items (vec_capacity room)) (sym is.room_is) (are.each (15 - n) made.0 made.2));
+              room = subst (λ k. IsRoomFor (count_of_caller k lines) caller.room.items (vec_capacity caller.room)) number
+                  (subst (λ (room : Vec Answer Global). IsRoomFor (count_of_caller (16 - (15 - n)) lines) room.items (vec_capacity room)) (sym is.room_is) (are.each (15 - n) made.0 made.2));
               word_room =
                   subst (λ k. length caller.names.named + words_bound k lines ≤ caller.names.room) (sym is.number_is) (words.room n caller.names (names-at n caller at));
             }
@@ -303,7 +303,7 @@ module _ {D L Q : Type 0} (told : D → Option Disk) (faults : D → ℕ) (log_t
           room = subst HasStepRoom (sym aheads_are) room;
         }
 
-        module _ (ended : List (Finished D L Q)) (ran : AllRan (tells_of told faults log_told log_faults posted) board lines callers ended) (worked : Worker D L Q) (worker_ran : WorkerRan (tells_of told faults log_told log_faults posted) board phase worker worked) (stepped : Stepper D L Q) (stepper_ran : StepperRan (tells_of told faults log_told log_faults posted) board phase stepper stepped) where
+        module _ (ended : List (FinishedCaller D L Q)) (ran : AllRan (tells_of told faults log_told log_faults posted) board lines callers ended) (worked : Worker D L Q) (worker_ran : WorkerRan (tells_of told faults log_told log_faults posted) board phase worker worked) (stepped : Stepper D L Q) (stepper_ran : StepperRan (tells_of told faults log_told log_faults posted) board phase stepper stepped) where
           as-many : length ended ≡ 16
           as-many = all-ran-long (tells_of told faults log_told log_faults posted) board lines callers ended ran ∙ split.counted
 
@@ -318,7 +318,7 @@ module _ {D L Q : Type 0} (told : D → Option Disk) (faults : D → ℕ) (log_t
             pub first-joined : IsFirstOf board joined_first
             first-joined = joined.board_is ∙ (ap (λ f. f.board) parted_too.old_is ∙ second-split)
 
-            abbrev end_of : Finished D L Q → ℕ × List Entry
+            abbrev end_of : FinishedCaller D L Q → ℕ × List Entry
             end_of one = (one.pass.knows.number, one.pass.knows.seen)
 
             callers-ended : joined_first.knows.ended ≡ map end_of ended ++ []
@@ -330,13 +330,13 @@ module _ {D L Q : Type 0} (told : D → Option Disk) (faults : D → ℕ) (log_t
             abbrev answers : List (List Answer)
             answers = map (λ (row : Vec Answer Global). row.items) rows
 
-            abbrev turn : Finished D L Q → List Answer
+            abbrev turn : FinishedCaller D L Q → List Answer
             turn one = reverse one.answers.items
 
             rows-turned : answers ≡ reverse (map turn ended)
             rows-turned = joined.rows_are ∙ turned turn ended
 
-            row-is : (n : ℕ) (one : Finished D L Q) → n < 16 → slice_get ended n ≡ Some one → row_at answers (suc n) ≡ one.answers.items
+            row-is : (n : ℕ) (one : FinishedCaller D L Q) → n < 16 → slice_get ended n ≡ Some one → row_at answers (suc n) ≡ one.answers.items
             row-is n one within at =
                 let count : length (map turn ended) ≡ 16 = long turn ended ∙ as-many in
                 let place : length (map turn ended) - 1 - (16 - suc n) ≡ n = omega (arith, count, within) in
@@ -349,7 +349,7 @@ module _ {D L Q : Type 0} (told : D → Option Disk) (faults : D → ℕ) (log_t
             -- the caller of a number, and how it ended
             record Ended (n : ℕ) : Type 0 where
               caller : Caller D L Q
-              one : Finished D L Q
+              one : FinishedCaller D L Q
               at : slice_get ended n ≡ Some one
               ran_so : CallerRan (tells_of told faults log_told log_faults posted) board lines caller one
               caller_at : slice_get callers n ≡ Some caller
@@ -373,13 +373,13 @@ module _ {D L Q : Type 0} (told : D → Option Disk) (faults : D → ℕ) (log_t
 
             -- what is kept of the callers' words, from the first on
             module _ (names : List NamesState) (names_back : names ≡ reverse joined_names) where
-              abbrev named : Finished D L Q → NamesState
+              abbrev named : FinishedCaller D L Q → NamesState
               named one = one.names
 
               names-are : names ≡ map named ended
               names-are = names_back ∙ (ap reverse (joined.names_are ∙ turned named ended) ∙ reverse_twice (map named ended))
 
-              names-of : (n : ℕ) (one : Finished D L Q) (row : NamesState) → slice_get ended n ≡ Some one → slice_get names n ≡ Some row → row ≡ one.names
+              names-of : (n : ℕ) (one : FinishedCaller D L Q) (row : NamesState) → slice_get ended n ≡ Some one → slice_get names n ≡ Some row → row ≡ one.names
               names-of n one row at here =
                   let there_too : slice_get names n ≡ Some one.names = ap (λ l. slice_get l n) names-are ∙ mapped-there named ended n one at in
                   some-same row one.names (sym here ∙ there_too)
@@ -397,14 +397,14 @@ module _ {D L Q : Type 0} (told : D → Option Disk) (faults : D → ℕ) (log_t
                       let same : e.caller.names ≡ before = some-same e.caller.names before (sym (names-at n e.caller e.caller_at) ∙ first) in
                       ap (λ r. r.room) is ∙ (e.ran_so.word_room ∙ ap (λ r. r.room) same)
 
-            pub are-rows : AreRows lines answers
+            pub are-rows : AreAnswerRows lines answers
             are-rows = (ap length rows-turned ∙ (length-reverse (map turn ended) ∙ (long turn ended ∙ as-many)), each)
               where
-                each : (me : ℕ) → 1 ≤ me → me ≤ 16 → length (row_at answers me) ≡ count_of me lines
+                each : (me : ℕ) → 1 ≤ me → me ≤ 16 → length (row_at answers me) ≡ count_of_caller me lines
                 each zero least most = absurd (omega (arith, least))
                 each (suc n) least most =
                     let e = ended-at n (omega (arith, most)) in
-                    ap length (row-is n e.one (omega (arith, most)) e.at) ∙ (e.ran_so.whole ∙ ap (λ k. count_of k lines) e.number_is)
+                    ap length (row-is n e.one (omega (arith, most)) e.at) ∙ (e.ran_so.whole ∙ ap (λ k. count_of_caller k lines) e.number_is)
 
             -- the passes of the workers were joined last
             module _ (then_first : FirstState D L) (then_joined : then_first ≡ after_join joined_first worked.pass) where
@@ -490,7 +490,7 @@ module _ {D L Q : Type 0} (told : D → Option Disk) (faults : D → ℕ) (log_t
                     logs = ap (λ b. (standing_of told faults log_told log_faults (record now { begun = b })).logs) begun;
                   }
 
-              pub ready-now : IsReady (standing_of told faults log_told log_faults now)
+              pub ready-now : PassIsReady (standing_of told faults log_told log_faults now)
               ready-now = record {
                 free = closed.held_is;
                 at_rest =
@@ -535,13 +535,13 @@ module _ {D L Q : Type 0} (told : D → Option Disk) (faults : D → ℕ) (log_t
               places-on-board names names_back before after those merged =
                   places-ran lines before after merged.answers was names desk.last.entries now.last.entries merged.grew (record { each = each })
                 where
-                  each : (n : ℕ) (a b : NamesState) → slice_get was n ≡ Some a → slice_get names n ≡ Some b → PlacesWent (suc n) (asked_by (suc n) lines merged.answers) a.places b.places desk.last.entries now.last.entries
+                  each : (n : ℕ) (a b : NamesState) → slice_get was n ≡ Some a → slice_get names n ≡ Some b → PlacesWent (suc n) (asked_by_caller (suc n) lines merged.answers) a.places b.places desk.last.entries now.last.entries
                   each n a b first second =
                       let within : n < 16 = omega (arith, slice_get_within was n a first, sixteen) in
                       let e = ended-at n within in
                       let a_is : a ≡ e.caller.names = some-same a e.caller.names (sym first ∙ names-at n e.caller e.caller_at) in
                       let b_is : b ≡ e.one.names = names-of names names_back n e.one b e.at second in
-                      let told : asked_by (suc n) lines merged.answers ≡ asked_own (suc n) lines e.one.answers.items =
+                      let told : asked_by_caller (suc n) lines merged.answers ≡ asked_own (suc n) lines e.one.answers.items =
                       sym (asked-phase phase (suc n) lines merged.answers those)
                       ∙ (merged.asked phase (suc n) those (omega arith) (omega (arith, within)) ∙ ap (asked_own (suc n) lines) (row-is n e.one within e.at)) in
                       let went = e.ran_so.placed in
@@ -595,7 +595,7 @@ module _ {D L Q : Type 0} (told : D → Option Disk) (faults : D → ℕ) (log_t
                     let there_then = (own-ran n e).stand in
                     let streams : length board.begun.disks ≡ length desk.begun.disks = ap (λ b. length b.disks) opened.run_is in
                     let number : e.one.pass.knows.number ≡ suc n = e.ran_so.number ∙ e.number_is in
-                    let told_all : asked_by (suc n) lines merged.answers ≡ asked_own (suc n) lines e.one.answers.items =
+                    let told_all : asked_by_caller (suc n) lines merged.answers ≡ asked_own (suc n) lines e.one.answers.items =
                     sym (asked-phase phase (suc n) lines merged.answers those) ∙ own-asked n e within in
                     let seen : NamesStand (length desk.begun.disks) (suc n) e.one.pass.knows.seen (bound_by lines bounds (suc n)) (bindings_of (bindings (suc n)) (asked_own (suc n) lines e.one.answers.items)) e.one.names.named =
                     rw (streams, number, e.number_is) at there_then in
@@ -614,7 +614,7 @@ module _ {D L Q : Type 0} (told : D → Option Disk) (faults : D → ℕ) (log_t
 
 -- a desk that came back is ready as before, in the same run
 module _ {D L Q : Type 0} (told : D → Option Disk) (faults : D → ℕ) (log_told : L → Option Log) (log_faults : L → ℕ) (desk back : DeskState D L Q) (handed : IsHandedBack desk back) where
-  pub back-ready : IsReady (standing_of told faults log_told log_faults desk) → IsReady (standing_of told faults log_told log_faults back)
+  pub back-ready : PassIsReady (standing_of told faults log_told log_faults desk) → PassIsReady (standing_of told faults log_told log_faults back)
   back-ready ready = record {
     free = handed.held_is;
     at_rest = handed.under_way_is ∙ ready.at_rest;

@@ -10,7 +10,7 @@ use Rattle.cc_entry.specs.declared.entry.Entry.{Entry}
 use Rattle.cc_entry.specs.declared.place.Request.{Request}
 use Rattle.cc_script.specs.declared.script.ActionLine.{ActionLine}
 use Rattle.cc_script.specs.declared.script.Script.{Script}
-use Rattle.cc_script.specs.Within.{IsWithin}
+use Rattle.cc_script.specs.Within.{ScriptIsWithin}
 use Rattle.cc_model.specs.Setup.{Setup}
 use Rattle.cc_effects.specs.Moments.{IsIdle}
 use Rattle.cc_pieces.specs.Rooms.{is_alone}
@@ -18,7 +18,7 @@ use Rattle.cc_pieces.specs.Runs.{asked_of}
 use Rattle.cc_pieces.specs.Phases.{Plan, PhaseRan, PhasesRan, is_before_phase, is_of_phase, lines_before}
 use Rattle.cc_pieces.specs.Explained.{IsExplained}
 use Rattle.cc_pieces.proofs.AskedLines.{asked-none}
-use Rattle.cc_run.specs.Lines.{StreamsOpened, after_lines, asked_by}
+use Rattle.cc_run.specs.Lines.{StreamsOpened, after_lines, asked_by_caller}
 use Rattle.cc_program.specs.Runs.{given_of, run_answered}
 use Rattle.cc_run.specs.Once.{AllTellPart, AreToldOnce}
 use Rattle.cc_run.specs.Phases.{PhaseLeft, PhasesLeft, PhasesServed}
@@ -26,7 +26,7 @@ use Rattle.cc_run.specs.Aheads.{StepsLeft}
 use Rattle.cc_run.specs.Ticks.{TicksLeft}
 use Rattle.cc_run.proofs.Lists.{all-map, all-join}
 use Rattle.cc_restarts.specs.declared.ended.LogRestart.{LogRestart}
-use Rattle.cc_run.specs.Begun.{HasBegun}
+use Rattle.cc_run.specs.Begun.{RunHasBegun}
 use Rattle.cc_run.proofs.Begins.{streams-long}
 use Rattle.cc_run.proofs.Ending.{ended-lines, restarted-ended}
 use Rattle.cc_run.proofs.Opening.{opened-left}
@@ -59,7 +59,7 @@ is_before q me line less = rw (lt-ltb line.phase q less) (by (line.caller == me)
     by false = refl
 
 -- what a caller was asked before a phase, of the earlier phases' lines
-asked-earlier : (q me : ℕ) (lines : List ActionLine) (replies : List LineReply) → AllByRecursion (λ line. line.phase < q) lines → asked_of (is_before_phase q me) lines replies ≡ asked_by me lines replies
+asked-earlier : (q me : ℕ) (lines : List ActionLine) (replies : List LineReply) → AllByRecursion (λ line. line.phase < q) lines → asked_of (is_before_phase q me) lines replies ≡ asked_by_caller me lines replies
 asked-earlier q me [] replies less = refl
 asked-earlier q me (line ∷ lines) [] less = refl
 asked-earlier q me (line ∷ lines) (reply ∷ replies) less = rw (is_before q me line less.0, asked-earlier q me lines replies less.1) refl
@@ -123,7 +123,7 @@ module _ (u : Setup) (ticks aheads : ℕ) (all : List ActionLine) (answers : Lis
       behind : AllByRecursion (λ line. line.phase ≢ phase) later
       behind = all-map (λ line. phase < line.phase) (λ line. line.phase ≢ phase) later (λ line higher e. omega (arith, higher, e)) more
 
-      asked-before : (me : ℕ) → lines_before plan phase me ≡ asked_by me earlier told
+      asked-before : (me : ℕ) → lines_before plan phase me ≡ asked_by_caller me earlier told
       asked-before me =
           let test = is_before_phase phase me in
           let rest : AllByRecursion (λ line. phase ≤ line.phase) (last ++ later) =
@@ -217,7 +217,7 @@ module _ (u : Setup) (ticks aheads : ℕ) (all : List ActionLine) (answers : Lis
       (phases-ran n 0 all [] answers [] ticked [] stepped [] took [] old new new (sym (append-nil all)) (sym (append-nil answers)) tt left (refl, refl, refl, refl)))))
 
 -- What the restarts, the streams and the phases of a script left, one after the other, explains all answers.
-pub run-explained : (u v : Setup) (script : Script) (restarted : List LogRestart) (ended between replies kept all ticked stepped : List LineReply) (took : List Request) (ends begun past : List Entry) → IsWithin script → v ≡ u → all ≡ ended ++ kept → HasBegun u script restarted ended between ends begun → PhasesServed v script.ticks script.aheads script.phases script.lines between replies ticked stepped took begun past → AreToldOnce script.streams script.lines replies kept → IsExplained u (given_of script) (run_answered all ticked stepped) took past
+pub run-explained : (u v : Setup) (script : Script) (restarted : List LogRestart) (ended between replies kept all ticked stepped : List LineReply) (took : List Request) (ends begun past : List Entry) → ScriptIsWithin script → v ≡ u → all ≡ ended ++ kept → RunHasBegun u script restarted ended between ends begun → PhasesServed v script.ticks script.aheads script.phases script.lines between replies ticked stepped took begun past → AreToldOnce script.streams script.lines replies kept → IsExplained u (given_of script) (run_answered all ticked stepped) took past
 run-explained u v script restarted ended between replies kept all ticked stepped took ends begun past within same all_is begins served_by told = record {
   ended = ended;
   setup = opened.answers;
@@ -252,7 +252,7 @@ run-explained u v script restarted ended between replies kept all ticked stepped
         (told-parts script.streams opened.answers served.answers between replies opened.grew served.grew setup_long) told.part
 
 -- each stream and each line has a reply
-pub run-long : (u v : Setup) (script : Script) (restarted : List LogRestart) (ended between replies ticked stepped : List LineReply) (took : List Request) (ends begun past : List Entry) → HasBegun u script restarted ended between ends begun → PhasesServed v script.ticks script.aheads script.phases script.lines between replies ticked stepped took begun past → length replies ≡ length script.streams + length script.lines
+pub run-long : (u v : Setup) (script : Script) (restarted : List LogRestart) (ended between replies ticked stepped : List LineReply) (took : List Request) (ends begun past : List Entry) → RunHasBegun u script restarted ended between ends begun → PhasesServed v script.ticks script.aheads script.phases script.lines between replies ticked stepped took begun past → length replies ≡ length script.streams + length script.lines
 run-long u v script restarted ended between replies ticked stepped took ends begun past begins served =
     omega (
       arith,

@@ -21,7 +21,7 @@ use Rattle.cc_lines.specs.declared.queues.Queues.{Queues}
 use Rattle.cc_pieces.proofs.AsyncPlaces.{async-none, async-then}
 use Rattle.cc_pieces.proofs.PlaceSteps.{place-idle, place-then}
 use Rattle.cc_queue.specs.Places.{PlaceState}
-use Rattle.cc_run.specs.Lines.{asked_by}
+use Rattle.cc_run.specs.Lines.{asked_by_caller}
 use Rattle.cc_run.specs.Places.{AreOfQueues, PlacesRan}
 use Rattle.cc_run.proofs.Lists.{there}
 use Rattle.cc_run.proofs.LinesRan.{put-other, put-same}
@@ -90,12 +90,12 @@ same-answers before after answers others one two =
 -- lines with these answers did this
 pub record PlacesSo (lines : List ActionLine) (answers : List LineReply) (was now : List NamesState) (old new : List Entry) : Type 0 where
   pub each : (n : ℕ) (a b : NamesState) → slice_get was n ≡ Some a → slice_get now n ≡ Some b →
-      PlacesWent (suc n) (asked_by (suc n) lines answers) a.places b.places old new
+      PlacesWent (suc n) (asked_by_caller (suc n) lines answers) a.places b.places old new
 
 pub places-ran : (lines : List ActionLine) (before after answers : List LineReply) (was now : List NamesState) (old new : List Entry) → after ≡ before ++ answers → PlacesSo lines answers was now old new → PlacesRan lines before after was now old new
 places-ran lines before after answers was now old new grew so = record {
   each = λ others n a b is first second.
-      subst (λ l. PlacesWent (suc n) (asked_by (suc n) lines l) a.places b.places old new) (same-answers before after answers others grew is) (so.each n a b first second);
+      subst (λ l. PlacesWent (suc n) (asked_by_caller (suc n) lines l) a.places b.places old new) (same-answers before after answers others grew is) (so.each n a b first second);
 }
 
 pub places-so : (lines : List ActionLine) (before after answers : List LineReply) (was now : List NamesState) (old new : List Entry) → after ≡ before ++ answers → PlacesRan lines before after was now old new → PlacesSo lines answers was now old new
@@ -113,10 +113,10 @@ places-none rows past = record {
 }
 
 -- what a line asks of its caller, and of another
-asked-own : (me : ℕ) (line : ActionLine) (reply : LineReply) → line.caller ≡ me → asked_by me (line ∷ []) (reply ∷ []) ≡ (line.action, reply.answer) ∷ []
+asked-own : (me : ℕ) (line : ActionLine) (reply : LineReply) → line.caller ≡ me → asked_by_caller me (line ∷ []) (reply ∷ []) ≡ (line.action, reply.answer) ∷ []
 asked-own me line reply own = rw (eq-eqb line.caller me own) refl
 
-asked-other : (me : ℕ) (line : ActionLine) (reply : LineReply) → line.caller ≢ me → asked_by me (line ∷ []) (reply ∷ []) ≡ []
+asked-other : (me : ℕ) (line : ActionLine) (reply : LineReply) → line.caller ≢ me → asked_by_caller me (line ∷ []) (reply ∷ []) ≡ []
 asked-other me line reply apart = rw (ne_eqb line.caller me apart) refl
 
 -- one line more
@@ -125,30 +125,30 @@ places-more lines answers line reply was rows k names now old between new long i
   each = λ n a b first second. by n a b first second (k == n) refl;
 }
   where
-    by : (n : ℕ) (a b : NamesState) → slice_get was n ≡ Some a → slice_get (slice_set rows k now) n ≡ Some b → (here : Bool) → (k == n) ≡ here → PlacesWent (suc n) (asked_by (suc n) (lines ++ line ∷ []) (answers ++ reply ∷ [])) a.places b.places old new
+    by : (n : ℕ) (a b : NamesState) → slice_get was n ≡ Some a → slice_get (slice_set rows k now) n ≡ Some b → (here : Bool) → (k == n) ≡ here → PlacesWent (suc n) (asked_by_caller (suc n) (lines ++ line ∷ []) (answers ++ reply ∷ [])) a.places b.places old new
     by n a b first second true which =
         let here : k ≡ n = eqb-true k n which in
         let own : line.caller ≡ suc n = is ∙ ap suc here in
         let b_is : now ≡ b = put-same rows k now b (subst (λ m. slice_get (slice_set rows k now) m ≡ Some b) (sym here) second) in
-        let before : PlacesWent (suc n) (asked_by (suc n) lines answers) a.places names.places old between =
+        let before : PlacesWent (suc n) (asked_by_caller (suc n) lines answers) a.places names.places old between =
         so.each n a names first (subst (λ m. slice_get rows m ≡ Some names) here at) in
         let last : PlacesWent (suc n) ((line.action, reply.answer) ∷ []) names.places b.places between new =
         subst (λ (c : NamesState). PlacesWent (suc n) ((line.action, reply.answer) ∷ []) names.places c.places between new) b_is
         (subst (λ me. PlacesWent me ((line.action, reply.answer) ∷ []) names.places now.places between new) own one) in
-        let shape : asked_by (suc n) (lines ++ line ∷ []) (answers ++ reply ∷ []) ≡ asked_by (suc n) lines answers ++ (line.action, reply.answer) ∷ [] =
-        asked-append (λ line. line.caller == suc n) lines (line ∷ []) answers (reply ∷ []) long ∙ ap (λ l. asked_by (suc n) lines answers ++ l) (asked-own (suc n) line reply own) in
+        let shape : asked_by_caller (suc n) (lines ++ line ∷ []) (answers ++ reply ∷ []) ≡ asked_by_caller (suc n) lines answers ++ (line.action, reply.answer) ∷ [] =
+        asked-append (λ line. line.caller == suc n) lines (line ∷ []) answers (reply ∷ []) long ∙ ap (λ l. asked_by_caller (suc n) lines answers ++ l) (asked-own (suc n) line reply own) in
         subst (λ l. PlacesWent (suc n) l a.places b.places old new) (sym shape)
-        (both-then (suc n) (asked_by (suc n) lines answers) ((line.action, reply.answer) ∷ []) a.places names.places b.places old between new before last)
+        (both-then (suc n) (asked_by_caller (suc n) lines answers) ((line.action, reply.answer) ∷ []) a.places names.places b.places old between new before last)
     by n a b first second false which =
         let away : k ≢ n = eqb-false k n which in
         let apart : line.caller ≢ suc n = λ e. away (omega (arith, is, e)) in
-        let before : PlacesWent (suc n) (asked_by (suc n) lines answers) a.places b.places old between =
+        let before : PlacesWent (suc n) (asked_by_caller (suc n) lines answers) a.places b.places old between =
         so.each n a b first (put-other rows k n now b away second) in
-        let shape : asked_by (suc n) (lines ++ line ∷ []) (answers ++ reply ∷ []) ≡ asked_by (suc n) lines answers =
+        let shape : asked_by_caller (suc n) (lines ++ line ∷ []) (answers ++ reply ∷ []) ≡ asked_by_caller (suc n) lines answers =
         asked-append (λ line. line.caller == suc n) lines (line ∷ []) answers (reply ∷ []) long
-        ∙ (ap (λ l. asked_by (suc n) lines answers ++ l) (asked-other (suc n) line reply apart) ∙ append-nil (asked_by (suc n) lines answers)) in
+        ∙ (ap (λ l. asked_by_caller (suc n) lines answers ++ l) (asked-other (suc n) line reply apart) ∙ append-nil (asked_by_caller (suc n) lines answers)) in
         subst (λ l. PlacesWent (suc n) l a.places b.places old new) (sym shape)
-        (both-on (suc n) (asked_by (suc n) lines answers) a.places b.places old between new before (alone (suc n) (λ e. apart (sym e))))
+        (both-on (suc n) (asked_by_caller (suc n) lines answers) a.places b.places old between new before (alone (suc n) (λ e. apart (sym e))))
 
 -- lines after lines
 pub places-then : (first rest : List ActionLine) (told answers : List LineReply) (was mid now : List NamesState) (old between new : List Entry) → length first ≡ length told → length mid ≡ length was → PlacesSo first told was mid old between → PlacesSo rest answers mid now between new → PlacesSo (first ++ rest) (told ++ answers) was now old new
@@ -156,7 +156,7 @@ places-then first rest told answers was mid now old between new long rows one tw
   each = λ n a b at there_now.
       let here = there mid n (omega (arith, slice_get_within was n a at, rows)) in
       subst (λ l. PlacesWent (suc n) l a.places b.places old new) (sym (asked-append (λ line. line.caller == suc n) first rest told answers long))
-      (both-then (suc n) (asked_by (suc n) first told) (asked_by (suc n) rest answers) a.places here.0.places b.places old between new
+      (both-then (suc n) (asked_by_caller (suc n) first told) (asked_by_caller (suc n) rest answers) a.places here.0.places b.places old between new
       (one.each n a here.0 at here.1) (two.each n here.0 b here.1 there_now));
 }
 
@@ -165,7 +165,7 @@ pub places-on : (lines : List ActionLine) (before after : List LineReply) (was n
 places-on lines before after was now old between new sixteen ran idle = record {
   each = λ answers n a b grew first second.
       let within : n < 16 = omega (arith, slice_get_within was n a first, sixteen) in
-      both-on (suc n) (asked_by (suc n) lines answers) a.places b.places old between new (ran.each answers n a b grew first second) (idle (suc n) (omega arith) (omega (arith, within)));
+      both-on (suc n) (asked_by_caller (suc n) lines answers) a.places b.places old between new (ran.each answers n a b grew first second) (idle (suc n) (omega arith) (omega (arith, within)));
 }
 
 -- ---- the queues of the places
@@ -198,4 +198,4 @@ pub own-after : (queues : Queues) (lines : List ActionLine) (answers : List Line
 own-after queues lines answers was now old new rows own so =
     all-of queues now (λ n b at.
     let a = there was n (omega (arith, slice_get_within now n b at, rows)) in
-    own-went queues (suc n) (asked_by (suc n) lines answers) a.0.places b.places old new (so.each n a.0 b a.1 at) (own-at queues was n a.0 own a.1))
+    own-went queues (suc n) (asked_by_caller (suc n) lines answers) a.0.places b.places old new (so.each n a.0 b a.1 at) (own-at queues was n a.0 own a.1))

@@ -15,7 +15,7 @@ use Rattle.cc_entry.specs.declared.answer.LineReply.{LineReply}
 use Rattle.cc_entry.specs.declared.entry.Entry.{Entry}
 use Rattle.cc_script.specs.declared.script.ActionLine.{ActionLine}
 use Rattle.cc_script.specs.EventActions.{defer_lines, is_defer}
-use Rattle.cc_pieces.specs.Steps.{PostsLeft, deferral_in, deferrals_of, was_posted}
+use Rattle.cc_pieces.specs.Steps.{RoutinesLeft, deferral_in, deferrals_of_lines, was_posted}
 use Rattle.cc_run.proofs.Lists.{there}
 
 -- what a list has behind a change of one place
@@ -35,7 +35,7 @@ none-there : (k : ℕ) → slice_get {X = Option ℕ} [] k ≡ slice_get [] 0
 none-there k = refl
 
 -- the routines as they were handed in, where no write was deferred
-pub posts-kept : {Q : Type 0} (posted : Q → Bool) (deferrals : List (Option ℕ)) (past : List Entry) (posts : List Q) → deferrals ≡ [] → All (λ routine. posted routine ≡ false) posts → PostsLeft posted deferrals past posts posts
+pub posts-kept : {Q : Type 0} (posted : Q → Bool) (deferrals : List (Option ℕ)) (past : List Entry) (posts : List Q) → deferrals ≡ [] → All (λ routine. posted routine ≡ false) posts → RoutinesLeft posted deferrals past posts posts
 posts-kept posted deferrals past posts none unposted = record {
   counted = refl;
   each = λ k routine at. unposted-at k routine at ∙ sym (ap (λ l. was_posted past (slice_get l k)) none);
@@ -50,7 +50,7 @@ posts-kept posted deferrals past posts none unposted = record {
 -- ---- one `defer` line more
 
 -- the deferral of the last line, where it has one
-pub deferrals-more : (lines : List ActionLine) (replies : List LineReply) (line : ActionLine) (reply : LineReply) → length lines ≡ length replies → deferrals_of (lines ++ line ∷ []) (replies ++ reply ∷ []) ≡ deferrals_of lines replies ++ (if is_defer line.action then deferral_in reply.answer ∷ [] else [])
+pub deferrals-more : (lines : List ActionLine) (replies : List LineReply) (line : ActionLine) (reply : LineReply) → length lines ≡ length replies → deferrals_of_lines (lines ++ line ∷ []) (replies ++ reply ∷ []) ≡ deferrals_of_lines lines replies ++ (if is_defer line.action then deferral_in reply.answer ∷ [] else [])
 deferrals-more [] [] line reply long = by (is_defer line.action)
   where
     by : (b : Bool) → (if b then deferral_in reply.answer ∷ [] else []) ≡ [] ++ (if b then deferral_in reply.answer ∷ [] else [])
@@ -63,18 +63,18 @@ deferrals-more (first ∷ lines) (told ∷ replies) line reply long = by (is_def
     last : List (Option ℕ)
     last = if is_defer line.action then deferral_in reply.answer ∷ [] else []
 
-    by : (b : Bool) → deferrals_of (lines ++ line ∷ []) (replies ++ reply ∷ []) ≡ deferrals_of lines replies ++ last → (if b then deferral_in told.answer ∷ deferrals_of (lines ++ line ∷ []) (replies ++ reply ∷ []) else deferrals_of (lines ++ line ∷ []) (replies ++ reply ∷ [])) ≡ (if b then deferral_in told.answer ∷ deferrals_of lines replies else deferrals_of lines replies) ++ last
+    by : (b : Bool) → deferrals_of_lines (lines ++ line ∷ []) (replies ++ reply ∷ []) ≡ deferrals_of_lines lines replies ++ last → (if b then deferral_in told.answer ∷ deferrals_of_lines (lines ++ line ∷ []) (replies ++ reply ∷ []) else deferrals_of_lines (lines ++ line ∷ []) (replies ++ reply ∷ [])) ≡ (if b then deferral_in told.answer ∷ deferrals_of_lines lines replies else deferrals_of_lines lines replies) ++ last
     by true rest = ap (λ l. deferral_in told.answer ∷ l) rest
     by false rest = rest
 
 -- there are as many deferrals as `defer` lines
-pub deferrals-long : (lines : List ActionLine) (replies : List LineReply) → length lines ≡ length replies → length (deferrals_of lines replies) ≡ defer_lines lines
+pub deferrals-long : (lines : List ActionLine) (replies : List LineReply) → length lines ≡ length replies → length (deferrals_of_lines lines replies) ≡ defer_lines lines
 deferrals-long [] [] long = refl
 deferrals-long [] (reply ∷ replies) long = absurd (omega (arith, long))
 deferrals-long (line ∷ lines) [] long = absurd (omega (arith, long))
 deferrals-long (line ∷ lines) (reply ∷ replies) long = by (is_defer line.action) (deferrals-long lines replies (omega (arith, long)))
   where
-    by : (b : Bool) → length (deferrals_of lines replies) ≡ defer_lines lines → length (if b then deferral_in reply.answer ∷ deferrals_of lines replies else deferrals_of lines replies) ≡ (if b then suc (defer_lines lines) else defer_lines lines)
+    by : (b : Bool) → length (deferrals_of_lines lines replies) ≡ defer_lines lines → length (if b then deferral_in reply.answer ∷ deferrals_of_lines lines replies else deferrals_of_lines lines replies) ≡ (if b then suc (defer_lines lines) else defer_lines lines)
     by true rest = ap suc rest
     by false rest = rest
 
@@ -109,13 +109,13 @@ module _ (past : List Entry) (d : Option ℕ) where
   posted-last [] = refl
   posted-last (first ∷ ds) = posted-last ds
 
-module _ {Q : Type 0} (posted : Q → Bool) (past : List Entry) (ds : List (Option ℕ)) (d : Option ℕ) (old new : List Q) (left : PostsLeft posted ds past old new) where
+module _ {Q : Type 0} (posted : Q → Bool) (past : List Entry) (ds : List (Option ℕ)) (d : Option ℕ) (old new : List Q) (left : RoutinesLeft posted ds past old new) where
   -- the routine of the next line was not posted yet
   pub next-unposted : (routine : Q) → slice_get new (length ds) ≡ Some routine → posted routine ≡ false
   next-unposted routine at = left.each (length ds) routine at ∙ ap (was_posted past) (slice_get_past ds (length ds) (omega arith))
 
   -- it is not posted
-  pub posts-not : was_posted past (Some d) ≡ false → PostsLeft posted (ds ++ d ∷ []) past old new
+  pub posts-not : was_posted past (Some d) ≡ false → RoutinesLeft posted (ds ++ d ∷ []) past old new
   posts-not none = record {
     counted = left.counted;
     each = λ k routine at. left.each k routine at ∙ sym (posted-as past d ds k none);
@@ -123,7 +123,7 @@ module _ {Q : Type 0} (posted : Q → Bool) (past : List Entry) (ds : List (Opti
   }
 
   -- it is posted
-  pub posts-one : (now : Q) → was_posted past (Some d) ≡ true → posted now ≡ true → PostsLeft posted (ds ++ d ∷ []) past old (slice_set new (length ds) now)
+  pub posts-one : (now : Q) → was_posted past (Some d) ≡ true → posted now ≡ true → RoutinesLeft posted (ds ++ d ∷ []) past old (slice_set new (length ds) now)
   posts-one now is done = record {
     counted = length-set new (length ds) now ∙ left.counted;
     each = each;
@@ -163,8 +163,8 @@ module _ {Q : Type 0} (posted : Q → Bool) (past : List Entry) (ds : List (Opti
 -- What the lines before one left: the routines of those that deferred are posted where the journal shows it.
 pub record PostedTo {Q : Type 0} (posted : Q → Bool) (lines : List ActionLine) (answers : List LineReply) (past : List Entry) (old : List Q) (at next : ℕ) (now : List Q) : Type 0 where
   pub within : at ≤ length lines
-  pub counted : next ≡ length (deferrals_of (take at lines) (take at answers))
-  pub left : PostsLeft posted (deferrals_of (take at lines) (take at answers)) past old now
+  pub counted : next ≡ length (deferrals_of_lines (take at lines) (take at answers))
+  pub left : RoutinesLeft posted (deferrals_of_lines (take at lines) (take at answers)) past old now
 
 pub posted-first : {Q : Type 0} (posted : Q → Bool) (lines : List ActionLine) (answers : List LineReply) (past : List Entry) (old : List Q) → All (λ routine. posted routine ≡ false) old → PostedTo posted lines answers past old 0 0 old
 posted-first posted lines answers past old unposted = record {
@@ -173,38 +173,38 @@ posted-first posted lines answers past old unposted = record {
   left = posts-kept posted [] past old refl unposted;
 }
 
-pub posted-all : {Q : Type 0} (posted : Q → Bool) (lines : List ActionLine) (answers : List LineReply) (past : List Entry) (old : List Q) (at next : ℕ) (now : List Q) → PostedTo posted lines answers past old at next now → length lines ≤ at → length answers ≡ length lines → PostsLeft posted (deferrals_of lines answers) past old now
+pub posted-all : {Q : Type 0} (posted : Q → Bool) (lines : List ActionLine) (answers : List LineReply) (past : List Entry) (old : List Q) (at next : ℕ) (now : List Q) → PostedTo posted lines answers past old at next now → length lines ≤ at → length answers ≡ length lines → RoutinesLeft posted (deferrals_of_lines lines answers) past old now
 posted-all posted lines answers past old at next now left end long =
     rw (take_all at lines end, take_all at answers (omega (arith, end, long))) at left.left
 
 module _ {Q : Type 0} (posted : Q → Bool) (lines : List ActionLine) (answers : List LineReply) (past : List Entry) (old : List Q) (at next : ℕ) (now : List Q) (line : ActionLine) (reply : LineReply) (long : length answers ≡ length lines) (less : at < length lines) (line_is : line ≡ get_or lines at line) (reply_is : reply ≡ get_or answers at reply) (left : PostedTo posted lines answers past old at next now) where
   abbrev ds : List (Option ℕ)
-  ds = deferrals_of (take at lines) (take at answers)
+  ds = deferrals_of_lines (take at lines) (take at answers)
 
   both : length (take at lines) ≡ length (take at answers)
   both = omega (arith, length-take at lines, length-take at answers, long)
 
-  more : deferrals_of (take (at + 1) lines) (take (at + 1) answers) ≡ ds ++ (if is_defer line.action then deferral_in reply.answer ∷ [] else [])
+  more : deferrals_of_lines (take (at + 1) lines) (take (at + 1) answers) ≡ ds ++ (if is_defer line.action then deferral_in reply.answer ∷ [] else [])
   more =
-      ap (λ l. deferrals_of l (take (at + 1) answers)) (take_more lines at line less ∙ ap (λ x. take at lines ++ x ∷ []) (sym line_is))
-      ∙ (ap (λ l. deferrals_of (take at lines ++ line ∷ []) l) (take_more answers at reply (omega (arith, less, long)) ∙ ap (λ x. take at answers ++ x ∷ []) (sym reply_is))
+      ap (λ l. deferrals_of_lines l (take (at + 1) answers)) (take_more lines at line less ∙ ap (λ x. take at lines ++ x ∷ []) (sym line_is))
+      ∙ (ap (λ l. deferrals_of_lines (take at lines ++ line ∷ []) l) (take_more answers at reply (omega (arith, less, long)) ∙ ap (λ x. take at answers ++ x ∷ []) (sym reply_is))
       ∙ deferrals-more (take at lines) (take at answers) line reply both)
 
   -- the line defers no write
   other-line : is_defer line.action ≡ false → PostedTo posted lines answers past old (at + 1) next now
   other-line not =
-      let same : deferrals_of (take (at + 1) lines) (take (at + 1) answers) ≡ ds = (rw not at more) ∙ append-nil ds in
+      let same : deferrals_of_lines (take (at + 1) lines) (take (at + 1) answers) ≡ ds = (rw not at more) ∙ append-nil ds in
       record {
         within = omega (arith, less);
         counted = left.counted ∙ sym (ap length same);
-        left = subst (λ l. PostsLeft posted l past old now) (sym same) left.left;
+        left = subst (λ l. RoutinesLeft posted l past old now) (sym same) left.left;
       }
 
   module _ (yes : is_defer line.action ≡ true) where
-    one_more : deferrals_of (take (at + 1) lines) (take (at + 1) answers) ≡ ds ++ deferral_in reply.answer ∷ []
+    one_more : deferrals_of_lines (take (at + 1) lines) (take (at + 1) answers) ≡ ds ++ deferral_in reply.answer ∷ []
     one_more = rw yes at more
 
-    counted_more : next + 1 ≡ length (deferrals_of (take (at + 1) lines) (take (at + 1) answers))
+    counted_more : next + 1 ≡ length (deferrals_of_lines (take (at + 1) lines) (take (at + 1) answers))
     counted_more = sym (ap length one_more ∙ (length-append ds (deferral_in reply.answer ∷ []) ∙ ap (λ n. n + 1) (sym left.counted)))
 
     -- the next routine is the line's
@@ -219,7 +219,7 @@ module _ {Q : Type 0} (posted : Q → Bool) (lines : List ActionLine) (answers :
     waits-still none = record {
       within = omega (arith, less);
       counted = counted_more;
-      left = subst (λ l. PostsLeft posted l past old now) (sym one_more) (posts-not posted past ds (deferral_in reply.answer) old now left.left none);
+      left = subst (λ l. RoutinesLeft posted l past old now) (sym one_more) (posts-not posted past ds (deferral_in reply.answer) old now left.left none);
     }
 
     -- it was, and so is the routine, which was not yet
@@ -232,8 +232,8 @@ module _ {Q : Type 0} (posted : Q → Bool) (lines : List ActionLine) (answers :
     posted-now is routine done = record {
       within = omega (arith, less);
       counted = counted_more;
-      left = subst (λ l. PostsLeft posted l past old (slice_set now next routine)) (sym one_more)
-          (subst (λ n. PostsLeft posted (ds ++ deferral_in reply.answer ∷ []) past old (slice_set now n routine)) (sym left.counted)
+      left = subst (λ l. RoutinesLeft posted l past old (slice_set now next routine)) (sym one_more)
+          (subst (λ n. RoutinesLeft posted (ds ++ deferral_in reply.answer ∷ []) past old (slice_set now n routine)) (sym left.counted)
           (posts-one posted past ds (deferral_in reply.answer) old now left.left routine is done));
     }
 

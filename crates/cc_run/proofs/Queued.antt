@@ -26,17 +26,17 @@ use Rattle.cc_script.specs.declared.script.ActionLine.{ActionLine}
 use Rattle.cc_script.specs.declared.script.RestartLine.{RestartLine}
 use Rattle.cc_script.specs.declared.script.Script.{Script}
 use Rattle.cc_script.specs.declared.script.StreamLine.{StreamLine}
-use Rattle.cc_script.specs.Within.{IsLineWithin, IsWithin}
+use Rattle.cc_script.specs.Within.{IsLineWithin, ScriptIsWithin}
 use Rattle.cc_model.specs.Setup.{Setup}
 use Rattle.cc_effects.specs.Moments.{IsIdle}
 use Rattle.cc_effects.proofs.Stretches.{idle-none, idle-then}
 use Rattle.cc_lines.specs.Holds.{NamesState}
 use Rattle.cc_lines.specs.Queues.{PlaceWent, hand_of, new_places}
 use Rattle.cc_lines.specs.declared.queues.Queues.{Queues}
-use Rattle.cc_pieces.specs.Explained.{Answered, Given}
+use Rattle.cc_pieces.specs.Explained.{Answered, GivenToRun}
 use Rattle.cc_pieces.specs.Openings.{LoggedOpening, MigrationLeft, OpeningBehind, RecordedOpening, StreamOpening, first_object_of, opening_sizes, opening_with, said_sizes}
 use Rattle.cc_pieces.specs.Phases.{TicksRan, is_of_phase, lazy_writer, read_ahead_worker}
-use Rattle.cc_pieces.specs.Queue.{PlaceRan, QueuePlace, answers_to, is_ask, is_step, lines_told, steps_told}
+use Rattle.cc_pieces.specs.Queue.{PlaceRan, AheadQueuePlace, answers_to, is_ask, is_step, lines_told, steps_told}
 use Rattle.cc_pieces.specs.Restarts.{RestartEnded, refused_for}
 use Rattle.cc_pieces.specs.Rooms.{is_alone, room_limit}
 use Rattle.cc_pieces.specs.Runs.{Ran, asked_of}
@@ -47,13 +47,13 @@ use Rattle.cc_queue.specs.Places.{PlaceState, new_place}
 use Rattle.cc_restarts.specs.declared.ended.LogRestart.{LogRestart}
 use Rattle.cc_restarts.specs.declared.ended.Numbers.{Numbers}
 use Rattle.cc_run.specs.Aheads.{step_lines}
-use Rattle.cc_run.specs.Lines.{IsCaller, StreamsLeft, after_lines, asked_by}
+use Rattle.cc_run.specs.Lines.{IsCaller, StreamsLeft, after_lines, asked_by_caller}
 use Rattle.cc_program.specs.Runs.{given_of, run_answered}
 use Rattle.cc_run.specs.Once.{AllTellPart, AreToldOnce, TellsPart}
 use Rattle.cc_run.specs.Phases.{PhasesLeft, PhasesServed}
 use Rattle.cc_run.specs.Places.{AreQueued, PlacesRan, or_rest, place_at, taken_at}
 use Rattle.cc_program.specs.Restarting.{RestartsEnded, RestartsTold, TellsEnd, last_number}
-use Rattle.cc_run.specs.Begun.{HasBegun}
+use Rattle.cc_run.specs.Begun.{RunHasBegun}
 use Rattle.cc_run.proofs.Begins.{kept-behind}
 use Rattle.cc_run.proofs.LinesRan.{of_none}
 use Rattle.cc_run.proofs.Lists.{all-back, all-front, all-map, below-or, there}
@@ -64,7 +64,7 @@ use Rattle.cc_run.proofs.ToldOnce.{told-parts}
 -- ---- what has nothing to do with the queue
 
 -- lines of which none is of the queue leave a place as no lines do
-placed-none : (me : ℕ) (lines : List (Action × Answer)) (before after : QueuePlace) (old new : List Entry) → answers_to is_step lines ≡ [] → answers_to is_ask lines ≡ [] → PlaceRan me lines before after old new → PlaceRan me [] before after old new
+placed-none : (me : ℕ) (lines : List (Action × Answer)) (before after : AheadQueuePlace) (old new : List Entry) → answers_to is_step lines ≡ [] → answers_to is_ask lines ≡ [] → PlaceRan me lines before after old new → PlaceRan me [] before after old new
 placed-none me lines before after old new no_step no_ask ran = record {
   during = ran.during;
   grew = ran.grew;
@@ -77,20 +77,20 @@ placed-none me lines before after old new no_step no_ask ran = record {
   fulls = rw no_ask at ran.fulls;
 }
 
-placed-line : (u : Setup) (me : ℕ) (asked : Action) (told : Answer) (place : QueuePlace) (old new : List Entry) → is_ask asked ≡ false → is_step asked ≡ false → Served u me [] asked told old new → PlaceRan me [] place place old new
+placed-line : (u : Setup) (me : ℕ) (asked : Action) (told : Answer) (place : AheadQueuePlace) (old new : List Entry) → is_ask asked ≡ false → is_step asked ≡ false → Served u me [] asked told old new → PlaceRan me [] place place old new
 placed-line u me asked told place old new no_ask no_step left =
     placed-none me ((asked, told) ∷ []) place place old new (rw no_step refl) (rw no_ask refl)
     (place-other u me [] asked told place old new (rw (no_ask, no_step) refl) left)
 
 -- the ticks of a phase
-ticks-placed : (u : Setup) (limit phase : ℕ) (replies : List LineReply) (place : QueuePlace) (old new : List Entry) → TicksRan u limit phase replies old new → PlaceRan lazy_writer [] place place old new
+ticks-placed : (u : Setup) (limit phase : ℕ) (replies : List LineReply) (place : AheadQueuePlace) (old new : List Entry) → TicksRan u limit phase replies old new → PlaceRan lazy_writer [] place place old new
 ticks-placed u limit phase [] place old new ran = place-idle lazy_writer place old new ran
 ticks-placed u limit phase (reply ∷ replies) place old new ran =
     place-then lazy_writer [] [] place place place old ran.0 new (placed-line u lazy_writer action.Tick reply.answer place old ran.0 refl refl ran.2)
     (ticks-placed u limit phase replies place ran.0 new ran.4)
 
 -- of all phases
-lazy-placed : (u : Setup) (ticks aheads n : ℕ) (lines : List ActionLine) (replies ticked stepped : List LineReply) (taken : List Request) (place : QueuePlace) (old new : List Entry) → PhasesLeft u ticks aheads n lines replies ticked stepped taken old new → PlaceRan lazy_writer [] place place old new
+lazy-placed : (u : Setup) (ticks aheads n : ℕ) (lines : List ActionLine) (replies ticked stepped : List LineReply) (taken : List Request) (place : AheadQueuePlace) (old new : List Entry) → PhasesLeft u ticks aheads n lines replies ticked stepped taken old new → PlaceRan lazy_writer [] place place old new
 lazy-placed u ticks aheads zero lines replies ticked stepped taken place old new left =
     let same : new ≡ old = left.5 in
     rw same (place-idle lazy_writer place old old (idle-none lazy_writer old))
@@ -100,7 +100,7 @@ lazy-placed u ticks aheads (suc n) lines replies ticked stepped taken place old 
 
 -- ---- the lines of the streams
 
-logged-placed : (u : Setup) (s : ℕ) (stream : StreamLine) (sizes : FileSizes) (log : Option ℕ) (told : Answer) (place : QueuePlace) (old new : List Entry) → LoggedOpening u s (opening_with s stream sizes) log told old new → PlaceRan 0 [] place place old new
+logged-placed : (u : Setup) (s : ℕ) (stream : StreamLine) (sizes : FileSizes) (log : Option ℕ) (told : Answer) (place : AheadQueuePlace) (old new : List Entry) → LoggedOpening u s (opening_with s stream sizes) log told old new → PlaceRan 0 [] place place old new
 logged-placed u s stream sizes log told place old new opened = by log opened
   where
     opening : Action
@@ -114,7 +114,7 @@ logged-placed u s stream sizes log told place old new opened = by log opened
         (placed-line u 0 (action.SetLog (first_object_of s) handle) told place done.0 new refl refl done.2)
 
 -- the entry of a read of a record that failed
-placed-unread : (s : ℕ) (place : QueuePlace) (old : List Entry) → PlaceRan 0 [] place place old (entry.RecordFailed 0 s ∷ old)
+placed-unread : (s : ℕ) (place : AheadQueuePlace) (old : List Entry) → PlaceRan 0 [] place place old (entry.RecordFailed 0 s ∷ old)
 placed-unread s place old = record {
   during = entry.RecordFailed 0 s ∷ [];
   grew = refl;
@@ -127,7 +127,7 @@ placed-unread s place old = record {
   fulls = refl;
 }
 
-load-placed : {A : Type 0} (s : ℕ) (answered : Result A CcError) (place : QueuePlace) (old new : List Entry) → LoadLeft 0 s answered old new → PlaceRan 0 [] place place old new
+load-placed : {A : Type 0} (s : ℕ) (answered : Result A CcError) (place : AheadQueuePlace) (old new : List Entry) → LoadLeft 0 s answered old new → PlaceRan 0 [] place place old new
 load-placed s (Ok told) place old new left = place-idle 0 place old new left
 load-placed s (Err (error.ReadFault page)) place old new left =
     let failed = left.1 in
@@ -141,14 +141,14 @@ load-placed s (Err (error.JournalFull entries)) place old new left = place-idle 
 load-placed s (Err error.NoMemory) place old new left = place-idle 0 place old new left
 load-placed s (Err other) place old new left = absurd left
 
-migration-placed : (u : Setup) (s : ℕ) (told : Answer) (place : QueuePlace) (old new : List Entry) → MigrationLeft u s told old new → PlaceRan 0 [] place place old new
+migration-placed : (u : Setup) (s : ℕ) (told : Answer) (place : AheadQueuePlace) (old new : List Entry) → MigrationLeft u s told old new → PlaceRan 0 [] place place old new
 migration-placed u s (answer.Given reply.Unit) place old new left =
     placed-line u 0 (action.Settle (first_object_of s)) (answer.Given (reply.State left.0)) place old new refl refl left.1
 migration-placed u s (answer.Refused e) place old new left =
     placed-line u 0 (action.Settle (first_object_of s)) (answer.Refused e) place old new refl refl left
 migration-placed u s other place old new left = absurd left
 
-recorded-placed : (u : Setup) (s : ℕ) (stream : StreamLine) (read : Option StreamRecord) (told : Answer) (place : QueuePlace) (old new : List Entry) → RecordedOpening u s stream read told old new → PlaceRan 0 [] place place old new
+recorded-placed : (u : Setup) (s : ℕ) (stream : StreamLine) (read : Option StreamRecord) (told : Answer) (place : AheadQueuePlace) (old new : List Entry) → RecordedOpening u s stream read told old new → PlaceRan 0 [] place place old new
 recorded-placed u s stream None told place old new opened =
     logged-placed u s stream (opening_sizes stream None) stream.log told place old new opened
 recorded-placed u s stream (Some (V2 size valid)) told place old new opened =
@@ -160,7 +160,7 @@ recorded-placed u s stream (Some (V1 size)) told place old new (inr done) =
     (logged-placed u s stream (opening_sizes stream (Some (V1 size))) stream.log (answer.Given reply.Unit) place old done.0 done.1)
     (migration-placed u s told place done.0 new done.2)
 
-opening-placed : (u : Setup) (s : ℕ) (stream : StreamLine) (stored : Bool) (told : Answer) (place : QueuePlace) (old new : List Entry) → StreamOpening u s stream stored told old new → PlaceRan 0 [] place place old new
+opening-placed : (u : Setup) (s : ℕ) (stream : StreamLine) (stored : Bool) (told : Answer) (place : AheadQueuePlace) (old new : List Entry) → StreamOpening u s stream stored told old new → PlaceRan 0 [] place place old new
 opening-placed u s stream false told place old new opened =
     logged-placed u s stream (said_sizes stream) stream.log told place old new opened
 opening-placed u s stream true told place old new (inl unread) =
@@ -170,11 +170,11 @@ opening-placed u s stream true told place old new (inr is) =
     (load-placed {A = Option StreamRecord} s (Ok is.read) place old is.loaded is.load)
     (recorded-placed u s stream is.read told place is.loaded new is.opened)
 
-behind-placed : (u : Setup) (s : ℕ) (stream : StreamLine) (refused : Option CcError) (told : Answer) (place : QueuePlace) (old new : List Entry) → OpeningBehind u s stream refused told old new → PlaceRan 0 [] place place old new
+behind-placed : (u : Setup) (s : ℕ) (stream : StreamLine) (refused : Option CcError) (told : Answer) (place : AheadQueuePlace) (old new : List Entry) → OpeningBehind u s stream refused told old new → PlaceRan 0 [] place place old new
 behind-placed u s stream (Some e) told place old new opened = place-idle 0 place old new opened.1
 behind-placed u s stream None told place old new opened = opening-placed u s stream stream.stored told place old new opened
 
-streams-placed : (u : Setup) (restarts : List RestartLine) (ended : List LineReply) (s : ℕ) (streams : List StreamLine) (replies : List LineReply) (place : QueuePlace) (old new : List Entry) → StreamsLeft u restarts ended s streams replies old new → PlaceRan 0 [] place place old new
+streams-placed : (u : Setup) (restarts : List RestartLine) (ended : List LineReply) (s : ℕ) (streams : List StreamLine) (replies : List LineReply) (place : AheadQueuePlace) (old new : List Entry) → StreamsLeft u restarts ended s streams replies old new → PlaceRan 0 [] place place old new
 streams-placed u restarts ended s [] [] place old new left =
     let same : new ≡ old = left in
     rw same (place-idle 0 place old old (idle-none 0 old))
@@ -185,7 +185,7 @@ streams-placed u restarts ended s (stream ∷ streams) (reply ∷ replies) place
 
 -- ---- the lines of the restarts
 
-ended-placed : (u : Setup) (handle last updates : ℕ) (told : Answer) (place : QueuePlace) (old new : List Entry) → RestartEnded u handle last updates told old new → PlaceRan 0 [] place place old new
+ended-placed : (u : Setup) (handle last updates : ℕ) (told : Answer) (place : AheadQueuePlace) (old new : List Entry) → RestartEnded u handle last updates told old new → PlaceRan 0 [] place place old new
 ended-placed u handle zero updates (answer.Restarted n) place old new left = place-idle 0 place old new left.1
 ended-placed u handle (suc last) updates (answer.Restarted n) place old new left =
     placed-line u 0 (action.LogFlush handle (suc last)) (answer.Given reply.Unit) place old new refl refl left.1.1
@@ -193,11 +193,11 @@ ended-placed u handle last updates (answer.Refused e) place old new left =
     placed-line u 0 (action.LogFlush handle last) (answer.Refused e) place old new refl refl left
 ended-placed u handle last updates other place old new left = absurd left
 
-end-placed : (u : Setup) (handle : ℕ) (ended : Result Numbers CcError) (told : Answer) (place : QueuePlace) (old new : List Entry) → TellsEnd u handle ended told old new → PlaceRan 0 [] place place old new
+end-placed : (u : Setup) (handle : ℕ) (ended : Result Numbers CcError) (told : Answer) (place : AheadQueuePlace) (old new : List Entry) → TellsEnd u handle ended told old new → PlaceRan 0 [] place place old new
 end-placed u handle (Ok numbers) told place old new left = ended-placed u handle (last_number numbers.last) numbers.updates told place old new left
 end-placed u handle (Err e) told place old new left = place-idle 0 place old new left.1
 
-ends-placed : (u : Setup) (ended : List LogRestart) (replies : List LineReply) (place : QueuePlace) (old new : List Entry) → RestartsEnded u ended replies old new → PlaceRan 0 [] place place old new
+ends-placed : (u : Setup) (ended : List LogRestart) (replies : List LineReply) (place : AheadQueuePlace) (old new : List Entry) → RestartsEnded u ended replies old new → PlaceRan 0 [] place place old new
 ends-placed u [] [] place old new left =
     let same : new ≡ old = left in
     rw same (place-idle 0 place old old (idle-none 0 old))
@@ -336,8 +336,8 @@ fresh-at queues (row ∷ rows) (suc n) own fresh at = fresh-at queues rows n own
 
 -- ---- a run
 
-module _ (u v : Setup) (script : Script) (restarted : List LogRestart) (ended between replies all ticked stepped : List LineReply) (took : List Request) (ends begun past : List Entry) (was now : List NamesState) (lazy first worker : PlaceState Request) (queues : Queues) (within : IsWithin script) (begins : HasBegun u script restarted ended between ends begun) (served : PhasesServed v script.ticks script.aheads script.phases script.lines between replies ticked stepped took begun past) (told_once : AreToldOnce script.streams script.lines replies (drop (length script.restarts) all)) (placed : PlacesRan script.lines between replies was now begun past) (worked : PlaceWent 18 (step_lines stepped) first worker begun past) (sixteen_was : length was ≡ 16) (sixteen : length now ≡ 16) (fresh : AllByRecursion (λ (own : NamesState). own.places ≡ new_places queues) was) (fresh_lazy : lazy ≡ new_place queues.ahead) (fresh_first : first ≡ new_place queues.ahead) where
-  abbrev given : Given
+module _ (u v : Setup) (script : Script) (restarted : List LogRestart) (ended between replies all ticked stepped : List LineReply) (took : List Request) (ends begun past : List Entry) (was now : List NamesState) (lazy first worker : PlaceState Request) (queues : Queues) (within : ScriptIsWithin script) (begins : RunHasBegun u script restarted ended between ends begun) (served : PhasesServed v script.ticks script.aheads script.phases script.lines between replies ticked stepped took begun past) (told_once : AreToldOnce script.streams script.lines replies (drop (length script.restarts) all)) (placed : PlacesRan script.lines between replies was now begun past) (worked : PlaceWent 18 (step_lines stepped) first worker begun past) (sixteen_was : length was ≡ 16) (sixteen : length now ≡ 16) (fresh : AllByRecursion (λ (own : NamesState). own.places ≡ new_places queues) was) (fresh_lazy : lazy ≡ new_place queues.ahead) (fresh_first : first ≡ new_place queues.ahead) where
+  abbrev given : GivenToRun
   given = given_of script
 
   abbrev told : Answered
@@ -399,7 +399,7 @@ module _ (u v : Setup) (script : Script) (restarted : List LogRestart) (ended be
       let a = there was n (omega (arith, low, sixteen_was)) in
       let b = there now n (omega (arith, low, sixteen)) in
       let own : ActionLine → Bool = λ line. line.caller == suc n in
-      let lines = asked_by (suc n) script.lines served.answers in
+      let lines = asked_by_caller (suc n) script.lines served.answers in
       let went = placed-since (suc n) lines a.0.places.ahead b.0.places.ahead [] begun past (begins.alone (suc n) (λ e. omega (arith, e))) (placed.each served.answers n a.0 b.0 served.grew a.1 b.1).ahead in
       let ran : PlaceRan (suc n) lines untouched (hand_of b.0.places.ahead) [] past =
       subst (λ p. PlaceRan (suc n) lines p (hand_of b.0.places.ahead) [] past) (fresh-at queues was n a.0 fresh a.1) went.ran in
@@ -469,13 +469,13 @@ module _ (u v : Setup) (script : Script) (restarted : List LogRestart) (ended be
   }
 
 -- from where a run began
-pub run-queued : (u v : Setup) (script : Script) (restarted : List LogRestart) (ended between replies kept all ticked stepped : List LineReply) (took : List Request) (ends begun past entries : List Entry) (was now : List NamesState) (lazy first worker : PlaceState Request) (places : List (PlaceState Request)) (queues : Queues) → IsWithin script → all ≡ ended ++ kept → entries ≡ past → places ≡ map (λ (own : NamesState). own.places.ahead) now ++ lazy ∷ worker ∷ [] → HasBegun u script restarted ended between ends begun → PhasesServed v script.ticks script.aheads script.phases script.lines between replies ticked stepped took begun past → AreToldOnce script.streams script.lines replies kept → PlacesRan script.lines between replies was now begun past → PlaceWent 18 (step_lines stepped) first worker begun past → length was ≡ 16 → length now ≡ 16 → AllByRecursion (λ (own : NamesState). own.places ≡ new_places queues) was → lazy ≡ new_place queues.ahead → first ≡ new_place queues.ahead → AreQueued (given_of script) (run_answered all ticked stepped) places entries
+pub run-queued : (u v : Setup) (script : Script) (restarted : List LogRestart) (ended between replies kept all ticked stepped : List LineReply) (took : List Request) (ends begun past entries : List Entry) (was now : List NamesState) (lazy first worker : PlaceState Request) (places : List (PlaceState Request)) (queues : Queues) → ScriptIsWithin script → all ≡ ended ++ kept → entries ≡ past → places ≡ map (λ (own : NamesState). own.places.ahead) now ++ lazy ∷ worker ∷ [] → RunHasBegun u script restarted ended between ends begun → PhasesServed v script.ticks script.aheads script.phases script.lines between replies ticked stepped took begun past → AreToldOnce script.streams script.lines replies kept → PlacesRan script.lines between replies was now begun past → PlaceWent 18 (step_lines stepped) first worker begun past → length was ≡ 16 → length now ≡ 16 → AllByRecursion (λ (own : NamesState). own.places ≡ new_places queues) was → lazy ≡ new_place queues.ahead → first ≡ new_place queues.ahead → AreQueued (given_of script) (run_answered all ticked stepped) places entries
 run-queued u v script restarted ended between replies kept all ticked stepped took ends begun past entries was now lazy first worker places queues within all_is same are begins served told placed worked sixteen_was sixteen fresh fresh_lazy fresh_first =
     rw (same, are) (are-queued u v script restarted ended between replies all ticked stepped took ends begun past was now lazy first worker queues within begins served
     (subst (AreToldOnce script.streams script.lines replies) (sym (kept-behind u script restarted ended between kept all ends begun begins all_is)) told) placed worked sixteen_was sixteen fresh fresh_lazy fresh_first)
 
 -- so the run tells the restarts first
-pub run-told : (u v : Setup) (script : Script) (restarted : List LogRestart) (ended between replies kept all ticked stepped : List LineReply) (took : List Request) (ends begun past : List Entry) → all ≡ ended ++ kept → HasBegun u script restarted ended between ends begun → PhasesServed v script.ticks script.aheads script.phases script.lines between replies ticked stepped took begun past → RestartsTold u restarted all past
+pub run-told : (u v : Setup) (script : Script) (restarted : List LogRestart) (ended between replies kept all ticked stepped : List LineReply) (took : List Request) (ends begun past : List Entry) → all ≡ ended ++ kept → RunHasBegun u script restarted ended between ends begun → PhasesServed v script.ticks script.aheads script.phases script.lines between replies ticked stepped took begun past → RestartsTold u restarted all past
 run-told u v script restarted ended between replies kept all ticked stepped took ends begun past all_is begins served =
     let streams = streams-placed u script.restarts ended 0 script.streams begins.opened.answers untouched ends begun begins.opened.left in
     let phases = lazy-placed v script.ticks script.aheads script.phases script.lines served.answers ticked stepped took untouched begun past served.left in

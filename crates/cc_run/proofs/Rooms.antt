@@ -5,7 +5,7 @@ use Rattle.std.specs.declared.vec.Vec.{Vec}
 use Rattle.std.specs.declared.option.Option.TheVariants.{Some}
 use Rattle.std.proofs.Common.{append_assoc, sym, ap, ◌∙◌, arith, inl, inr, ⊎_elim}
 use Rattle.cc_script.specs.declared.script.ActionLine.{ActionLine}
-use Rattle.cc_run.specs.Callers.{count_of}
+use Rattle.cc_run.specs.Callers.{count_of_caller}
 
 -- an item of a row that one was put behind is of the row before, or is the one
 pub behind : {A : Type 0} (row : List A) (last item : A) (n : ℕ) → slice_get (row ++ last ∷ []) n ≡ Some item → (slice_get row n ≡ Some item) ⊎ ((n ≡ length row) × (last ≡ item))
@@ -33,7 +33,7 @@ pub has-room : {A : Type 0} (row : Vec A Global) (number : ℕ) → 1 ≤ number
 has-room row number some counted room = omega (arith, row.ok.0, some, counted, room)
 
 -- one line more
-pub counted-more : (me : ℕ) (lines : List ActionLine) (line : ActionLine) → count_of me (lines ++ line ∷ []) ≡ count_of me lines + (if line.caller == me then 1 else 0)
+pub counted-more : (me : ℕ) (lines : List ActionLine) (line : ActionLine) → count_of_caller me (lines ++ line ∷ []) ≡ count_of_caller me lines + (if line.caller == me then 1 else 0)
 counted-more me [] line = by (line.caller == me)
   where
     by : (b : Bool) → (if b then suc 0 else 0) ≡ 0 + (if b then 1 else 0)
@@ -41,6 +41,6 @@ counted-more me [] line = by (line.caller == me)
     by false = refl
 counted-more me (first ∷ lines) line = by (first.caller == me) (counted-more me lines line)
   where
-    by : (b : Bool) → count_of me (lines ++ line ∷ []) ≡ count_of me lines + (if line.caller == me then 1 else 0) → (if b then suc (count_of me (lines ++ line ∷ [])) else count_of me (lines ++ line ∷ [])) ≡ (if b then suc (count_of me lines) else count_of me lines) + (if line.caller == me then 1 else 0)
+    by : (b : Bool) → count_of_caller me (lines ++ line ∷ []) ≡ count_of_caller me lines + (if line.caller == me then 1 else 0) → (if b then suc (count_of_caller me (lines ++ line ∷ [])) else count_of_caller me (lines ++ line ∷ [])) ≡ (if b then suc (count_of_caller me lines) else count_of_caller me lines) + (if line.caller == me then 1 else 0)
     by true rest = omega (arith, rest)
     by false rest = rest

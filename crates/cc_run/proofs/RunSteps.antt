@@ -23,9 +23,9 @@ use Rattle.cc_model.specs.Setup.{Setup}
 use Rattle.cc_turns.specs.Disk.{DiskStands}
 use Rattle.cc_turns.specs.Log.{FileStands}
 use Rattle.cc_turns.specs.Standing.{DiskAtFirst, LogAtFirst}
-use Rattle.cc_turns.specs.Desk.{Begun, DeskState, DisksEnded, LogsEnded, disk_at_first, log_at_first, standing_of}
+use Rattle.cc_turns.specs.Desk.{Begun, DeskState, DeskDisksEnded, DeskLogsEnded, disk_at_first, log_at_first, standing_of}
 use Rattle.cc_program.specs.Disks.{DisksStand}
-use Rattle.cc_program.specs.Ends.{has_devices, has_log}
+use Rattle.cc_program.specs.Ends.{has_devices, is_log_given}
 use Rattle.cc_program.specs.Logs.{LogsStand}
 use Rattle.cc_program.specs.Setups.{setup_of}
 use Rattle.cc_lines.specs.Line.{IsServable}
@@ -118,7 +118,7 @@ restarted-within logs (restart ∷ restarts) is (suc i) d inside =
 -- defers a write
 module _ (disks logs posts : ℕ) (script : Script) (enough : has_devices disks logs posts script ≡ true) where
   abbrev have_logs : Bool
-  have_logs = list_all (λ stream. has_log logs stream.log) script.streams
+  have_logs = list_all (λ stream. is_log_given logs stream.log) script.streams
 
   abbrev have_restarted : Bool
   have_restarted = list_all (λ restart. nat_lt restart.handle logs) script.restarts
@@ -142,14 +142,14 @@ module _ (disks logs posts : ℕ) (script : Script) (enough : has_devices disks 
   enough-posts = leb-true (defer_lines script.lines) posts further.1
 
 -- the disks that a desk gives back stand for its journal, each having begun as the run did
-pub disks-stand : {D L Q : Type 0} (told : D → Option Disk) (faults : D → ℕ) (first : ℕ → DiskAtFirst) (count : ℕ) (past : List Entry) (d : DeskState D L Q) (disks : List D) → DisksEnded told faults d disks → length d.begun.disks ≡ count → (λ s. disk_at_first told faults (slice_get d.begun.disks s)) ≡ first → past ≡ d.last.entries → DisksStand told faults first count past disks
+pub disks-stand : {D L Q : Type 0} (told : D → Option Disk) (faults : D → ℕ) (first : ℕ → DiskAtFirst) (count : ℕ) (past : List Entry) (d : DeskState D L Q) (disks : List D) → DeskDisksEnded told faults d disks → length d.begun.disks ≡ count → (λ s. disk_at_first told faults (slice_get d.begun.disks s)) ≡ first → past ≡ d.last.entries → DisksStand told faults first count past disks
 disks-stand told faults first count past d disks ended same at_first is = record {
   counted = ended.counted ∙ same;
   each = λ s disk at. rw is (subst (λ (f : ℕ → DiskAtFirst). DiskStands told faults (f s) d.last.entries s disk) at_first (ended.each s disk at).stands);
 }
 
 -- so do the logs
-pub logs-stand : {D L Q : Type 0} (told : L → Option Log) (faults : L → ℕ) (first : ℕ → LogAtFirst) (count : ℕ) (past : List Entry) (d : DeskState D L Q) (logs : List L) → LogsEnded told faults d logs → length d.begun.logs ≡ count → (λ handle. log_at_first told faults (slice_get d.begun.logs handle)) ≡ first → past ≡ d.last.entries → LogsStand told faults first count past logs
+pub logs-stand : {D L Q : Type 0} (told : L → Option Log) (faults : L → ℕ) (first : ℕ → LogAtFirst) (count : ℕ) (past : List Entry) (d : DeskState D L Q) (logs : List L) → DeskLogsEnded told faults d logs → length d.begun.logs ≡ count → (λ handle. log_at_first told faults (slice_get d.begun.logs handle)) ≡ first → past ≡ d.last.entries → LogsStand told faults first count past logs
 logs-stand told faults first count past d logs ended same at_first is = record {
   counted = ended.counted ∙ same;
   each = λ handle log at. rw is (subst (λ (f : ℕ → LogAtFirst). FileStands told faults (f handle) d.last.entries handle log) at_first (ended.each handle log at));

@@ -12,7 +12,7 @@ use Rattle.cc_command.specs.declared.words.Command.{Command}
 use Rattle.cc_command.specs.declared.words.Command.TheVariants as command
 use Rattle.cc_command.specs.NoRun.{status_of}
 use Rattle.cc_command.specs.Taken.{WasTaken}
-use Rattle.cc_program.specs.Ends.{Input, Output, GaveAll, IsAsked, IsCause, IsRead, IsWrong, TookMany, HasTooFewDevices, HasFailed, Spells, IsPut, IsRun, IsEnded, has_devices, printed_by}
+use Rattle.cc_program.specs.Ends.{Input, ProgramOutput, GaveAll, IsAsked, IsCause, SourceIsRead, IsWrong, TookMany, HasTooFewDevices, SinkHasFailed, SpellsScript, IsTextPut, IsProgramRun, ProgramIsEnded, has_devices, printed_by}
 use Rattle.cc_program.specs.Complete.{Comes, IsFound}
 use Rattle.cc_command.specs.declared.no_run.NoRun.{NoRun}
 use Rattle.cc_command.specs.declared.no_run.NoRun.TheVariants as no_run
@@ -44,7 +44,7 @@ module _ (i : Input) (w : WasTaken i.left i.left_after i.given i.given_after) wh
   count = ap length w.gave ∙ length-append i.given w.bytes
 
   -- a source that was read to its end told few bytes
-  read-few : (told : List ℕ) → i.left ≡ Some told → IsRead i → length told ≤ 16777216
+  read-few : (told : List ℕ) → i.left ≡ Some told → SourceIsRead i → length told ≤ 16777216
   read-few told is read = omega (arith, read-count i.left i.left_after told w.bytes is w.front read.end, count, read.few)
 
   -- where many bytes were taken, a source told many
@@ -67,7 +67,7 @@ same-bytes i bytes given (inr come) all = append_cancel_left i.given given bytes
 wrong-is : (i : Input) (bytes : List ℕ) (line : ℕ) → Comes i bytes → IsWrong i line → script_of (mode_in i.words) bytes ≡ Err line
 wrong-is i bytes line comes w = rw (same-bytes i bytes w.bytes comes.come w.given) at w.wrong
 
-spells-is : (i : Input) (bytes : List ℕ) (script : Script) → Comes i bytes → Spells i script → script_of (mode_in i.words) bytes ≡ Ok script
+spells-is : (i : Input) (bytes : List ℕ) (script : Script) → Comes i bytes → SpellsScript i script → script_of (mode_in i.words) bytes ≡ Ok script
 spells-is i bytes script comes w = rw (same-bytes i bytes w.bytes comes.come w.given) at w.spelled
 
 not-both : (r : Result Script ℕ) (script : Script) (line : ℕ) → r ≡ Ok script → r ≡ Err line → ⊥
@@ -102,7 +102,7 @@ one-found i a b (inr first) (inr second) =
     first.is ∙ ap generated same ∙ sym second.is
 
 -- the script that is found has no wrong line
-found-right : (i : Input) (script : Script) (line : ℕ) → IsFound i script → IsRead i → IsWrong i line → ⊥
+found-right : (i : Input) (script : Script) (line : ℕ) → IsFound i script → SourceIsRead i → IsWrong i line → ⊥
 found-right i script line (inl found) read wrong = not-both _ script line found.spelled (wrong-is i found.bytes line found.comes wrong)
 found-right i script line (inr made) read wrong = reads-no-number i.words made.number read.words made.words
 
@@ -125,12 +125,12 @@ asked-few i script (inl it) reads many = absurd (omega (arith, it.0.few, many))
 asked-few i script (inr made) reads many = reads-no-number i.words made.number reads made.words
 
 -- a sink that did not fail
-module _ (o : Output) (calm : o.faults_after ≡ o.faults) (steady : o.stalls_after ≡ o.stalls) where
-  not-failed : HasFailed o → ⊥
+module _ (o : ProgramOutput) (calm : o.faults_after ≡ o.faults) (steady : o.stalls_after ≡ o.stalls) where
+  not-failed : SinkHasFailed o → ⊥
   not-failed (inl risen) = absurd (omega (arith, risen, calm))
   not-failed (inr risen) = absurd (omega (arith, risen, steady))
 
-module _ (i : Input) (o : Output) (script : Option Script) (replies : List LineReply) (journal : List Entry) (status : ℕ) (ended : IsEnded i o script replies journal status) where
+module _ (i : Input) (o : ProgramOutput) (script : Option Script) (replies : List LineReply) (journal : List Entry) (status : ℕ) (ended : ProgramIsEnded i o script replies journal status) where
   -- a status that no run has, by its cause
   cause-at : (n : ℕ) (P : Type 0) → ((why : NoRun) → n ≡ status_of why → IsCause i why → P) → n ≢ 0 → n ≢ 4 → n ≢ 6 → status ≡ n → P
   cause-at n P by not0 not4 not6 is = go script ended
@@ -140,7 +140,7 @@ module _ (i : Input) (o : Output) (script : Option Script) (replies : List LineR
       run (inr (inl at)) = absurd (not4 (sym is ∙ at))
       run (inr (inr at)) = absurd (not6 (sym is ∙ at))
 
-      go : (s : Option Script) → IsEnded i o s replies journal status → P
+      go : (s : Option Script) → ProgramIsEnded i o s replies journal status → P
       go None e = by e.2.why (sym is ∙ e.2.status_is) e.2.cause
       go (Some one) e = run e.printed.status_is
 
@@ -180,14 +180,14 @@ module _ (i : Input) (o : Output) (script : Option Script) (replies : List LineR
       by other is cause = absurd (cc is)
 
   -- only a failed sink leaves a text unprinted at status 4
-  pub write_fault-at : status ≡ 4 → HasFailed o
+  pub write_fault-at : status ≡ 4 → SinkHasFailed o
   write_fault-at is = go script ended
     where
-      none : (why : NoRun) → 4 ≡ status_of why → HasFailed o
+      none : (why : NoRun) → 4 ≡ status_of why → SinkHasFailed o
       none no_run.Usage at = absurd (cc at)
       none other at = absurd (cc at)
 
-      go : (s : Option Script) → IsEnded i o s replies journal status → HasFailed o
+      go : (s : Option Script) → ProgramIsEnded i o s replies journal status → SinkHasFailed o
       go None e = none e.2.why (sym is ∙ e.2.status_is)
       go (Some one) e = e.printed.failed is
 
@@ -207,7 +207,7 @@ module _ (i : Input) (o : Output) (script : Option Script) (replies : List LineR
       at why is (inl one) = inl (is ∙ one)
       at why is (inr six) = inr (is ∙ six)
 
-      go : (s : Option Script) → IsEnded i o s replies journal status → (status ≡ 1) ⊎ (status ≡ 6)
+      go : (s : Option Script) → ProgramIsEnded i o s replies journal status → (status ≡ 1) ⊎ (status ≡ 6)
       go None e = at e.2.why e.2.status_is (by e.2.why e.2.cause)
       go (Some one) e = absurd (cc (asked-command i one e.asked, wrong))
 
@@ -221,40 +221,40 @@ module _ (i : Input) (o : Output) (script : Option Script) (replies : List LineR
       none other is (inl zero) = absurd (cc (is, zero))
       none other is (inr four) = absurd (cc (is, four))
 
-      go : (s : Option Script) → IsEnded i o s replies journal status → (status ≡ 0) ⊎ (status ≡ 4) → is_some s ≡ true
+      go : (s : Option Script) → ProgramIsEnded i o s replies journal status → (status ≡ 0) ⊎ (status ≡ 4) → is_some s ≡ true
       go None e at' = none e.2.why e.2.status_is at'
       go (Some one) e at' = refl
 
   pub asked-at : IfSome script (IsAsked i)
   asked-at = go script ended
     where
-      go : (s : Option Script) → IsEnded i o s replies journal status → IfSome s (IsAsked i)
+      go : (s : Option Script) → ProgramIsEnded i o s replies journal status → IfSome s (IsAsked i)
       go None e = tt
       go (Some one) e = e.asked
 
   pub empty-at : script ≡ None → journal ≡ []
   empty-at is = go script ended is
     where
-      go : (s : Option Script) → IsEnded i o s replies journal status → s ≡ None → journal ≡ []
+      go : (s : Option Script) → ProgramIsEnded i o s replies journal status → s ≡ None → journal ≡ []
       go None e is' = e.1
       go (Some one) e is' = absurd (cc is')
 
-  pub printed-at : status ≡ 0 → IfSome script (λ made. IsPut o (printed_by (command_of i.words) made replies journal))
+  pub printed-at : status ≡ 0 → IfSome script (λ made. IsTextPut o (printed_by (command_of i.words) made replies journal))
   printed-at is = go script ended
     where
-      go : (s : Option Script) → IsEnded i o s replies journal status → IfSome s (λ made. IsPut o (printed_by (command_of i.words) made replies journal))
+      go : (s : Option Script) → ProgramIsEnded i o s replies journal status → IfSome s (λ made. IsTextPut o (printed_by (command_of i.words) made replies journal))
       go None e = tt
       go (Some one) e = e.printed.whole is
 
   -- the status of a cause, where no run was made
-  refused-at : (n : ℕ) → ((why : NoRun) → IsCause i why → (status_of why ≡ n) ⊎ (status_of why ≡ 6)) → ((made : Script) → IsRun i o made replies journal status → (status ≡ n) ⊎ (status ≡ 6)) → (status ≡ n) ⊎ (status ≡ 6)
+  refused-at : (n : ℕ) → ((why : NoRun) → IsCause i why → (status_of why ≡ n) ⊎ (status_of why ≡ 6)) → ((made : Script) → IsProgramRun i o made replies journal status → (status ≡ n) ⊎ (status ≡ 6)) → (status ≡ n) ⊎ (status ≡ 6)
   refused-at n by run = go script ended
     where
       at : (why : NoRun) → status ≡ status_of why → (status_of why ≡ n) ⊎ (status_of why ≡ 6) → (status ≡ n) ⊎ (status ≡ 6)
       at why is (inl one) = inl (is ∙ one)
       at why is (inr six) = inr (is ∙ six)
 
-      go : (s : Option Script) → IsEnded i o s replies journal status → (status ≡ n) ⊎ (status ≡ 6)
+      go : (s : Option Script) → ProgramIsEnded i o s replies journal status → (status ≡ n) ⊎ (status ≡ 6)
       go None e = at e.2.why e.2.status_is (by e.2.why e.2.cause)
       go (Some one) e = run one e
 
@@ -273,7 +273,7 @@ module _ (i : Input) (o : Output) (script : Option Script) (replies : List LineR
       by no_run.NoMemory cause = inr refl
       by no_run.TooFewDevices cause = absurd (right cause.script cause.asked)
 
-      run : (made : Script) → IsRun i o made replies journal status → (status ≡ 2) ⊎ (status ≡ 6)
+      run : (made : Script) → IsProgramRun i o made replies journal status → (status ≡ 2) ⊎ (status ≡ 6)
       run made e = absurd (right made e.asked)
 
   pub too_long-always : (reads_source i.words ≡ false → i.given_after ≡ i.given) → TookMany i → (status ≡ 5) ⊎ (status ≡ 6)
@@ -287,7 +287,7 @@ module _ (i : Input) (o : Output) (script : Option Script) (replies : List LineR
       by reads no_run.NoMemory cause = inr refl
       by reads no_run.TooFewDevices cause = absurd (asked-few i cause.script cause.asked reads many)
 
-      run : reads_source i.words ≡ true → (made : Script) → IsRun i o made replies journal status → (status ≡ 5) ⊎ (status ≡ 6)
+      run : reads_source i.words ≡ true → (made : Script) → IsProgramRun i o made replies journal status → (status ≡ 5) ⊎ (status ≡ 6)
       run reads made e = absurd (asked-few i made e.asked reads many)
 
       go : (b : Bool) → reads_source i.words ≡ b → (status ≡ 5) ⊎ (status ≡ 6)
@@ -309,7 +309,7 @@ module _ (i : Input) (o : Output) (script : Option Script) (replies : List LineR
       by no_run.NoMemory cause = inr refl
       by no_run.TooFewDevices cause = absurd (long cause.script cause.asked)
 
-      run : (made : Script) → IsRun i o made replies journal status → (status ≡ 5) ⊎ (status ≡ 6)
+      run : (made : Script) → IsProgramRun i o made replies journal status → (status ≡ 5) ⊎ (status ≡ 6)
       run made e = absurd (long made e.asked)
 
   pub too_few-always : WasTaken i.left i.left_after i.given i.given_after → (made : Script) → IsFound i made → has_devices i.disks i.logs i.posts made ≡ false → (status ≡ 7) ⊎ (status ≡ 6)
@@ -323,7 +323,7 @@ module _ (i : Input) (o : Output) (script : Option Script) (replies : List LineR
       by no_run.NoMemory cause = inr refl
       by no_run.TooFewDevices cause = inl refl
 
-      run : (one : Script) → IsRun i o one replies journal status → (status ≡ 7) ⊎ (status ≡ 6)
+      run : (one : Script) → IsProgramRun i o one replies journal status → (status ≡ 7) ⊎ (status ≡ 6)
       run one e = absurd (cc (few, subst (λ s. has_devices i.disks i.logs i.posts s ≡ true) (one-found i one made e.asked found) e.enough))
 
   pub complete : WasTaken i.left i.left_after i.given i.given_after → (made : Script) → IsFound i made → has_devices i.disks i.logs i.posts made ≡ true → o.faults_after ≡ o.faults → o.stalls_after ≡ o.stalls → (status ≡ 0) ⊎ (status ≡ 6)
@@ -338,10 +338,10 @@ module _ (i : Input) (o : Output) (script : Option Script) (replies : List LineR
       by no_run.TooFewDevices cause =
           absurd (cc (enough, subst (λ s. has_devices i.disks i.logs i.posts s ≡ false) (one-found i cause.script made cause.asked found) cause.few))
 
-      at : (status ≡ 0) ⊎ ((status ≡ 4) ⊎ (status ≡ 6)) → (status ≡ 4 → HasFailed o) → (status ≡ 0) ⊎ (status ≡ 6)
+      at : (status ≡ 0) ⊎ ((status ≡ 4) ⊎ (status ≡ 6)) → (status ≡ 4 → SinkHasFailed o) → (status ≡ 0) ⊎ (status ≡ 6)
       at (inl zero) failed = inl zero
       at (inr (inl four)) failed = absurd (not-failed o calm steady (failed four))
       at (inr (inr six)) failed = inr six
 
-      run : (one : Script) → IsRun i o one replies journal status → (status ≡ 0) ⊎ (status ≡ 6)
+      run : (one : Script) → IsProgramRun i o one replies journal status → (status ≡ 0) ⊎ (status ≡ 6)
       run one e = at e.printed.status_is e.printed.failed

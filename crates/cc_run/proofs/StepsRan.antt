@@ -23,14 +23,14 @@ use Rattle.cc_lines.specs.Queues.{PlaceWent, hand_of}
 use Rattle.cc_pieces.specs.Answered.{AheadAnswered}
 use Rattle.cc_pieces.specs.Bindings.{Binding}
 use Rattle.cc_pieces.specs.Phases.{EndsWithNone, lazy_writer, read_ahead_worker}
-use Rattle.cc_pieces.specs.Queue.{StepPlaced, is_none_stepped}
+use Rattle.cc_pieces.specs.Queue.{AheadStepPlaced, is_none_stepped}
 use Rattle.cc_pieces.specs.Rooms.{HadNoRoom}
 use Rattle.cc_pieces.proofs.AheadSteps.{AllTook, aheads-idle, aheads-since, none-more, took-more, took-ran}
 use Rattle.cc_pieces.proofs.PlaceSteps.{place-stepped}
 use Rattle.cc_queue.specs.Places.{PlaceState}
 use Rattle.cc_turns.specs.Standing.{Standing}
-use Rattle.cc_run.specs.Aheads.{MayStep, StepsMade, step_lines}
-use Rattle.cc_run.specs.Desks.{IsReady}
+use Rattle.cc_run.specs.Aheads.{WorkerMayStep, StepsMade, step_lines}
+use Rattle.cc_run.specs.Desks.{PassIsReady}
 use Rattle.cc_run.specs.Lines.{IsCaller, LinesEnd}
 use Rattle.cc_run.specs.declared.aheads.Aheads.{Aheads}
 use Rattle.cc_run.proofs.Acting.{full-at}
@@ -146,7 +146,7 @@ step-found u me taken (answer.Stepped (Some done)) old new left is = absurd (cc 
 step-found u me taken (answer.Refused e) old new left is = absurd (cc is)
 step-found u me taken other old new left is = absurd left
 
-module _ (w between new : Standing) (phase count : ℕ) (was now next : Aheads) (told : Answer) (may : MayStep w) (went : WentOn w between) (one : WentOn between new) (step : StepAt between new told now.place next.place) (full : IsFullTold new told) (few : new.others ≤ new.most_others) (so : TookSo w.setup phase count was now w.seen between.seen) (items : next.answers.items ≡ now.answers.items ++ record { line = phase; answer = told } ∷ []) (each : next.each ≡ now.each) (capacity : vec_capacity next.answers ≡ vec_capacity now.answers) where
+module _ (w between new : Standing) (phase count : ℕ) (was now next : Aheads) (told : Answer) (may : WorkerMayStep w) (went : WentOn w between) (one : WentOn between new) (step : StepAt between new told now.place next.place) (full : IsFullTold new told) (few : new.others ≤ new.most_others) (so : TookSo w.setup phase count was now w.seen between.seen) (items : next.answers.items ≡ now.answers.items ++ record { line = phase; answer = told } ∷ []) (each : next.each ≡ now.each) (capacity : vec_capacity next.answers ≡ vec_capacity now.answers) where
   abbrev reply : LineReply
   reply = record { line = phase; answer = told }
 
@@ -179,7 +179,7 @@ module _ (w between new : Standing) (phase count : ℕ) (was now next : Aheads) 
   pub step-on : is_none_stepped told ≡ false → TookSo w.setup phase (count + 1) was next w.seen new.seen
   step-on calm =
       let some = step-took between.setup between.number step.taken told between.seen new.seen step.answered calm in
-      let placed : StepPlaced (Some some.0) (hand_of now.place) (hand_of next.place) = rw some.1 at step.placed in
+      let placed : AheadStepPlaced (Some some.0) (hand_of now.place) (hand_of next.place) = rw some.1 at step.placed in
       took-on w.setup phase count was now next reply some.0 w.seen between.seen new.seen so items (ap (λ p. p.taken) placed) each capacity refl
       (subst (λ taken. AheadAnswered w.setup read_ahead_worker taken told between.seen new.seen) some.1 answered-as) room-as placed-so
 
@@ -187,7 +187,7 @@ module _ (w between new : Standing) (phase count : ℕ) (was now next : Aheads) 
   pub step-last : (limit : ℕ) → count + 1 ≤ limit → is_none_stepped told ≡ true → StepsMade w.setup phase limit was next w.seen new.seen
   step-last limit less found =
       let none = step-found between.setup between.number step.taken told between.seen new.seen step.answered found in
-      let placed : StepPlaced None (hand_of now.place) (hand_of next.place) = rw none.0 at step.placed in
+      let placed : AheadStepPlaced None (hand_of now.place) (hand_of next.place) = rw none.0 at step.placed in
       none-made w.setup phase count limit was now next reply w.seen between.seen new.seen so less items (ap (λ p. p.taken) placed) each capacity refl none.1
       (subst (λ taken. AheadAnswered w.setup read_ahead_worker taken told between.seen new.seen) none.0 answered-as) room-as placed-so
 
@@ -217,7 +217,7 @@ steps-since u phase count was now older old new idle made = record {
 }
 
 -- on a desk that acts as the worker, it may make its steps, and what they left is what the desk's steps left
-pub desk-may-step : (w0 w1 : Standing) → w1 ≡ record w0 { number = read_ahead_worker; since = w0.seen } → w1.most_others ≡ 0 → IsReady w0 → MayStep w1
+pub desk-may-step : (w0 w1 : Standing) → w1 ≡ record w0 { number = read_ahead_worker; since = w0.seen } → w1.most_others ≡ 0 → PassIsReady w0 → WorkerMayStep w1
 desk-may-step w0 w1 acts alone ready = record {
   is_worker = ap (λ w. w.number) acts;
   free = record { free = ap (λ w. w.held) acts ∙ ready.free; none = ap (λ w. w.in_flight) acts ∙ ready.at_rest };

@@ -17,9 +17,9 @@ use Rattle.cc_model.specs.Passes.{HasSeen, is_mine}
 use Rattle.cc_model.specs.Setup.{Setup}
 use Rattle.cc_effects.specs.Moments.{IsIdle, Others}
 use Rattle.cc_effects.proofs.Stretches.{idle-none}
-use Rattle.cc_pieces.specs.Explained.{Answered, Given, IsExplained}
+use Rattle.cc_pieces.specs.Explained.{Answered, GivenToRun, IsExplained}
 use Rattle.cc_pieces.specs.Openings.{Opened, OpeningBehind, StreamOpening, is_record_of}
-use Rattle.cc_pieces.specs.Restarts.{Restarted, RestartAnswered, refusal_told, refused_for, refused_restart}
+use Rattle.cc_pieces.specs.Restarts.{RestartsInOrder, RestartAnswered, refusal_told, refused_for, refused_restart}
 use Rattle.cc_pieces.specs.Phases.{PhasesRan, Plan}
 use Rattle.cc_pieces.proofs.Grown.{grew-then}
 use Rattle.cc_pieces.proofs.LeftStreams.{IsLeft, left-restart}
@@ -144,7 +144,7 @@ seen-restart : (u : Setup) (handle : ℕ) (told : Answer) (old new : List Entry)
 seen-restart u handle told old new left =
     left-seen u 0 old new (left-restart u 0 (λ past s handle legal is. handle-below u past s handle legal is) handle told old new left)
 
-seen-restarts : (u : Setup) (restarts : List RestartLine) (ended : List LineReply) (old new : List Entry) → Restarted u restarts ended old new → HasSeen old new
+seen-restarts : (u : Setup) (restarts : List RestartLine) (ended : List LineReply) (old new : List Entry) → RestartsInOrder u restarts ended old new → HasSeen old new
 seen-restarts u [] [] old new done = record { later = done.during; grew = done.grew }
 seen-restarts u [] (reply ∷ ended) old new done = absurd done
 seen-restarts u (restart ∷ restarts) [] old new done = absurd done
@@ -172,7 +172,7 @@ get-behind (x ∷ xs) ys n zero is = absurd (omega (arith, is))
 get-behind (x ∷ xs) ys n (suc m) is = get-behind xs ys n m (omega (arith, is))
 
 -- So it is in a run.
-pub stored-lines : (u : Setup) (given : Given) (told : Answered) (taken : List Request) (past : List Entry) → IsExplained u given told taken past → (s : ℕ) (stream : StreamLine) (reply : LineReply) → slice_get given.streams s ≡ Some stream → slice_get told.replies (length given.restarts + s) ≡ Some reply → stream.stored ≡ true → refused_for stream.log given.restarts told.replies ≡ None → StoredLine u s stream reply.answer past
+pub stored-lines : (u : Setup) (given : GivenToRun) (told : Answered) (taken : List Request) (past : List Entry) → IsExplained u given told taken past → (s : ℕ) (stream : StreamLine) (reply : LineReply) → slice_get given.streams s ≡ Some stream → slice_get told.replies (length given.restarts + s) ≡ Some reply → stream.stored ≡ true → refused_for stream.log given.restarts told.replies ≡ None → StoredLine u s stream reply.answer past
 stored-lines u given told taken past is s stream reply at answered stored kept =
     let number : 0 + s ≡ s = omega arith in
     subst (λ m. StoredLine u m stream reply.answer past) number

@@ -26,7 +26,7 @@ use Rattle.cc_pieces.proofs.TickSteps.{ticks-idle, ticks-more, ticks-since}
 use Rattle.cc_turns.specs.Standing.{Standing}
 use Rattle.cc_lines.specs.Holds.{NamesState}
 use Rattle.cc_lines.specs.Line.{IsFullTold}
-use Rattle.cc_run.specs.Desks.{IsReady}
+use Rattle.cc_run.specs.Desks.{PassIsReady}
 use Rattle.cc_run.specs.Lines.{IsCaller, LinesEnd}
 use Rattle.cc_run.specs.Ticks.{MayTick, TicksMade}
 use Rattle.cc_run.specs.declared.ticks.Ticks.{Ticks}
@@ -104,7 +104,7 @@ made-since u phase count was now older old new idle made = record {
 }
 
 -- on a desk that acts as the lazy writer, it may make its ticks
-pub desk-may : (w0 w1 : Standing) → w1 ≡ record w0 { number = lazy_writer; since = w0.seen } → w1.most_others ≡ 0 → IsReady w0 → MayTick w1
+pub desk-may : (w0 w1 : Standing) → w1 ≡ record w0 { number = lazy_writer; since = w0.seen } → w1.most_others ≡ 0 → PassIsReady w0 → MayTick w1
 desk-may w0 w1 acts alone ready = record {
   is_lazy = ap (λ w. w.number) acts;
   free = record { free = ap (λ w. w.held) acts ∙ ready.free; none = ap (λ w. w.in_flight) acts ∙ ready.at_rest };

@@ -16,7 +16,7 @@ use Rattle.cc_script.specs.declared.script.Action.TheVariants as action
 use Rattle.cc_script.specs.declared.script.ActionLine.{ActionLine}
 use Rattle.cc_pieces.specs.Explained.{posted_in}
 use Rattle.cc_pieces.specs.Served.{posted_by}
-use Rattle.cc_run.specs.Once.{AllTellPart, ArePart, IsPut, TellsPart, tells_it}
+use Rattle.cc_run.specs.Once.{AllTellPart, ArePart, IsAnswerPut, TellsPart, tells_it}
 use Rattle.cc_run.proofs.PostSteps.{get-there}
 use Rattle.cc_run.proofs.ToldOnce.{all-same, once-more, once-none, part-long, part-same, part-then, part-without}
 
@@ -171,7 +171,7 @@ set-twice [] at x y = refl
 set-twice (z ∷ xs) zero x y = refl
 set-twice (z ∷ xs) (suc at) x y = ap (λ l. z ∷ l) (set-twice xs at x y)
 
-put-twice : (at : ℕ) (first second told other : Answer) (old mid new : List LineReply) → IsPut at first told old mid → IsPut at second other mid new → IsPut at second told old new
+put-twice : (at : ℕ) (first second told other : Answer) (old mid new : List LineReply) → IsAnswerPut at first told old mid → IsAnswerPut at second other mid new → IsAnswerPut at second told old new
 put-twice at first second told other old mid new one two = record {
   reply = one.reply;
   there = one.there;
@@ -202,7 +202,7 @@ once-first lines replies at end long = record {
   all = λ id. refl;
 }
 
-module _ (lines : List ActionLine) (first now mid : List LineReply) (before at : ℕ) (line : ActionLine) (told : Answer) (next : before ≡ suc at) (here : drop at lines ≡ line ∷ drop (suc at) lines) (left : OnceFrom lines first before now) (out : IsPut at answer.NoHold told now mid) where
+module _ (lines : List ActionLine) (first now mid : List LineReply) (before at : ℕ) (line : ActionLine) (told : Answer) (next : before ≡ suc at) (here : drop at lines ≡ line ∷ drop (suc at) lines) (left : OnceFrom lines first before now) (out : IsAnswerPut at answer.NoHold told now mid) where
   -- what stands behind the answer that was taken out
   behind_mid : drop (suc at) mid ≡ drop (suc at) now
   behind_mid = ap (λ l. drop (suc at) l) out.left ∙ drop-set-lt (suc at) now at (record { line = out.reply.line; answer = answer.NoHold }) (omega arith)
@@ -215,7 +215,7 @@ module _ (lines : List ActionLine) (first now mid : List LineReply) (before at :
   apart-behind = subst (λ l. IsDistinct nat_eq (posted_in (drop (suc at) lines) l)) (sym behind_mid)
       (subst (λ n. IsDistinct nat_eq (posted_in (drop n lines) (drop n now))) next left.once)
 
-  module _ (kept other : Answer) (new : List LineReply) (later : List ActionLine) (after : List LineReply) (later_is : later ≡ drop (suc at) lines) (after_is : after ≡ drop (suc at) mid) (part : TellsPart line.action told kept) (once : IsDistinct nat_eq (posted_by line.action kept ++ posted_in later after)) (all : (id : ℕ) → tells_it id (posted_by line.action told ++ posted_in later after) ≡ tells_it id (posted_by line.action kept ++ posted_in later after)) (back : IsPut at kept other mid new) where
+  module _ (kept other : Answer) (new : List LineReply) (later : List ActionLine) (after : List LineReply) (later_is : later ≡ drop (suc at) lines) (after_is : after ≡ drop (suc at) mid) (part : TellsPart line.action told kept) (once : IsDistinct nat_eq (posted_by line.action kept ++ posted_in later after)) (all : (id : ℕ) → tells_it id (posted_by line.action told ++ posted_in later after) ≡ tells_it id (posted_by line.action kept ++ posted_in later after)) (back : IsAnswerPut at kept other mid new) where
     behind_now : after ≡ drop (suc at) now
     behind_now = after_is ∙ behind_mid
 
@@ -225,7 +225,7 @@ module _ (lines : List ActionLine) (first now mid : List LineReply) (before at :
     all_now : (id : ℕ) → tells_it id (posted_by line.action told ++ posted_in (drop (suc at) lines) (drop (suc at) now)) ≡ tells_it id (posted_by line.action kept ++ posted_in (drop (suc at) lines) (drop (suc at) now))
     all_now id = rw (later_is, behind_now) at all id
 
-    put : IsPut at kept told now new
+    put : IsAnswerPut at kept told now new
     put = put-twice at answer.NoHold kept told other now mid new out back
 
     abbrev rest : List ℕ

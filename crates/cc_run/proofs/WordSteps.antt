@@ -13,12 +13,12 @@ use Rattle.cc_script.specs.declared.bound.Bound.{Bound}
 use Rattle.cc_script.specs.declared.script.Action.{Action}
 use Rattle.cc_script.specs.declared.script.Action.TheVariants as action
 use Rattle.cc_script.specs.declared.script.ActionLine.{ActionLine}
-use Rattle.cc_script.specs.HoldWords.{AreUsedRight, IsRightIf, UsesRight, as_ended, as_pin, binds, bound_after, bound_if, bound_so_far, changed, repinned, words_bound}
+use Rattle.cc_script.specs.HoldWords.{AreUsedRight, IsRightIf, UsesRight, as_ended, as_pin, binds, bound_after, bound_if, bound_so_far, with_hold_changed, bound_repinned, words_bound}
 use Rattle.cc_pieces.specs.Bindings.{Binding}
 use Rattle.cc_pieces.specs.Runs.{asked_of, bindings_of}
 use Rattle.cc_pieces.specs.Served.{bindings_after}
 use Rattle.cc_lines.specs.Holds.{NamesState}
-use Rattle.cc_run.specs.Lines.{AllStand, HaveRoom, KeepRoom, after_line, after_lines, asked_by, bound_by}
+use Rattle.cc_run.specs.Lines.{AllStand, HaveRoom, KeepRoom, after_line, after_lines, asked_by_caller, bound_by}
 use Rattle.cc_run.proofs.Lists.{mapped-at, there}
 
 -- what a caller bound behind lines in two parts
@@ -63,16 +63,16 @@ long-set [] n x = refl
 long-set (y ∷ xs) zero x = refl
 long-set (y ∷ xs) (suc n) x = ap suc (long-set xs n x)
 
-long-changed : (change : Bound → Bound) (o : Option Bound) (bounds : List Bound) (word : ℕ) → length (changed change o bounds word) ≡ length bounds
+long-changed : (change : Bound → Bound) (o : Option Bound) (bounds : List Bound) (word : ℕ) → length (with_hold_changed change o bounds word) ≡ length bounds
 long-changed change None bounds word = refl
 long-changed change (Some b) bounds word = long-set bounds word (change b)
 
 one-more : (bounds : List Bound) (b : Bound) → length (bounds ++ b ∷ []) ≡ length bounds + 1
 one-more bounds b = length-append bounds (b ∷ [])
 
-long-repinned : (o : Option Bound) (b : Bound) (bounds : List Bound) → o ≡ Some b → length (bounds ++ repinned o) ≡ length bounds + 1
+long-repinned : (o : Option Bound) (b : Bound) (bounds : List Bound) → o ≡ Some b → length (bounds ++ bound_repinned o) ≡ length bounds + 1
 long-repinned None b bounds is = absurd (cc is)
-long-repinned (Some c) b bounds is = length-append bounds (repinned (Some c))
+long-repinned (Some c) b bounds is = length-append bounds (bound_repinned (Some c))
 
 long-after : (asked : Action) (bounds : List Bound) → UsesRight bounds asked → length (bound_after asked bounds) ≡ length bounds + (if binds asked then 1 else 0)
 long-after (action.Map file at len word) bounds right = one-more bounds _
@@ -119,13 +119,13 @@ bindings-append bindings (x ∷ xs) ys = bindings-append (bindings_after x.0 x.1
 pub after-append : (me : ℕ) (bindings : ℕ → List Binding) (lines more : List ActionLine) (replies others : List LineReply) → length lines ≡ length replies → after_lines (lines ++ more) (replies ++ others) bindings me ≡ after_lines more others (after_lines lines replies bindings) me
 after-append me bindings lines more replies others same =
     ap (bindings_of (bindings me)) (asked-append (λ line. line.caller == me) lines more replies others same)
-    ∙ bindings-append (bindings me) (asked_by me lines replies) (asked_by me more others)
+    ∙ bindings-append (bindings me) (asked_by_caller me lines replies) (asked_by_caller me more others)
 
 pub after-first : (me : ℕ) (bindings : ℕ → List Binding) (line : ActionLine) (lines : List ActionLine) (reply : LineReply) (replies : List LineReply) → after_lines (line ∷ lines) (reply ∷ replies) bindings me ≡ after_lines lines replies (after_line line reply.answer bindings) me
 after-first me bindings line lines reply replies = by (line.caller == me)
   where
     asked : List (Action × Answer)
-    asked = asked_by me lines replies
+    asked = asked_by_caller me lines replies
 
     by : (b : Bool) → bindings_of (bindings me) (if b then (line.action, reply.answer) ∷ asked else asked) ≡ bindings_of (if b then bindings_after line.action reply.answer (bindings me) else bindings me) asked
     by true = refl

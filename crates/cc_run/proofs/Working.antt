@@ -6,11 +6,11 @@ use Rattle.cc_turns.specs.Desk.{Tells}
 use Rattle.cc_turns.specs.Slots.{setup_in}
 use Rattle.cc_turns.specs.Standing.{nothing}
 use Rattle.cc_lines.specs.Line.{WentOn}
-use Rattle.cc_board.specs.Board.{BoardState, PassState, SeatedState, pass_of}
-use Rattle.cc_board.specs.View.{held_of, run_of}
+use Rattle.cc_board.specs.Board.{BoardState, PassState, SeatedState, seated_pass}
+use Rattle.cc_board.specs.View.{turns_held, run_of}
 use Rattle.cc_board.proofs.Names.{same_board}
 use Rattle.cc_run.specs.Ticks.{MayTick, TicksMade}
-use Rattle.cc_run.specs.Aheads.{MayStep, StepsMade}
+use Rattle.cc_run.specs.Aheads.{WorkerMayStep, StepsMade}
 use Rattle.cc_run.specs.Workers.{MayStepOn, MayWork, StepperRan, WorkerRan}
 use Rattle.cc_run.specs.declared.aheads.Aheads.{Aheads}
 use Rattle.cc_run.specs.declared.workers.Stepper.{Stepper}
@@ -21,7 +21,7 @@ use Rattle.cc_run.proofs.StepsRan.{took-made, took-none}
 use Rattle.cc_run.proofs.TicksRan.{made-none}
 
 module _ {D L Q : Type 0} (tells : Tells D L Q) (board : BoardState D L) (worker : Worker D L Q) (may : MayWork board worker) where
-  module _ (seated : SeatedState D L) (here : seated.board ≡ board) (is : pass_of seated ≡ worker.pass) (free : held_of seated.knows ≡ nothing) where
+  module _ (seated : SeatedState D L) (here : seated.board ≡ board) (is : seated_pass seated ≡ worker.pass) (free : turns_held seated.knows ≡ nothing) where
     -- it may make its ticks
     pub may-tick : MayTick (seat_at tells seated)
     may-tick = record {
@@ -37,9 +37,9 @@ module _ {D L Q : Type 0} (tells : Tells D L Q) (board : BoardState D L) (worker
     setup-is = ap (λ p. setup_in tells (run_of p.knows)) is ∙ ap (setup_in tells) may.run
 
     -- it made them
-    pub worker-ran : (phase : ℕ) (after : SeatedState D L) (pass : PassState D L) (ticks : Ticks) → WentOn (seat_at tells seated) (seat_at tells after) → pass ≡ pass_of after → TicksMade (seat_at tells seated).setup phase worker.ticks.each worker.ticks ticks seated.knows.seen after.knows.seen → (ended : Worker D L Q) → ended.pass ≡ pass → ended.ticks ≡ ticks → WorkerRan tells board phase worker ended
+    pub worker-ran : (phase : ℕ) (after : SeatedState D L) (pass : PassState D L) (ticks : Ticks) → WentOn (seat_at tells seated) (seat_at tells after) → pass ≡ seated_pass after → TicksMade (seat_at tells seated).setup phase worker.ticks.each worker.ticks ticks seated.knows.seen after.knows.seen → (ended : Worker D L Q) → ended.pass ≡ pass → ended.ticks ≡ ticks → WorkerRan tells board phase worker ended
     worker-ran phase after pass ticks went into made ended pass_is ticks_are =
-        let whole : ended.pass ≡ pass_of after = pass_is ∙ into in
+        let whole : ended.pass ≡ seated_pass after = pass_is ∙ into in
         let seen : ended.pass.knows.seen ≡ after.knows.seen = ap (λ p. p.knows.seen) whole in
         record {
           here = ap (λ p. p.board) whole ∙ (same_board after.board.id seated.board.id (ap (λ w. w.shared) went.same) ∙ ap (λ b. b.id) here);
@@ -60,9 +60,9 @@ module _ {D L Q : Type 0} (tells : Tells D L Q) (board : BoardState D L) (worker
   }
 
 module _ {D L Q : Type 0} (tells : Tells D L Q) (board : BoardState D L) (queue : TableId) (stepper : Stepper D L Q) (may : MayStepOn board queue stepper) where
-  module _ (seated : SeatedState D L) (here : seated.board ≡ board) (is : pass_of seated ≡ stepper.pass) (free : held_of seated.knows ≡ nothing) where
+  module _ (seated : SeatedState D L) (here : seated.board ≡ board) (is : seated_pass seated ≡ stepper.pass) (free : turns_held seated.knows ≡ nothing) where
     -- it may make its steps
-    pub may-step : MayStep (seat_at tells seated)
+    pub may-step : WorkerMayStep (seat_at tells seated)
     may-step = record {
       is_worker = ap (λ p. p.knows.number) is ∙ may.number_is;
       free = record { free = free; none = ap (λ p. p.knows.in_flight) is ∙ may.none };
@@ -76,9 +76,9 @@ module _ {D L Q : Type 0} (tells : Tells D L Q) (board : BoardState D L) (queue 
     stepper-setup = ap (λ p. setup_in tells (run_of p.knows)) is ∙ ap (setup_in tells) may.run
 
     -- it made them
-    pub stepper-ran : (phase : ℕ) (after : SeatedState D L) (pass : PassState D L) (aheads : Aheads) → WentOn (seat_at tells seated) (seat_at tells after) → pass ≡ pass_of after → StepsMade (seat_at tells seated).setup phase stepper.aheads.each stepper.aheads aheads seated.knows.seen after.knows.seen → (ended : Stepper D L Q) → ended.pass ≡ pass → ended.aheads ≡ aheads → StepperRan tells board phase stepper ended
+    pub stepper-ran : (phase : ℕ) (after : SeatedState D L) (pass : PassState D L) (aheads : Aheads) → WentOn (seat_at tells seated) (seat_at tells after) → pass ≡ seated_pass after → StepsMade (seat_at tells seated).setup phase stepper.aheads.each stepper.aheads aheads seated.knows.seen after.knows.seen → (ended : Stepper D L Q) → ended.pass ≡ pass → ended.aheads ≡ aheads → StepperRan tells board phase stepper ended
     stepper-ran phase after pass aheads went into made ended pass_is aheads_are =
-        let whole : ended.pass ≡ pass_of after = pass_is ∙ into in
+        let whole : ended.pass ≡ seated_pass after = pass_is ∙ into in
         let seen : ended.pass.knows.seen ≡ after.knows.seen = ap (λ p. p.knows.seen) whole in
         record {
           here = ap (λ p. p.board) whole ∙ (same_board after.board.id seated.board.id (ap (λ w. w.shared) went.same) ∙ ap (λ b. b.id) here);

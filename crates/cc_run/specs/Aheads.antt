@@ -14,7 +14,7 @@ use Rattle.cc_pieces.specs.Phases.{AheadsRan, EndsWithNone, read_ahead_worker}
 use Rattle.cc_run.specs.declared.aheads.Aheads.{Aheads}
 
 -- The worker may make its steps: it holds no turn and has nothing under way, and others have few entries under way.
-pub record MayStep (w : Standing) : Type 0 where
+pub record WorkerMayStep (w : Standing) : Type 0 where
   pub is_worker : w.number ≡ read_ahead_worker
   pub free : IsFree w
   pub few : w.most_others ≤ 28

@@ -11,7 +11,7 @@ use Rattle.cc_program.specs.Restarting.{AreEndsOf, RestartsEnded}
 
 -- Before the first phase the restarts of the script, which ended so, were ended, and then its streams were opened, each line with a
 -- reply of its own, by pass 0 alone.
-pub record HasBegun (u : Setup) (script : Script) (restarted : List LogRestart) (ended between : List LineReply) (ends begun : List Entry)
+pub record RunHasBegun (u : Setup) (script : Script) (restarted : List LogRestart) (ended between : List LineReply) (ends begun : List Entry)
     : Type 0 where
   pub are : AreEndsOf script.restarts restarted
   pub ended_are : RestartsEnded u restarted ended [] ends

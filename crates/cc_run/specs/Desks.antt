@@ -3,7 +3,7 @@ use Rattle.std.specs.Prelude.{◌≡◌}
 use Rattle.cc_turns.specs.Standing.{Standing, nothing}
 
 -- Any pass may act next: no turn is held, and nothing is under way.
-pub record IsReady (w : Standing) : Type 0 where
+pub record PassIsReady (w : Standing) : Type 0 where
   pub free : w.held ≡ nothing
   pub at_rest : w.in_flight ≡ 0
 

@@ -20,7 +20,7 @@ use Rattle.cc_pieces.specs.Runs.{Explains, asked_of, bindings_of}
 use Rattle.cc_pieces.specs.Served.{bindings_after}
 use Rattle.cc_pieces.specs.Explained.{answered_lines}
 use Rattle.cc_turns.specs.Standing.{Standing}
-use Rattle.cc_lines.specs.Holds.{NamesState, NamesStand, HasRoom}
+use Rattle.cc_lines.specs.Holds.{NamesState, NamesStand, HasRoomForWord}
 
 -- the number of a caller of a script
 pub record IsCaller (number : ℕ) : Type 0 where
@@ -33,12 +33,12 @@ after_line line told bindings me =
     if line.caller == me then bindings_after line.action told (bindings me) else bindings me
 
 -- the lines of a caller, each with its answer
-abbrev pub asked_by : ℕ → List ActionLine → List LineReply → List (Action × Answer)
-asked_by me lines replies = asked_of (λ line. line.caller == me) lines replies
+abbrev pub asked_by_caller : ℕ → List ActionLine → List LineReply → List (Action × Answer)
+asked_by_caller me lines replies = asked_of (λ line. line.caller == me) lines replies
 
 -- the bindings of each caller behind several lines
 abbrev pub after_lines : List ActionLine → List LineReply → (ℕ → List Binding) → ℕ → List Binding
-after_lines lines replies bindings me = bindings_of (bindings me) (asked_by me lines replies)
+after_lines lines replies bindings me = bindings_of (bindings me) (asked_by_caller me lines replies)
 
 -- what each caller bound, behind several lines
 abbrev pub bound_by : List ActionLine → (ℕ → List Bound) → ℕ → List Bound
@@ -93,7 +93,7 @@ pub record MayServeLine (streams : ℕ) (past : List Entry) (line : ActionLine) 
   pub bindings : List Binding
   pub stand : NamesStand streams line.caller past bounds bindings names.named
   pub right : UsesRight bounds line.action
-  pub room : HasRoom line.action names
+  pub room : HasRoomForWord line.action names
 
 -- A line was served, and what is kept of its caller's words stands for it.
 pub record LineEnd (w : Standing) (bounds : List Bound) (bindings : List Binding) (line : ActionLine) (told : Answer)

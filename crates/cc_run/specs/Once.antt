@@ -16,7 +16,7 @@ abbrev pub tells_it : ℕ → List ℕ → Bool
 tells_it id ids = list_any (λ told. id == told) ids
 
 -- an answer was put in place of another, which came back
-pub record IsPut (at : ℕ) (answer told : Answer) (old new : List LineReply) : Type 0 where
+pub record IsAnswerPut (at : ℕ) (answer told : Answer) (old new : List LineReply) : Type 0 where
   pub reply : LineReply
   pub there : slice_get old at ≡ Some reply
   pub told_is : told ≡ reply.answer

@@ -10,7 +10,7 @@ use Rattle.cc_queue.specs.Places.{PlaceState}
 use Rattle.cc_journal.specs.Capacity.{IsWithinCapacity}
 use Rattle.cc_model.specs.Good.{IsGood}
 use Rattle.cc_pieces.specs.Explained.{Answered}
-use Rattle.cc_pieces.specs.Steps.{PostsLeft, deferrals_by}
+use Rattle.cc_pieces.specs.Steps.{RoutinesLeft, deferrals_by}
 use Rattle.cc_pieces.specs.Table.{table_of}
 use Rattle.cc_script.specs.declared.script.Mode.{Mode}
 use Rattle.cc_script.specs.declared.script.Mode.TheVariants as mode
@@ -41,9 +41,9 @@ abbrev pub run_replies : Script → List LineReply → List LineReply
 run_replies script replies = drop (length script.restarts) replies
 
 -- the numbers of the deferred writes of a script's `defer` lines, where one was run
-abbrev pub deferrals_in : Option Script → List LineReply → List (Option ℕ)
-deferrals_in None replies = []
-deferrals_in (Some script) replies = deferrals_by script.streams script.lines (run_replies script replies)
+abbrev pub deferrals_of_script : Option Script → List LineReply → List (Option ℕ)
+deferrals_of_script None replies = []
+deferrals_of_script (Some script) replies = deferrals_by script.streams script.lines (run_replies script replies)
 
 -- how many ticks a script asks for in its phases, where one was run; in steps there are none
 abbrev pub ticks_asked : Mode → Option Script → ℕ
@@ -68,7 +68,7 @@ pub record HasRun {D L Q : Type 0} (tells : Tells D L Q) (m : Mode) (script : Sc
   pub table : IfSome ran.table (λ rows. rows.items ≡ table_of (reverse ran.journal.items))
   pub disks_left : DisksLeft tells.disk tells.disk_faults (reverse ran.journal.items) disks ran.disks.items
   pub logs_left : LogsLeft tells.log tells.log_faults (reverse ran.journal.items) logs ran.logs.items
-  pub posts_left : PostsLeft tells.posted (deferrals_in (Some script) ran.replies.items) (reverse ran.journal.items)
+  pub posts_left : RoutinesLeft tells.posted (deferrals_of_script (Some script) ran.replies.items) (reverse ran.journal.items)
       posts ran.posts.items
 
 -- A script was run behind its restarts, over the disks and the logs that these left.

@@ -10,19 +10,19 @@ use Rattle.cc_script.specs.declared.script.ActionLine.{ActionLine}
 use Rattle.cc_pieces.specs.Explained.{answered_lines}
 use Rattle.cc_pieces.specs.Phases.{is_of_phase}
 use Rattle.cc_pieces.specs.Runs.{asked_of}
-use Rattle.cc_board.specs.Board.{BoardState, FirstState, IsFirstOf, IsOf}
+use Rattle.cc_board.specs.Board.{BoardState, FirstState, IsFirstOf, IsOfBoard}
 use Rattle.cc_board.specs.View.{run_of}
 use Rattle.cc_turns.specs.Places.{IsRoomFor}
 use Rattle.cc_lines.specs.Holds.{NamesState}
-use Rattle.cc_run.specs.Callers.{asked_own, count_of, row_at}
+use Rattle.cc_run.specs.Callers.{asked_own, count_of_caller, row_at}
 use Rattle.cc_run.specs.declared.callers.Caller.{Caller}
-use Rattle.cc_run.specs.declared.callers.Finished.{Finished}
+use Rattle.cc_run.specs.declared.callers.FinishedCaller.{FinishedCaller}
 
 -- Room for the answers of each of 16 callers, from the last one on.
 pub record AreRooms (lines : List ActionLine) (rooms : List (Vec Answer Global)) : Type 0 where
   pub counted : length rooms ≡ 16
   pub each : (n : ℕ) (room : Vec Answer Global) → slice_get rooms n ≡ Some room →
-      IsRoomFor (count_of (16 - n) lines) room.items (vec_capacity room)
+      IsRoomFor (count_of_caller (16 - n) lines) room.items (vec_capacity room)
 
 -- Pass 0 may split the passes of the 16 callers, and two more: it is of the board, and of its run, with nothing under way, and
 -- made none yet.
@@ -36,9 +36,9 @@ pub record MaySplit {D L : Type 0} (board : BoardState D L) (first : FirstState 
 
 -- A caller was made: its pass has the number, has seen what pass 0 has seen, and has nothing under way; and the room and
 -- what is kept of its words are the caller's.
-pub record IsMade {D L Q : Type 0} (board : BoardState D L) (first : FirstState D L) (number : ℕ) (room : Vec Answer Global)
+pub record CallerIsMade {D L Q : Type 0} (board : BoardState D L) (first : FirstState D L) (number : ℕ) (room : Vec Answer Global)
     (names : NamesState) (caller : Caller D L Q) : Type 0 where
-  pub here : IsOf board caller.pass
+  pub here : IsOfBoard board caller.pass
   pub run : run_of caller.pass.knows ≡ run_of first.knows
   pub number_is : caller.pass.knows.number ≡ number
   pub seen_is : caller.pass.knows.seen ≡ first.knows.seen
@@ -54,7 +54,7 @@ pub record AreSplit {D L Q : Type 0} (board : BoardState D L) (rooms : List (Vec
   pub counted : length callers ≡ 16
   pub each : (n : ℕ) (caller : Caller D L Q) → slice_get callers n ≡ Some caller →
       (room : Vec Answer Global) × (names : NamesState) × (slice_get rooms (15 - n) ≡ Some room)
-      × (slice_get rows (15 - n) ≡ Some names) × IsMade board old (suc n) room names caller
+      × (slice_get rows (15 - n) ≡ Some names) × CallerIsMade board old (suc n) room names caller
   pub board_is : new.board ≡ old.board
   pub made_is : new.knows.made ≡ 17
   pub passes_are : new.knows.passes ≡ old.knows.passes
@@ -65,19 +65,19 @@ pub record AreSplit {D L Q : Type 0} (board : BoardState D L) (rooms : List (Vec
   pub ended_is : new.knows.ended ≡ old.knows.ended
 
 -- The passes of 16 callers may be joined.
-pub record MayJoin {D L Q : Type 0} (board : BoardState D L) (first : FirstState D L) (ended : List (Finished D L Q)) : Type 0 where
+pub record MayJoin {D L Q : Type 0} (board : BoardState D L) (first : FirstState D L) (ended : List (FinishedCaller D L Q)) : Type 0 where
   pub counted : length ended ≡ 16
   pub here : IsFirstOf board first
-  pub each : AllByRecursion (λ one. IsOf board one.pass) ended
+  pub each : AllByRecursion (λ one. IsOfBoard board one.pass) ended
 
 -- how many entries they have under way
-abbrev pub under_way_of : {D L Q : Type 0} → List (Finished D L Q) → ℕ
+abbrev pub under_way_of : {D L Q : Type 0} → List (FinishedCaller D L Q) → ℕ
 under_way_of [] = 0
 under_way_of (one ∷ ended) = one.pass.knows.in_flight + under_way_of ended
 
 -- They were joined: pass 0 knows of each its number and what it had seen, and has under way what they had; the rows of
 -- their answers are turned round; and what is kept of their words stands from the last caller on.
-pub record AreJoined {D L Q : Type 0} (old new : FirstState D L) (ended : List (Finished D L Q)) (rows : List (Vec Answer Global))
+pub record AreJoined {D L Q : Type 0} (old new : FirstState D L) (ended : List (FinishedCaller D L Q)) (rows : List (Vec Answer Global))
     (names : List NamesState) : Type 0 where
   pub board_is : new.board ≡ old.board
   pub made_is : new.knows.made ≡ old.knows.made

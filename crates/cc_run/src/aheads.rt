@@ -3,7 +3,7 @@
 ghost use Rattle.std.specs.Prelude.{◌≡◌, ◌*◌, ◌≤◌, [], IfOk, vec_capacity};
 ghost use Rattle.cc_pieces.specs.Queue.{is_none_stepped};
 ghost use Rattle.cc_lines.specs.Line.{WentOn};
-ghost use Rattle.cc_run.specs.Aheads.{HasStepRoom, MayStep, StepsMade};
+ghost use Rattle.cc_run.specs.Aheads.{HasStepRoom, WorkerMayStep, StepsMade};
 
 use cc_entry::{Answer, LineReply, NoMemory, Request};
 use cc_lines::serve_step;
@@ -55,7 +55,7 @@ pub(crate) fn make_steps<R: Wait, T: Turns>(
     phase: u32,
     aheads: &mut Aheads,
 )
-    requires may { MayStep (T.standing turns.old) }
+    requires may { WorkerMayStep (T.standing turns.old) }
     requires own { aheads.old.place.queue ≡ queue.now }
     requires room { HasStepRoom aheads.old }
     ensures made { StepsMade (T.standing turns.old).setup phase aheads.old.each aheads.old aheads.new

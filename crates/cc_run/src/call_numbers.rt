@@ -4,14 +4,14 @@ ghost use Rattle.cc_run.specs.Lines.{IsCaller};
 
 /// How many calls each of the 16 callers has made.
 #[derive(Drop)]
-pub(crate) struct Calls {
+pub(crate) struct CallNumbers {
     made: [u32; 16],
 }
 
-impl Calls {
+impl CallNumbers {
     /// None.
-    pub(crate) fn new() -> Calls {
-        Calls { made: [0; 16] }
+    pub(crate) fn new() -> CallNumbers {
+        CallNumbers { made: [0; 16] }
     }
 
     /// The number of the next call of a caller, from 1 on.

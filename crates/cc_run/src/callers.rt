@@ -32,7 +32,7 @@ pub(crate) struct Caller<D: Told, L: LogFile, Q: PostRoutine> {
 
 /// What a caller leaves: its pass, the answers of its lines in their order, and what its words name.
 #[derive(Drop)]
-pub(crate) struct Finished<D: Told, L: LogFile, Q: PostRoutine> {
+pub(crate) struct FinishedCaller<D: Told, L: LogFile, Q: PostRoutine> {
     pub(crate) pass: Pass<D, L, Q>,
     pub(crate) answers: Vec<Answer>,
     pub(crate) names: Names,
@@ -54,8 +54,8 @@ pub(crate) fn run_callers<
     lines: &[ActionLine],
     gate: &P,
     callers: Vec<Caller<D, L, Q>>,
-    room: Vec<Finished<D, L, Q>>,
-) -> Vec<Finished<D, L, Q>>
+    room: Vec<FinishedCaller<D, L, Q>>,
+) -> Vec<FinishedCaller<D, L, Q>>
     requires may { MayAllRun (tells_of D.told D.faults L.told L.faults Q.posted) board.now lines.now callers.items }
     requires own { AllByRecursion (λ caller. queues_of caller.names.places ≡ queues.now) callers.items }
     requires room { IsRoomFor (length callers.items) room.items (vec_capacity room) }
@@ -75,7 +75,7 @@ pub(crate) fn run_callers<
             calls: _,
         } = caller;
         let mut ended = run_callers(rt, alloc, board, queues, lines, gate, callers, room);
-        ended.push_reserved(Finished {
+        ended.push_reserved(FinishedCaller {
             pass,
             answers,
             names,
@@ -84,7 +84,7 @@ pub(crate) fn run_callers<
     }
     let (mut ended, last) = join(
         rt,
-        move || -> Vec<Finished<D, L, Q>>
+        move || -> Vec<FinishedCaller<D, L, Q>>
             requires { IsSync R.row
                 × MayAllRun (tells_of D.told D.faults L.told L.faults Q.posted) board.now lines.now callers.items
                 × AllByRecursion (λ caller. queues_of caller.names.places ≡ queues.now) callers.items
@@ -92,7 +92,7 @@ pub(crate) fn run_callers<
             ensures { AllRan (tells_of D.told D.faults L.told L.faults Q.posted) board.entry.now lines.entry.now
                 callers.items result.items × (vec_capacity result ≡ vec_capacity room) }
         { run_callers(rt, alloc, board, queues, lines, gate, callers, room) },
-        move || -> Finished<D, L, Q>
+        move || -> FinishedCaller<D, L, Q>
             requires { IsSync R.row × MayRun (tells_of D.told D.faults L.told L.faults Q.posted) board.now lines.now caller
                 × (queues_of caller.names.places ≡ queues.now) }
             ensures { CallerRan (tells_of D.told D.faults L.told L.faults Q.posted) board.entry.now lines.entry.now
@@ -112,7 +112,7 @@ fn run_caller<R: Wait, D: PageDisk, L: LogFile, Q: Fresh, P: Gate>(
     lines: &[ActionLine],
     gate: &P,
     caller: Caller<D, L, Q>,
-) -> Finished<D, L, Q>
+) -> FinishedCaller<D, L, Q>
     requires may { MayRun (tells_of D.told D.faults L.told L.faults Q.posted) board.now lines.now caller }
     requires own { queues_of caller.names.places ≡ queues.now }
     ensures ran { CallerRan (tells_of D.told D.faults L.told L.faults Q.posted) board.now lines.now caller result }
@@ -141,7 +141,7 @@ fn run_caller<R: Wait, D: PageDisk, L: LogFile, Q: Fresh, P: Gate>(
             answers.push_reserved(answer);
         }
     }
-    Finished {
+    FinishedCaller {
         pass: seated.into_pass(),
         answers,
         names,

@@ -2,7 +2,7 @@
 
 ghost use Rattle.std.specs.Prelude.{◌≡◌, nat_lt};
 ghost use Rattle.std.specs.List.{list_all};
-ghost use Rattle.cc_program.specs.Ends.{has_devices, has_log};
+ghost use Rattle.cc_program.specs.Ends.{has_devices, is_log_given};
 
 use cc_script::{RestartLine, Script, StreamLine};
 
@@ -19,7 +19,7 @@ pub(crate) fn has_devices(script: &Script, disks: usize, logs: usize, posts: usi
 
 /// Whether each stream that names a log names one of so many.
 fn has_logs(streams: &[StreamLine], logs: usize) -> bool
-    ensures { result ≡ list_all (λ stream. has_log logs stream.log) streams.now }
+    ensures { result ≡ list_all (λ stream. is_log_given logs stream.log) streams.now }
 {
     streams.iter().all(|stream| has_log(stream.log, logs))
 }
@@ -35,7 +35,7 @@ fn has_restarted(restarts: &[RestartLine], logs: usize) -> bool
 
 /// Whether a log is one of so many, where one is named.
 fn has_log(log: Option<u8>, logs: usize) -> bool
-    ensures { result ≡ has_log logs log }
+    ensures { result ≡ is_log_given logs log }
 {
     match log {
         Some(handle) => usize::from(handle) < logs,

@@ -13,7 +13,7 @@ ghost use Rattle.cc_model.specs.Good.{IsGood};
 ghost use Rattle.cc_model.specs.History.{history};
 ghost use Rattle.cc_model.specs.Records.{first_valid};
 ghost use Rattle.cc_model.specs.Setup.{Setup};
-ghost use Rattle.cc_pieces.specs.Explained.{Answered, Given, IsExplained};
+ghost use Rattle.cc_pieces.specs.Explained.{Answered, GivenToRun, IsExplained};
 ghost use Rattle.cc_pieces.specs.Restarts.{refused_for};
 ghost use Rattle.cc_records.specs.Recorded.{told_valid, WasByte};
 ghost use Rattle.cc_traits.specs.Disk.{Disk, page_of, may_of};
@@ -21,39 +21,39 @@ ghost use Rattle.cc_turns.specs.RecordPage.{record_number};
 ghost use Rattle.cc_program.specs.Disks.{DisksLeft};
 ghost use Rattle.cc_program.specs.Setups.{run_disks};
 ghost use Rattle.cc_run.specs.StoredLines.{StoredLine};
-ghost use Rattle.cc_program.specs.Ends.{Input, Output, HasFailed, HasTooFewDevices, IsAsked, IsEnded, IsPut, IsWrong, TookMany, printed_by};
+ghost use Rattle.cc_program.specs.Ends.{Input, ProgramOutput, SinkHasFailed, HasTooFewDevices, IsAsked, ProgramIsEnded, IsTextPut, IsWrong, TookMany, printed_by};
 ghost use Rattle.cc_command.specs.Words.{command_of, is_command};
 
 use cc_traits::PageDisk;
 
 /// Each exit status that tells of no run, or of a text that was not written, has its cause.
 pub fn statuses_have_causes()
-    ensures usage { (i : Input) (o : Output) (script : Option Script) (replies : List LineReply) (journal : List Entry)
-        (status : ℕ) → IsEnded i o script replies journal status → status ≡ 1 → is_command i.words ≡ false }
-    ensures syntax { (i : Input) (o : Output) (script : Option Script) (replies : List LineReply) (journal : List Entry)
-        (status : ℕ) → IsEnded i o script replies journal status → status ≡ 2 → (line : ℕ) × IsWrong i line }
-    ensures read_fault { (i : Input) (o : Output) (script : Option Script) (replies : List LineReply) (journal : List Entry)
-        (status : ℕ) → IsEnded i o script replies journal status → status ≡ 3 → i.faults < i.faults_after }
-    ensures write_fault { (i : Input) (o : Output) (script : Option Script) (replies : List LineReply) (journal : List Entry)
-        (status : ℕ) → IsEnded i o script replies journal status → status ≡ 4 → HasFailed o }
-    ensures too_long { (i : Input) (o : Output) (script : Option Script) (replies : List LineReply) (journal : List Entry)
-        (status : ℕ) → IsEnded i o script replies journal status → status ≡ 5 → TookMany i }
-    ensures too_few { (i : Input) (o : Output) (script : Option Script) (replies : List LineReply) (journal : List Entry)
-        (status : ℕ) → IsEnded i o script replies journal status → status ≡ 7 → HasTooFewDevices i }
+    ensures usage { (i : Input) (o : ProgramOutput) (script : Option Script) (replies : List LineReply) (journal : List Entry)
+        (status : ℕ) → ProgramIsEnded i o script replies journal status → status ≡ 1 → is_command i.words ≡ false }
+    ensures syntax { (i : Input) (o : ProgramOutput) (script : Option Script) (replies : List LineReply) (journal : List Entry)
+        (status : ℕ) → ProgramIsEnded i o script replies journal status → status ≡ 2 → (line : ℕ) × IsWrong i line }
+    ensures read_fault { (i : Input) (o : ProgramOutput) (script : Option Script) (replies : List LineReply) (journal : List Entry)
+        (status : ℕ) → ProgramIsEnded i o script replies journal status → status ≡ 3 → i.faults < i.faults_after }
+    ensures write_fault { (i : Input) (o : ProgramOutput) (script : Option Script) (replies : List LineReply) (journal : List Entry)
+        (status : ℕ) → ProgramIsEnded i o script replies journal status → status ≡ 4 → SinkHasFailed o }
+    ensures too_long { (i : Input) (o : ProgramOutput) (script : Option Script) (replies : List LineReply) (journal : List Entry)
+        (status : ℕ) → ProgramIsEnded i o script replies journal status → status ≡ 5 → TookMany i }
+    ensures too_few { (i : Input) (o : ProgramOutput) (script : Option Script) (replies : List LineReply) (journal : List Entry)
+        (status : ℕ) → ProgramIsEnded i o script replies journal status → status ≡ 7 → HasTooFewDevices i }
 {}
 
 /// A run was made at the statuses 0 and 4, of the script that the words ask for, and at 0 all of its text was written.
 /// Where none was made the journal is empty.
 pub fn runs_are_of_the_script()
-    ensures made { (i : Input) (o : Output) (script : Option Script) (replies : List LineReply) (journal : List Entry)
-        (status : ℕ) → IsEnded i o script replies journal status → (status ≡ 0) ⊎ (status ≡ 4) → is_some script ≡ true }
-    ensures asked { (i : Input) (o : Output) (script : Option Script) (replies : List LineReply) (journal : List Entry)
-        (status : ℕ) → IsEnded i o script replies journal status → IfSome script (IsAsked i) }
-    ensures printed { (i : Input) (o : Output) (script : Option Script) (replies : List LineReply) (journal : List Entry)
-        (status : ℕ) → IsEnded i o script replies journal status → status ≡ 0 →
-        IfSome script (λ made. IsPut o (printed_by (command_of i.words) made replies journal)) }
-    ensures empty { (i : Input) (o : Output) (script : Option Script) (replies : List LineReply) (journal : List Entry)
-        (status : ℕ) → IsEnded i o script replies journal status → script ≡ None → journal ≡ [] }
+    ensures made { (i : Input) (o : ProgramOutput) (script : Option Script) (replies : List LineReply) (journal : List Entry)
+        (status : ℕ) → ProgramIsEnded i o script replies journal status → (status ≡ 0) ⊎ (status ≡ 4) → is_some script ≡ true }
+    ensures asked { (i : Input) (o : ProgramOutput) (script : Option Script) (replies : List LineReply) (journal : List Entry)
+        (status : ℕ) → ProgramIsEnded i o script replies journal status → IfSome script (IsAsked i) }
+    ensures printed { (i : Input) (o : ProgramOutput) (script : Option Script) (replies : List LineReply) (journal : List Entry)
+        (status : ℕ) → ProgramIsEnded i o script replies journal status → status ≡ 0 →
+        IfSome script (λ made. IsTextPut o (printed_by (command_of i.words) made replies journal)) }
+    ensures empty { (i : Input) (o : ProgramOutput) (script : Option Script) (replies : List LineReply) (journal : List Entry)
+        (status : ℕ) → ProgramIsEnded i o script replies journal status → script ≡ None → journal ≡ [] }
 {}
 
 /// What follows of the clauses `good` and `disks` of the program's call. Of a disk of the run that tells its pages, each of
@@ -77,7 +77,7 @@ pub fn records_tell_what_was_there<D: PageDisk>()
 /// read is what the record's page spelled as the run began, where the disk told its pages. For no record of the stream stands in the
 /// journal before its line. A stream whose log was not restarted is not opened, and reads nothing.
 pub fn stored_streams_open_as_spelled()
-    ensures { (u : Setup) (given : Given) (told : Answered) (taken : List Request) (past : List Entry) →
+    ensures { (u : Setup) (given : GivenToRun) (told : Answered) (taken : List Request) (past : List Entry) →
         IsExplained u given told taken past → (s : ℕ) (stream : StreamLine) (reply : LineReply) →
         slice_get given.streams s ≡ Some stream → slice_get told.replies (length given.restarts + s) ≡ Some reply →
         stream.stored ≡ true → refused_for stream.log given.restarts told.replies ≡ None →

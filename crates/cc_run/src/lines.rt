@@ -4,7 +4,7 @@ ghost use Rattle.std.specs.Prelude.{◌≡◌, ◌≢◌, ℕ, ◌+◌, ◌≤�
 ghost use Rattle.std.specs.List.{AllByRecursion};
 ghost use Rattle.cc_effects.specs.Moments.{IsIdle};
 ghost use Rattle.cc_turns.specs.Desk.{standing_of};
-ghost use Rattle.cc_run.specs.Desks.{IsReady, IsSameRun};
+ghost use Rattle.cc_run.specs.Desks.{PassIsReady, IsSameRun};
 ghost use Rattle.cc_model.specs.Good.{IsGood};
 ghost use Rattle.cc_pieces.specs.Bindings.{Binding};
 ghost use Rattle.cc_pieces.specs.Phases.{lazy_writer, read_ahead_worker};
@@ -18,7 +18,7 @@ ghost use Rattle.cc_run.specs.Places.{AreOfQueues, PlacesRan, PlacesWent, queues
 ghost use Rattle.cc_run.specs.Ticks.{HasTickRoom, TicksMade};
 
 use crate::aheads::{Aheads, make_steps};
-use crate::call_numbers::Calls;
+use crate::call_numbers::CallNumbers;
 use crate::ticks::{Ticks, make_ticks};
 use cc_entry::{Answer, LineReply, Request};
 use cc_lines::{Fresh, Names, Queues, serve_at};
@@ -43,11 +43,11 @@ pub(crate) fn serve_lines<R: Wait, D: PageDisk, L: LogFile, Q: Fresh, P: Gate>(
     queues: &Queues,
     lines: &[ActionLine],
     gate: &P,
-    calls: &mut Calls,
+    calls: &mut CallNumbers,
     names: &mut [Names],
     replies: &mut Vec<LineReply>,
 )
-    requires ready { IsReady (standing_of D.told D.faults L.told L.faults desk.old) }
+    requires ready { PassIsReady (standing_of D.told D.faults L.told L.faults desk.old) }
     requires servable { AllByRecursion (λ line.
         IsServable (standing_of D.told D.faults L.told L.faults desk.old).streams line.action) lines.now }
     requires callers { AllByRecursion (λ line. IsCaller line.caller) lines.now }
@@ -65,7 +65,7 @@ pub(crate) fn serve_lines<R: Wait, D: PageDisk, L: LogFile, Q: Fresh, P: Gate>(
         desk.old.last.entries desk.new.last.entries }
     ensures run { IsSameRun (standing_of D.told D.faults L.told L.faults desk.old)
         (standing_of D.told D.faults L.told L.faults desk.new) }
-    ensures ready { IsReady (standing_of D.told D.faults L.told L.faults desk.new) }
+    ensures ready { PassIsReady (standing_of D.told D.faults L.told L.faults desk.new) }
     ensures capacity { vec_capacity replies.new ≡ vec_capacity replies.old }
 {
     for line in lines {
@@ -98,7 +98,7 @@ fn serve_line<R: Wait, D: PageDisk, L: LogFile, Q: Fresh, P: Gate>(
     number: u32,
     names: &mut Names,
 ) -> Answer
-    requires ready { IsReady (standing_of D.told D.faults L.told L.faults desk.old) }
+    requires ready { PassIsReady (standing_of D.told D.faults L.told L.faults desk.old) }
     requires servable { IsServable (standing_of D.told D.faults L.told L.faults desk.old).streams line.now.action }
     requires words { MayServeLine (standing_of D.told D.faults L.told L.faults desk.old).streams desk.old.last.entries
         line.now names.old }
@@ -115,7 +115,7 @@ fn serve_line<R: Wait, D: PageDisk, L: LogFile, Q: Fresh, P: Gate>(
     ensures good { IsGood (standing_of D.told D.faults L.told L.faults desk.old).setup desk.new.last.entries }
     ensures run { IsSameRun (standing_of D.told D.faults L.told L.faults desk.old)
         (standing_of D.told D.faults L.told L.faults desk.new) }
-    ensures ready { IsReady (standing_of D.told D.faults L.told L.faults desk.new) }
+    ensures ready { PassIsReady (standing_of D.told D.faults L.told L.faults desk.new) }
 {
     desk.act_as(line.caller);
     desk.good();
@@ -131,7 +131,7 @@ pub(crate) fn serve_ticks<D: PageDisk, L: LogFile, Q: PostRoutine>(
     phase: u32,
     ticks: &mut Ticks,
 )
-    requires ready { IsReady (standing_of D.told D.faults L.told L.faults desk.old) }
+    requires ready { PassIsReady (standing_of D.told D.faults L.told L.faults desk.old) }
     requires room { HasTickRoom ticks.old }
     ensures made { TicksMade (standing_of D.told D.faults L.told L.faults desk.old).setup phase ticks.old.each
         ticks.old ticks.new desk.old.last.entries desk.new.last.entries }
@@ -139,7 +139,7 @@ pub(crate) fn serve_ticks<D: PageDisk, L: LogFile, Q: PostRoutine>(
     ensures good { IsGood (standing_of D.told D.faults L.told L.faults desk.old).setup desk.new.last.entries }
     ensures run { IsSameRun (standing_of D.told D.faults L.told L.faults desk.old)
         (standing_of D.told D.faults L.told L.faults desk.new) }
-    ensures ready { IsReady (standing_of D.told D.faults L.told L.faults desk.new) }
+    ensures ready { PassIsReady (standing_of D.told D.faults L.told L.faults desk.new) }
 {
     desk.act_as(LAZY_WRITER);
     make_ticks(alloc, desk, phase, ticks);
@@ -156,7 +156,7 @@ pub(crate) fn serve_steps<R: Wait, D: PageDisk, L: LogFile, Q: PostRoutine>(
     phase: u32,
     aheads: &mut Aheads,
 )
-    requires ready { IsReady (standing_of D.told D.faults L.told L.faults desk.old) }
+    requires ready { PassIsReady (standing_of D.told D.faults L.told L.faults desk.old) }
     requires own { aheads.old.place.queue ≡ queue.now }
     requires room { HasStepRoom aheads.old }
     ensures made { StepsMade (standing_of D.told D.faults L.told L.faults desk.old).setup phase aheads.old.each
@@ -165,7 +165,7 @@ pub(crate) fn serve_steps<R: Wait, D: PageDisk, L: LogFile, Q: PostRoutine>(
     ensures good { IsGood (standing_of D.told D.faults L.told L.faults desk.old).setup desk.new.last.entries }
     ensures run { IsSameRun (standing_of D.told D.faults L.told L.faults desk.old)
         (standing_of D.told D.faults L.told L.faults desk.new) }
-    ensures ready { IsReady (standing_of D.told D.faults L.told L.faults desk.new) }
+    ensures ready { PassIsReady (standing_of D.told D.faults L.told L.faults desk.new) }
 {
     desk.act_as(READ_AHEAD_WORKER);
     make_steps(rt, alloc, desk, queue, phase, aheads);

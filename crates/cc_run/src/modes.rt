@@ -3,7 +3,7 @@
 ghost use Rattle.std.specs.Prelude.{◌≡◌, ◌⊎◌, ◌++◌, All, IfOk, IfErr, length, reverse, true, false};
 ghost use Rattle.cc_turns.specs.Desk.{tells_of};
 ghost use Rattle.cc_script.specs.Modes.{IsOfMode};
-ghost use Rattle.cc_script.specs.Within.{IsWithin};
+ghost use Rattle.cc_script.specs.Within.{ScriptIsWithin};
 ghost use Rattle.cc_program.specs.Complete.{RanWithoutFault};
 ghost use Rattle.cc_program.specs.Ends.{has_devices};
 ghost use Rattle.cc_program.specs.Restarting.{AreEndsOf, AreUntouched, MadeAlone, RestartsTold};
@@ -78,7 +78,7 @@ pub(crate) fn run_in_mode<
     logs: Vec<L>,
     posts: Vec<Q>,
 ) -> Result<RestartedRun<D, L, Q>, (Vec<D>, Vec<L>, Vec<Q>)>
-    requires within { IsWithin script.now }
+    requires within { ScriptIsWithin script.now }
     requires of_mode { IsOfMode mode script.now }
     requires enough { has_devices (length disks.items) (length logs.items) (length posts.items) script.now ≡ true }
     requires posts { All (λ routine. Q.posted routine ≡ false) posts.items }
@@ -126,7 +126,7 @@ fn run_restarted<
     logs: Vec<L>,
     posts: Vec<Q>,
 ) -> Result<RunResult<D, L, Q>, (Vec<D>, Vec<L>, Vec<Q>)>
-    requires within { IsWithin script.now }
+    requires within { ScriptIsWithin script.now }
     requires of_mode { IsOfMode mode script.now }
     requires enough { has_devices (length disks.items) (length logs.items) (length posts.items) script.now ≡ true }
     requires posts { All (λ routine. Q.posted routine ≡ false) posts.items }

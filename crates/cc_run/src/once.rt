@@ -5,7 +5,7 @@ ghost use Rattle.std.specs.List.{IsDistinct};
 ghost use Rattle.cc_entry.specs.declared.answer.Answer.{Answer};
 ghost use Rattle.cc_pieces.specs.Explained.{posted_in};
 ghost use Rattle.cc_pieces.specs.Served.{posted_by};
-ghost use Rattle.cc_run.specs.Once.{AllTellPart, ArePart, IsPut, TellsPart, tells_it};
+ghost use Rattle.cc_run.specs.Once.{AllTellPart, ArePart, IsAnswerPut, TellsPart, tells_it};
 
 use cc_entry::{Answer, Ids, LineReply};
 use cc_script::{Action, ActionLine};
@@ -32,7 +32,7 @@ pub(crate) fn tell_once(lines: &[ActionLine], replies: &mut [LineReply])
 // Puts an answer in place of another.
 fn put(replies: &mut [LineReply], at: usize, answer: Answer)
     requires { at < length replies.old }
-    ensures { (told : Answer) × IsPut at answer told replies.old replies.new }
+    ensures { (told : Answer) × IsAnswerPut at answer told replies.old replies.new }
 {
     exchange(replies, at, answer);
 }
@@ -40,7 +40,7 @@ fn put(replies: &mut [LineReply], at: usize, answer: Answer)
 // Puts an answer in place of another, which comes back.
 fn exchange(replies: &mut [LineReply], at: usize, answer: Answer) -> Answer
     requires { at < length replies.old }
-    ensures { IsPut at answer result replies.old replies.new }
+    ensures { IsAnswerPut at answer result replies.old replies.new }
 {
     let reply = &mut replies[at];
     replace(&mut reply.answer, answer)

@@ -5,7 +5,7 @@ ghost use Rattle.cc_effects.specs.Moments.{IsIdle};
 ghost use Rattle.cc_turns.specs.Desk.{standing_of};
 ghost use Rattle.cc_lines.specs.Line.{IsFullTold, WentOn};
 ghost use Rattle.cc_pieces.specs.Openings.{OpeningBehind};
-ghost use Rattle.cc_run.specs.Desks.{IsReady, IsSameRun};
+ghost use Rattle.cc_run.specs.Desks.{PassIsReady, IsSameRun};
 ghost use Rattle.cc_run.specs.Lines.{StreamsOpened};
 ghost use Rattle.cc_pieces.specs.Restarts.{refusal_told, refused_for, refused_restart};
 
@@ -28,7 +28,7 @@ pub(crate) fn open_streams<D: PageDisk, L: LogFile, Q: PostRoutine>(
 )
     requires first { desk.old.pass ≡ 0 }
     requires begins { desk.old.since ≡ desk.old.last.entries }
-    requires ready { IsReady (standing_of D.told D.faults L.told L.faults desk.old) }
+    requires ready { PassIsReady (standing_of D.told D.faults L.told L.faults desk.old) }
     requires known { length streams.now ≤ (standing_of D.told D.faults L.told L.faults desk.old).streams }
     requires few { length streams.now ≤ 16 }
     requires room { vec_len replies.old + length streams.now ≤ vec_capacity replies.old }
@@ -37,7 +37,7 @@ pub(crate) fn open_streams<D: PageDisk, L: LogFile, Q: PostRoutine>(
     ensures alone { (me : ℕ) → me ≢ 0 → IsIdle me desk.old.last.entries desk.new.last.entries }
     ensures run { IsSameRun (standing_of D.told D.faults L.told L.faults desk.old)
         (standing_of D.told D.faults L.told L.faults desk.new) }
-    ensures ready { IsReady (standing_of D.told D.faults L.told L.faults desk.new) }
+    ensures ready { PassIsReady (standing_of D.told D.faults L.told L.faults desk.new) }
     ensures capacity { vec_capacity replies.new ≡ vec_capacity replies.old }
 {
     let mut number = 0;
@@ -62,7 +62,7 @@ fn open_behind<D: PageDisk, L: LogFile, Q: PostRoutine>(
     refused: Option<CcError>,
 ) -> Answer
     requires first { desk.old.pass ≡ 0 }
-    requires ready { IsReady (standing_of D.told D.faults L.told L.faults desk.old) }
+    requires ready { PassIsReady (standing_of D.told D.faults L.told L.faults desk.old) }
     requires known { number < (standing_of D.told D.faults L.told L.faults desk.old).streams }
     requires few { number < 16 }
     ensures opened { OpeningBehind (standing_of D.told D.faults L.told L.faults desk.old).setup number stream.now refused result

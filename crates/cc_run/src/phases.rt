@@ -5,7 +5,7 @@ ghost use Rattle.std.specs.List.{AllByRecursion};
 ghost use Rattle.cc_pieces.specs.Rooms.{is_alone, room_limit};
 ghost use Rattle.cc_script.specs.Within.{PhasesAscend};
 ghost use Rattle.cc_turns.specs.Desk.{standing_of};
-ghost use Rattle.cc_run.specs.Desks.{IsReady, IsSameRun};
+ghost use Rattle.cc_run.specs.Desks.{PassIsReady, IsSameRun};
 ghost use Rattle.cc_pieces.specs.Bindings.{Binding};
 ghost use Rattle.cc_script.specs.HoldWords.{AreUsedRight};
 ghost use Rattle.cc_script.specs.declared.bound.Bound.{Bound};
@@ -17,7 +17,7 @@ ghost use Rattle.cc_run.specs.Places.{AreOfQueues, PlaceWent, PlacesRan};
 ghost use Rattle.cc_run.specs.Ticks.{HasTickRoom, TicksMade};
 
 use crate::aheads::Aheads;
-use crate::call_numbers::Calls;
+use crate::call_numbers::CallNumbers;
 use crate::lines::{serve_lines, serve_steps, serve_ticks};
 use crate::threads::serve_on_threads;
 use crate::ticks::Ticks;
@@ -51,7 +51,7 @@ pub(crate) fn serve_phases<
     ticks: &mut Ticks,
     aheads: Aheads,
 ) -> (Desk<D, L, Q>, Vec<Names>, Aheads)
-    requires ready { IsReady (standing_of D.told D.faults L.told L.faults desk) }
+    requires ready { PassIsReady (standing_of D.told D.faults L.told L.faults desk) }
     requires servable { AllByRecursion (λ line.
         IsServable (standing_of D.told D.faults L.told L.faults desk).streams line.action) lines.now }
     requires callers { AllByRecursion (λ line. IsCaller line.caller) lines.now }
@@ -78,12 +78,12 @@ pub(crate) fn serve_phases<
     ensures run { IsSameRun (standing_of D.told D.faults L.told L.faults desk)
         (standing_of D.told D.faults L.told L.faults result.0) }
     ensures capacity { vec_capacity replies.new ≡ vec_capacity replies.old }
-    ensures ready { IsReady (standing_of D.told D.faults L.told L.faults result.0) }
+    ensures ready { PassIsReady (standing_of D.told D.faults L.told L.faults result.0) }
 {
     let mut desk = desk;
     let mut names = names;
     let mut aheads = aheads;
-    let mut calls = Calls::new();
+    let mut calls = CallNumbers::new();
     let mut rest = lines;
     for phase in 1..phases + 1 {
         let (now, later) = rest.split_at(count_of_phase(rest, phase));
@@ -126,13 +126,13 @@ fn serve_phase<
     phase: u32,
     lines: &[ActionLine],
     gate: &P,
-    calls: &mut Calls,
+    calls: &mut CallNumbers,
     names: &mut Vec<Names>,
     replies: &mut Vec<LineReply>,
     ticks: &mut Ticks,
     aheads: Aheads,
 ) -> (Desk<D, L, Q>, Aheads)
-    requires ready { IsReady (standing_of D.told D.faults L.told L.faults desk) }
+    requires ready { PassIsReady (standing_of D.told D.faults L.told L.faults desk) }
     requires servable { AllByRecursion (λ line.
         IsServable (standing_of D.told D.faults L.told L.faults desk).streams line.action) lines.now }
     requires callers { AllByRecursion (λ line. IsCaller line.caller) lines.now }
@@ -159,7 +159,7 @@ fn serve_phase<
     ensures kept_room { KeepRoom names.old.items names.new.items }
     ensures run { IsSameRun (standing_of D.told D.faults L.told L.faults desk)
         (standing_of D.told D.faults L.told L.faults result.0) }
-    ensures ready { IsReady (standing_of D.told D.faults L.told L.faults result.0) }
+    ensures ready { PassIsReady (standing_of D.told D.faults L.told L.faults result.0) }
     ensures capacity { vec_capacity replies.new ≡ vec_capacity replies.old }
 {
     let mut desk = desk;

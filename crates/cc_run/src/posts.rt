@@ -3,7 +3,7 @@
 ghost use Rattle.std.specs.Prelude.{◌≡◌, ◌+◌, ◌≤◌, All, Some, false, length, reverse, vec_capacity};
 ghost use Rattle.std.specs.List.{list_any};
 ghost use Rattle.cc_script.specs.EventActions.{defer_lines, is_defer};
-ghost use Rattle.cc_pieces.specs.Steps.{PostsLeft, deferral_in, deferrals_by, deferrals_of, posts_it, was_posted};
+ghost use Rattle.cc_pieces.specs.Steps.{RoutinesLeft, deferral_in, deferrals_by, deferrals_of_lines, posts_it, was_posted};
 ghost use Rattle.cc_run.specs.Once.{AreToldOnce};
 
 use crate::once::tell_once;
@@ -14,11 +14,11 @@ use cc_traits::PostRoutine;
 
 /// What waits in the queue of deferred writes for the routine of a `defer` line: whether its write was posted.
 #[derive(Drop)]
-pub(crate) struct Mark {
+pub(crate) struct PostMark {
     posted: bool,
 }
 
-impl PostRoutine for Mark {
+impl PostRoutine for PostMark {
     ghost posted = { λ m. m.posted };
 
     fn post(&mut self) {
@@ -26,9 +26,9 @@ impl PostRoutine for Mark {
     }
 }
 
-impl Fresh for Mark {
-    fn fresh() -> Mark {
-        Mark { posted: false }
+impl Fresh for PostMark {
+    fn fresh() -> PostMark {
+        PostMark { posted: false }
     }
 }
 
@@ -45,7 +45,7 @@ pub(crate) fn settle<Q: PostRoutine>(
     requires enough { defer_lines script.now.lines ≤ length posts.items }
     requires unposted { All (λ routine. Q.posted routine ≡ false) posts.items }
     ensures told { AreToldOnce script.now.streams script.now.lines replies.old.items replies.new.items }
-    ensures posts { PostsLeft Q.posted (deferrals_by script.now.streams script.now.lines replies.new.items)
+    ensures posts { RoutinesLeft Q.posted (deferrals_by script.now.streams script.now.lines replies.new.items)
         (reverse entries.now) posts.items result.items }
     ensures count { length replies.new.items ≡ length replies.old.items }
     ensures capacity { vec_capacity replies.new ≡ vec_capacity replies.old }
@@ -66,7 +66,7 @@ fn post_routines<Q: PostRoutine>(
     requires answered { length answers.now ≡ length lines.now }
     requires enough { defer_lines lines.now ≤ length posts.items }
     requires unposted { All (λ routine. Q.posted routine ≡ false) posts.items }
-    ensures { PostsLeft Q.posted (deferrals_of lines.now answers.now) (reverse entries.now) posts.items result.items }
+    ensures { RoutinesLeft Q.posted (deferrals_of_lines lines.now answers.now) (reverse entries.now) posts.items result.items }
 {
     let mut posts = posts;
     let mut next = 0;

@@ -6,7 +6,7 @@ ghost use Rattle.cc_turns.specs.Desk.{standing_of};
 ghost use Rattle.std.specs.List.{AllByRecursion};
 ghost use Rattle.cc_lines.specs.Line.{IsFree, IsFullTold, WentOn};
 ghost use Rattle.cc_restarts.specs.Restarting.{IsOwnRefusal};
-ghost use Rattle.cc_run.specs.Desks.{IsReady, IsSameRun};
+ghost use Rattle.cc_run.specs.Desks.{PassIsReady, IsSameRun};
 ghost use Rattle.cc_program.specs.Restarting.{RestartsEnded, TellsEnd, last_number};
 
 use cc_entry::{Answer, LineReply, Lsn};
@@ -24,7 +24,7 @@ pub(crate) fn end_restarts<D: PageDisk, L: LogFile, Q: PostRoutine>(
 )
     requires first { desk.old.pass ≡ 0 }
     requires begins { desk.old.since ≡ desk.old.last.entries }
-    requires ready { IsReady (standing_of D.told D.faults L.told L.faults desk.old) }
+    requires ready { PassIsReady (standing_of D.told D.faults L.told L.faults desk.old) }
     requires none { replies.old.items ≡ [] }
     requires room { length ended.now ≤ vec_capacity replies.old }
     requires refusals { AllByRecursion (λ restart. IsOwnRefusal restart.ended) ended.now }
@@ -33,7 +33,7 @@ pub(crate) fn end_restarts<D: PageDisk, L: LogFile, Q: PostRoutine>(
     ensures alone { (me : ℕ) → me ≢ 0 → IsIdle me desk.old.last.entries desk.new.last.entries }
     ensures run { IsSameRun (standing_of D.told D.faults L.told L.faults desk.old)
         (standing_of D.told D.faults L.told L.faults desk.new) }
-    ensures ready { IsReady (standing_of D.told D.faults L.told L.faults desk.new) }
+    ensures ready { PassIsReady (standing_of D.told D.faults L.told L.faults desk.new) }
 {
     for restart in ended {
         let answer = end_one(desk, restart);

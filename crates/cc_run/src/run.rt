@@ -1,15 +1,15 @@
 //! The run of a script: on a desk its streams are opened, its phases are served, and all comes back.
 
-ghost use Rattle.std.specs.Prelude.{◌≡◌, List, ◌+◌, ◌*◌, ◌≤◌, ◌++◌, [], ◌∷◌, All, IfOk, IfErr, IfSome, length, map, reverse, true, false, vec_capacity};
+ghost use Rattle.std.specs.Prelude.{◌≡◌, List, ◌+◌, ◌*◌, ◌^◌, ◌<◌, ◌≤◌, ◌++◌, [], ◌∷◌, All, IfOk, IfErr, IfSome, length, map, reverse, true, false, vec_capacity};
 ghost use Rattle.cc_journal.specs.Capacity.{IsWithinCapacity};
 ghost use Rattle.cc_model.specs.Good.{IsGood};
-ghost use Rattle.cc_turns.specs.Desk.{IsFresh, standing_of, tells_of};
-ghost use Rattle.cc_script.specs.Within.{IsWithin};
+ghost use Rattle.cc_turns.specs.Desk.{DeskIsFresh, standing_of, tells_of};
+ghost use Rattle.cc_script.specs.Within.{ScriptIsWithin};
 ghost use Rattle.cc_script.specs.Modes.{IsOfMode};
 ghost use Rattle.cc_script.specs.declared.script.Mode.TheVariants as mode;
 ghost use Rattle.cc_pieces.specs.Table.{table_of};
 ghost use Rattle.cc_pieces.specs.Explained.{IsExplained};
-ghost use Rattle.cc_pieces.specs.Steps.{PostsLeft, deferrals_by};
+ghost use Rattle.cc_pieces.specs.Steps.{RoutinesLeft, deferrals_by};
 ghost use Rattle.cc_script.specs.EventActions.{defer_lines};
 ghost use Rattle.cc_program.specs.Ends.{has_devices};
 ghost use Rattle.cc_program.specs.Disks.{DisksStand};
@@ -22,8 +22,8 @@ ghost use Rattle.cc_turns.specs.Places.{IsRoomFor};
 ghost use Rattle.std.specs.List.{AllByRecursion};
 ghost use Rattle.cc_run.specs.Runs.{HasRun, run_replies};
 ghost use Rattle.cc_entry.specs.declared.entry.Entry.{Entry};
-ghost use Rattle.cc_run.specs.Begun.{HasBegun};
-ghost use Rattle.cc_run.specs.Desks.{IsReady, IsSameRun};
+ghost use Rattle.cc_run.specs.Begun.{RunHasBegun};
+ghost use Rattle.cc_run.specs.Desks.{PassIsReady, IsSameRun};
 ghost use Rattle.cc_program.specs.Restarting.{AreEndsOf, RestartsTold};
 ghost use Rattle.cc_program.specs.Setups.{setup_of};
 
@@ -31,7 +31,7 @@ use crate::aheads::Aheads;
 use crate::modes::{MOST_DISKS, MOST_LOGS, RunResult};
 use crate::openings::open_streams;
 use crate::phases::serve_phases;
-use crate::posts::{Mark, settle};
+use crate::posts::{PostMark, settle};
 use crate::restarts::end_restarts;
 use crate::row::{first_of, put_back};
 use crate::table::printed_rows;
@@ -43,7 +43,7 @@ use cc_lines::{Names, Places, Queues};
 use cc_queue::QueuePlace;
 use cc_restarts::LogRestart;
 use cc_script::Script;
-use cc_traits::{Gate, LogFile, PageDisk, PostRoutine, Setup};
+use cc_traits::{Gate, JournalKind, LogFile, PageDisk, PostRoutine, Setup};
 use cc_turns::Desk;
 use std::alloc::Global;
 use std::sync::Wait;
@@ -73,7 +73,7 @@ pub(crate) fn run_script<
     logs: Vec<L>,
     posts: Vec<Q>,
 ) -> Result<RunResult<D, L, Q>, (Vec<D>, Vec<L>, Vec<Q>)>
-    requires within { IsWithin script.now }
+    requires within { ScriptIsWithin script.now }
     requires of_mode { IsOfMode mode.Run script.now }
     requires enough { has_devices (length disks.items) (length logs.items) (length posts.items) script.now ≡ true }
     requires posts { All (λ routine. Q.posted routine ≡ false) posts.items }
@@ -127,10 +127,10 @@ pub(crate) fn run_script<
     let setup = Setup {
         disks,
         logs,
-        journal: script.journal,
+        journal: JournalKind::Recorded(script.journal as u32),
         threshold: script.threshold,
     };
-    match Desk::<D, L, Mark>::new(alloc, setup) {
+    match Desk::<D, L, PostMark>::new(alloc, setup) {
         Ok(desk) => {
             let RunResult {
                 replies,
@@ -190,7 +190,7 @@ fn names_for(
     queues: &Queues,
     places: &mut Places,
 ) -> Result<Vec<Names>, NoMemory>
-    requires within { IsWithin script.now }
+    requires within { ScriptIsWithin script.now }
     requires own { queues_of places.old ≡ queues.now }
     ensures words { IfOk result (λ names. HaveNoWords script.now.lines names.items) }
     ensures places { IfOk result (λ names. AllByRecursion (λ own. own.places ≡ new_places queues.now) names.items) }
@@ -217,7 +217,7 @@ fn run_on<
     alloc: Global,
     script: &Script,
     gate: &P,
-    desk: Desk<D, L, Mark>,
+    desk: Desk<D, L, PostMark>,
     queues: &Queues,
     names: Vec<Names>,
     ended: &[LogRestart],
@@ -230,9 +230,10 @@ fn run_on<
     async_places: Vec<AsyncPass>,
     posts: Vec<Q>,
 ) -> RunResult<D, L, Q>
-    requires fresh { IsFresh desk.begun desk }
-    requires within { IsWithin script.now }
+    requires fresh { DeskIsFresh desk.begun desk }
+    requires within { ScriptIsWithin script.now }
     requires of_mode { IsOfMode mode.Run script.now }
+    requires recorded { desk.begun.capacity < 2 ^ 32 }
     requires enough { length script.now.streams ≤ length desk.begun.disks }
     requires words { HaveNoWords script.now.lines names.items }
     requires deferring { defer_lines script.now.lines ≤ length posts.items }
@@ -270,7 +271,7 @@ fn run_on<
         (length desk.begun.disks) (reverse result.journal.items) result.disks.items }
     ensures logs { LogsStand L.told L.faults (standing_of D.told D.faults L.told L.faults desk).logs
         (length desk.begun.logs) (reverse result.journal.items) result.logs.items }
-    ensures posts { PostsLeft Q.posted
+    ensures posts { RoutinesLeft Q.posted
         (deferrals_by script.now.streams script.now.lines (run_replies script.now result.replies.items))
         (reverse result.journal.items) posts.items result.posts.items }
 {
@@ -332,7 +333,7 @@ fn begin_run<D: PageDisk, L: LogFile, Q: PostRoutine>(
 )
     requires first { desk.old.pass ≡ 0 }
     requires begins { desk.old.since ≡ desk.old.last.entries }
-    requires ready { IsReady (standing_of D.told D.faults L.told L.faults desk.old) }
+    requires ready { PassIsReady (standing_of D.told D.faults L.told L.faults desk.old) }
     requires empty { desk.old.last.entries ≡ [] }
     requires known { length script.now.streams ≤ (standing_of D.told D.faults L.told L.faults desk.old).streams }
     requires few { length script.now.streams ≤ 16 }
@@ -341,11 +342,11 @@ fn begin_run<D: PageDisk, L: LogFile, Q: PostRoutine>(
     requires told_room { length ended.now ≤ vec_capacity told.old }
     requires none { replies.old.items ≡ [] }
     requires room { length script.now.streams ≤ vec_capacity replies.old }
-    ensures begun { (ends : List Entry) × HasBegun (standing_of D.told D.faults L.told L.faults desk.old).setup script.now ended.now
+    ensures begun { (ends : List Entry) × RunHasBegun (standing_of D.told D.faults L.told L.faults desk.old).setup script.now ended.now
         told.new.items replies.new.items ends desk.new.last.entries }
     ensures run { IsSameRun (standing_of D.told D.faults L.told L.faults desk.old)
         (standing_of D.told D.faults L.told L.faults desk.new) }
-    ensures ready { IsReady (standing_of D.told D.faults L.told L.faults desk.new) }
+    ensures ready { PassIsReady (standing_of D.told D.faults L.told L.faults desk.new) }
     ensures capacity { vec_capacity replies.new ≡ vec_capacity replies.old }
 {
     end_restarts(desk, ended, told);

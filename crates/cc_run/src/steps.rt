@@ -3,7 +3,7 @@
 ghost use Rattle.std.specs.Prelude.{◌≡◌, All, IfOk, IfErr, length, true, false};
 ghost use Rattle.cc_turns.specs.Desk.{tells_of};
 ghost use Rattle.cc_script.specs.Modes.{IsOfMode};
-ghost use Rattle.cc_script.specs.Within.{IsWithin};
+ghost use Rattle.cc_script.specs.Within.{ScriptIsWithin};
 ghost use Rattle.cc_script.specs.declared.script.Mode.TheVariants as mode;
 ghost use Rattle.cc_program.specs.Ends.{has_devices};
 ghost use Rattle.cc_run.specs.Runs.{HasRun};
@@ -13,7 +13,7 @@ use crate::row::{first_of, put_back};
 use crate::table::printed_rows;
 use cc_event_lines::{StepsEnd, run_steps};
 use cc_script::Script;
-use cc_traits::{LogFile, PageDisk, PostRoutine, Setup};
+use cc_traits::{JournalKind, LogFile, PageDisk, PostRoutine, Setup};
 use std::alloc::Global;
 
 /// Takes a script through the World over the first disks that are handed in, 16 at most, and the first logs, 4 at most, which
@@ -25,7 +25,7 @@ pub(crate) fn step_script<D: PageDisk, L: LogFile, Q: PostRoutine>(
     logs: Vec<L>,
     posts: Vec<Q>,
 ) -> Result<RunResult<D, L, Q>, (Vec<D>, Vec<L>, Vec<Q>)>
-    requires within { IsWithin script.now }
+    requires within { ScriptIsWithin script.now }
     requires of_mode { IsOfMode mode.Steps script.now }
     requires enough { has_devices (length disks.items) (length logs.items) (length posts.items) script.now ≡ true }
     requires posts { All (λ routine. Q.posted routine ≡ false) posts.items }
@@ -46,7 +46,7 @@ pub(crate) fn step_script<D: PageDisk, L: LogFile, Q: PostRoutine>(
     let setup = Setup {
         disks,
         logs,
-        journal: script.journal,
+        journal: JournalKind::Recorded(script.journal as u32),
         threshold: script.threshold,
     };
     match run_steps(alloc, script, setup, posts) {

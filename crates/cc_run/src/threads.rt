@@ -7,11 +7,11 @@ ghost use Rattle.cc_pieces.specs.Explained.{answered_lines};
 ghost use Rattle.cc_pieces.specs.Phases.{is_of_phase};
 ghost use Rattle.cc_pieces.specs.Rooms.{is_alone, room_limit};
 ghost use Rattle.cc_pieces.specs.Runs.{asked_of};
-ghost use Rattle.cc_board.specs.Board.{IsFirstOf, IsOf};
+ghost use Rattle.cc_board.specs.Board.{IsFirstOf, IsOfBoard};
 ghost use Rattle.cc_turns.specs.Desk.{standing_of, tells_of};
 ghost use Rattle.cc_turns.specs.Places.{IsRoomFor};
-ghost use Rattle.cc_run.specs.Callers.{AllRan, AreRows, MayAllRun, asked_own, count_of, row_at};
-ghost use Rattle.cc_run.specs.Desks.{IsReady, IsSameRun};
+ghost use Rattle.cc_run.specs.Callers.{AllRan, AreAnswerRows, MayAllRun, asked_own, count_of_caller, row_at};
+ghost use Rattle.cc_run.specs.Desks.{PassIsReady, IsSameRun};
 ghost use Rattle.cc_pieces.specs.Bindings.{Binding};
 ghost use Rattle.cc_script.specs.HoldWords.{AreUsedRight};
 ghost use Rattle.cc_script.specs.declared.bound.Bound.{Bound};
@@ -24,8 +24,8 @@ ghost use Rattle.cc_run.specs.Places.{AreOfQueues, PlacesRan};
 ghost use Rattle.cc_run.specs.Ticks.{HasTickRoom, TicksMade};
 
 use crate::aheads::Aheads;
-use crate::call_numbers::Calls;
-use crate::callers::{Caller, Finished};
+use crate::call_numbers::CallNumbers;
+use crate::callers::{Caller, FinishedCaller};
 use crate::ticks::Ticks;
 use crate::workers::{join_stepper, join_worker, run_all, split_stepper, split_worker};
 use cc_board::{Board, FirstPass};
@@ -61,13 +61,13 @@ pub(crate) fn serve_on_threads<
     phase: u32,
     lines: &[ActionLine],
     gate: &P,
-    calls: &mut Calls,
+    calls: &mut CallNumbers,
     names: &mut Vec<Names>,
     replies: &mut Vec<LineReply>,
     ticks: &mut Ticks,
     aheads: Aheads,
 ) -> Result<(Desk<D, L, Q>, Aheads), (Desk<D, L, Q>, Aheads)>
-    requires ready { IsReady (standing_of D.told D.faults L.told L.faults desk) }
+    requires ready { PassIsReady (standing_of D.told D.faults L.told L.faults desk) }
     requires servable { AllByRecursion (λ line.
         IsServable (standing_of D.told D.faults L.told L.faults desk).streams line.action) lines.now }
     requires callers { AllByRecursion (λ line. IsCaller line.caller) lines.now }
@@ -95,14 +95,14 @@ pub(crate) fn serve_on_threads<
     ensures kept_room { KeepRoom names.old.items names.new.items }
     ensures run { IfOk result (λ done. IsSameRun (standing_of D.told D.faults L.told L.faults desk)
         (standing_of D.told D.faults L.told L.faults done.0)) }
-    ensures ready { IfOk result (λ done. IsReady (standing_of D.told D.faults L.told L.faults done.0)) }
+    ensures ready { IfOk result (λ done. PassIsReady (standing_of D.told D.faults L.told L.faults done.0)) }
     ensures kept { OnErr result ((replies.new.items ≡ replies.old.items) × (names.new.items ≡ names.old.items)) }
     ensures kept_ticks { OnErr result (ticks.new ≡ ticks.old) }
     ensures kept_aheads { IfErr result (λ back. back.1 ≡ aheads) }
     ensures same { IfErr result (λ back. back.0.last.entries ≡ desk.last.entries) }
     ensures run_kept { IfErr result (λ back. IsSameRun (standing_of D.told D.faults L.told L.faults desk)
         (standing_of D.told D.faults L.told L.faults back.0)) }
-    ensures ready_still { IfErr result (λ back. IsReady (standing_of D.told D.faults L.told L.faults back.0)) }
+    ensures ready_still { IfErr result (λ back. PassIsReady (standing_of D.told D.faults L.told L.faults back.0)) }
     ensures capacity { vec_capacity replies.new ≡ vec_capacity replies.old }
 {
     let Rooms {
@@ -145,7 +145,7 @@ struct Rooms<D: Told, L: LogFile, Q: PostRoutine> {
     /// Of each caller, from the last one on, room for the answers of its lines.
     rooms: Vec<Vec<Answer>>,
     callers: Vec<Caller<D, L, Q>>,
-    ended: Vec<Finished<D, L, Q>>,
+    ended: Vec<FinishedCaller<D, L, Q>>,
     rows: Vec<Vec<Answer>>,
 }
 
@@ -186,7 +186,7 @@ fn answer_rooms(alloc: Global, lines: &[ActionLine]) -> Result<Vec<Vec<Answer>>,
 
 // How many lines are a caller's.
 fn count_of(lines: &[ActionLine], caller: u32) -> usize
-    ensures count { result ≡ count_of caller lines.now }
+    ensures count { result ≡ count_of_caller caller lines.now }
     ensures within { result ≤ length lines.now }
 {
     let mut count = 0;
@@ -202,7 +202,7 @@ fn count_of(lines: &[ActionLine], caller: u32) -> usize
 fn split_all<D: PageDisk, L: LogFile, Q: PostRoutine>(
     board: &Board<D, L, Q>,
     first: &mut FirstPass<D, L, Q>,
-    calls: &Calls,
+    calls: &CallNumbers,
     rooms: Vec<Vec<Answer>>,
     names: &mut Vec<Names>,
     callers: Vec<Caller<D, L, Q>>,
@@ -240,8 +240,8 @@ fn split_all<D: PageDisk, L: LogFile, Q: PostRoutine>(
 fn join_all<D: PageDisk, L: LogFile, Q: PostRoutine>(
     board: &Board<D, L, Q>,
     first: &mut FirstPass<D, L, Q>,
-    calls: &mut Calls,
-    ended: Vec<Finished<D, L, Q>>,
+    calls: &mut CallNumbers,
+    ended: Vec<FinishedCaller<D, L, Q>>,
     names: &mut Vec<Names>,
     rows: Vec<Vec<Answer>>,
 ) -> Vec<Vec<Answer>>
@@ -254,7 +254,7 @@ fn join_all<D: PageDisk, L: LogFile, Q: PostRoutine>(
     let mut rows = rows;
     let mut number = u32::from(CALLERS);
     while let Some(
-        Finished {
+        FinishedCaller {
             pass,
             answers,
             names: own,
@@ -276,7 +276,7 @@ fn join_all<D: PageDisk, L: LogFile, Q: PostRoutine>(
 // Puts the answer of each line behind the replies, from the rows of its caller.
 fn merge(lines: &[ActionLine], rows: Vec<Vec<Answer>>, replies: &mut Vec<LineReply>)
     requires callers { AllByRecursion (λ line. IsCaller line.caller) lines.now }
-    requires rows { AreRows lines.now (map (λ row. row.items) rows.items) }
+    requires rows { AreAnswerRows lines.now (map (λ row. row.items) rows.items) }
     requires room { vec_len replies.old + length lines.now ≤ vec_capacity replies.old }
     ensures merged { Merged lines.now (map (λ row. row.items) rows.items) replies.old.items replies.new.items }
     ensures capacity { vec_capacity replies.new ≡ vec_capacity replies.old }

@@ -4,13 +4,13 @@ ghost use Rattle.std.specs.Prelude.{◌≡◌, ◌⊎◌, ◌≤◌, ◌+◌, �
 ghost use Rattle.cc_model.specs.Setup.{Setup};
 ghost use Rattle.cc_journal.specs.Capacity.{IsWithinCapacity};
 ghost use Rattle.cc_model.specs.Good.{IsGood};
-ghost use Rattle.cc_script.specs.Within.{IsWithin};
+ghost use Rattle.cc_script.specs.Within.{ScriptIsWithin};
 ghost use Rattle.cc_script.specs.Modes.{IsOfMode};
-ghost use Rattle.cc_pieces.specs.Steps.{PostsLeft};
+ghost use Rattle.cc_pieces.specs.Steps.{RoutinesLeft};
 ghost use Rattle.cc_pieces.specs.Table.{table_of};
 ghost use Rattle.cc_program.specs.Setups.{IsSetupOf, setup_of};
 ghost use Rattle.cc_command.specs.Taken.{WasTaken};
-ghost use Rattle.cc_program.specs.Ends.{Input, input, output, IsCause, IsRefused, IsEnded, IsAsked, IsFaultPut, IsPrinted, has_devices, printed_by};
+ghost use Rattle.cc_program.specs.Ends.{Input, input, output, IsCause, ProgramIsRefused, ProgramIsEnded, IsAsked, IsFaultPut, IsPrinted, has_devices, printed_by};
 ghost use Rattle.cc_program.specs.Calls.{HasClauses};
 ghost use Rattle.cc_program.specs.Complete.{RanWithoutFault};
 ghost use Rattle.cc_program.specs.Main.{HasMain};
@@ -21,8 +21,8 @@ ghost use Rattle.cc_command.specs.Words.{command_of, is_reading, mode_by, mode_i
 ghost use Rattle.cc_command.specs.declared.words.Command.TheVariants as asked;
 ghost use Rattle.cc_program.specs.Runs.{IsExplainedBy, run_answered};
 ghost use Rattle.cc_run.specs.Places.{taken_at};
-ghost use Rattle.cc_program.specs.Begun.{IsBegun};
-ghost use Rattle.cc_run.specs.Runs.{AreAsyncQueuedBy, AreQueuedBy, deferrals_in, ticks_asked};
+ghost use Rattle.cc_program.specs.Begun.{RunIsBegun};
+ghost use Rattle.cc_run.specs.Runs.{AreAsyncQueuedBy, AreQueuedBy, deferrals_of_script, ticks_asked};
 
 use crate::devices::has_devices;
 use crate::modes::{RestartedRun, RunResult, run_in_mode};
@@ -136,7 +136,7 @@ fn refused<K: Sink, D, L, Q>(
     ensures status { why ≡ NoRun.NoMemory → result.status ≡ 6 }
     ensures disks_begun { result.disks_begun.value ≡ disks }
     ensures logs_begun { result.logs_begun.value ≡ logs }
-    ensures refused { (i : Input) → IsCause i why → IsRefused i (output K.told K.faults K.stalls out.old out.new) result.status }
+    ensures refused { (i : Input) → IsCause i why → ProgramIsRefused i (output K.told K.faults K.stalls out.old out.new) result.status }
 {
     let why = put_fault(alloc, out, why);
     let disks_begun = Snapshot::of(&disks);
@@ -167,7 +167,7 @@ fn read_source<S: Source>(alloc: Global, source: &mut S, mode: Mode) -> Result<S
         IsCause (input S.told S.faults S.given S.ended words source.old source.new disks logs posts) why) }
     ensures given { WasTaken (S.told source.old) (S.told source.new) (S.given source.old) (S.given source.new) }
     ensures bounded { length (S.given source.new) ≤ length (S.given source.old) + 16777217 }
-    ensures within { IfOk result IsWithin }
+    ensures within { IfOk result ScriptIsWithin }
     ensures of_mode { IfOk result (IsOfMode mode) }
 {
     let bytes = match take_all(alloc, source) {
@@ -192,7 +192,7 @@ fn script_of<S: Source>(alloc: Global, source: &mut S, command: Command) -> Resu
     ensures untouched { is_reading (Some command) ≡ false → source.new ≡ source.old }
     ensures given { WasTaken (S.told source.old) (S.told source.new) (S.given source.old) (S.given source.new) }
     ensures bounded { length (S.given source.new) ≤ length (S.given source.old) + 16777217 }
-    ensures within { IfOk result IsWithin }
+    ensures within { IfOk result ScriptIsWithin }
     ensures of_mode { IfOk result (IsOfMode (mode_by command)) }
 {
     match command {
@@ -216,7 +216,7 @@ fn prepare<S: Source>(
     ensures untouched { reads_source (map string_bytes words.now) ≡ false → source.new ≡ source.old }
     ensures given { WasTaken (S.told source.old) (S.told source.new) (S.given source.old) (S.given source.new) }
     ensures bounded { length (S.given source.new) ≤ length (S.given source.old) + 16777217 }
-    ensures within { IfOk result (λ prepared. IsWithin prepared.script) }
+    ensures within { IfOk result (λ prepared. ScriptIsWithin prepared.script) }
     ensures of_mode { IfOk result (λ prepared. IsOfMode (mode_by prepared.command) prepared.script) }
     ensures enough { IfOk result (λ prepared. has_devices disks logs posts prepared.script ≡ true) }
     ensures cause { IfErr result (IsCause (input S.told S.faults S.given S.ended (map string_bytes words.now) source.old source.new
@@ -296,7 +296,7 @@ fn conduct<
         result.logs_begun.value.items u →
         IsGood u (reverse result.journal.items) }
     ensures within { IfSome result.script (λ made. IsWithinCapacity made.journal (reverse result.journal.items)) }
-    ensures ended { IsEnded
+    ensures ended { ProgramIsEnded
         (input S.told S.faults S.given S.ended (map string_bytes words.now) source.old source.new
         (length disks.items) (length logs.items) (length posts.items))
         (output K.told K.faults K.stalls out.old out.new)
@@ -320,9 +320,9 @@ fn conduct<
     ensures disks { DisksLeft D.told D.faults (reverse result.journal.items) result.disks_begun.value.items
         result.disks.items }
     ensures logs { LogsLeft L.told L.faults (reverse result.journal.items) result.logs_begun.value.items result.logs.items }
-    ensures posts { PostsLeft Q.posted (deferrals_in result.script result.replies.items) (reverse result.journal.items)
+    ensures posts { RoutinesLeft Q.posted (deferrals_of_script result.script result.replies.items) (reverse result.journal.items)
         posts.items result.posts.items }
-    ensures restarted { IsBegun D.told D.faults L.told L.faults
+    ensures restarted { RunIsBegun D.told D.faults L.told L.faults
         (input S.told S.faults S.given S.ended (map string_bytes words.now) source.old source.new
         (length disks.items) (length logs.items) (length posts.items))
         result.script result.replies.items (reverse result.journal.items) result.status
@@ -418,7 +418,7 @@ pub fn cache_main<
     // With what the run began: the restarts of the script were made on what was handed in, one after the other, each by its log
     // and over the streams that are stored and have it, and the first answers tell how each ended; without restarts, and in steps,
     // it is what was handed in. So it is without a run too, but where memory was wanting behind the restarts.
-    ensures restarted { IsBegun D.told D.faults L.told L.faults
+    ensures restarted { RunIsBegun D.told D.faults L.told L.faults
         (input S.told S.faults S.given S.ended (map string_bytes words.now) script.old script.new
         (length disks.items) (length logs.items) (length posts.items))
         result.script result.replies.items (reverse result.journal.items) result.status
@@ -460,7 +460,7 @@ pub fn cache_main<
     ensures disks { DisksLeft D.told D.faults (reverse result.journal.items) result.disks_begun.value.items
         result.disks.items }
     ensures logs { LogsLeft L.told L.faults (reverse result.journal.items) result.logs_begun.value.items result.logs.items }
-    ensures posts { PostsLeft Q.posted (deferrals_in result.script result.replies.items) (reverse result.journal.items)
+    ensures posts { RoutinesLeft Q.posted (deferrals_of_script result.script result.replies.items) (reverse result.journal.items)
         posts.items result.posts.items }
     // Five of these clauses, `restarted`, `good`, `explained`, `disks` and `logs`, as one record over this call, with what `ended` says of
     // its script: the laws on calls that follow each other are stated over it.

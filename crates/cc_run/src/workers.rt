@@ -5,13 +5,13 @@ ghost use Rattle.std.specs.List.{AllByRecursion};
 ghost use Rattle.std.specs.Thread.{IsSync};
 ghost use Rattle.cc_turns.specs.Places.{IsRoomFor};
 ghost use Rattle.cc_turns.specs.Desk.{tells_of};
-ghost use Rattle.cc_board.specs.Board.{IsFirstOf, IsOf, IsSplit, after_join};
+ghost use Rattle.cc_board.specs.Board.{IsFirstOf, IsOfBoard, IsSplit, after_join};
 ghost use Rattle.cc_run.specs.Callers.{MayAllRun, AllRan};
 ghost use Rattle.cc_run.specs.Places.{queues_of};
 ghost use Rattle.cc_run.specs.Workers.{MayStepOn, MayWork, StepperRan, WorkerRan};
 
 use crate::aheads::{Aheads, make_steps};
-use crate::callers::{Caller, Finished, run_callers};
+use crate::callers::{Caller, FinishedCaller, run_callers};
 use crate::ticks::{Ticks, make_ticks};
 use cc_board::{Board, FirstPass, Pass, Seated};
 use cc_lines::{Fresh, Queues};
@@ -58,7 +58,7 @@ pub(crate) fn join_worker<D: PageDisk, L: LogFile, Q: PostRoutine>(
     ticks: &mut Ticks,
 )
     requires here { IsFirstOf board.now first.old }
-    requires worker_here { IsOf board.now worker.pass }
+    requires worker_here { IsOfBoard board.now worker.pass }
     ensures joined { first.new ≡ after_join first.old worker.pass }
     ensures ticks { ticks.new ≡ worker.ticks }
 {
@@ -98,7 +98,7 @@ pub(crate) fn join_stepper<D: PageDisk, L: LogFile, Q: PostRoutine>(
     stepper: Stepper<D, L, Q>,
 ) -> Aheads
     requires here { IsFirstOf board.now first.old }
-    requires stepper_here { IsOf board.now stepper.pass }
+    requires stepper_here { IsOfBoard board.now stepper.pass }
     ensures joined { first.new ≡ after_join first.old stepper.pass }
     ensures aheads { result ≡ stepper.aheads }
 {
@@ -124,10 +124,14 @@ pub(crate) fn run_all<
     lines: &[ActionLine],
     gate: &P,
     callers: Vec<Caller<D, L, Q>>,
-    room: Vec<Finished<D, L, Q>>,
+    room: Vec<FinishedCaller<D, L, Q>>,
     worker: Worker<D, L, Q>,
     stepper: Stepper<D, L, Q>,
-) -> (Vec<Finished<D, L, Q>>, Worker<D, L, Q>, Stepper<D, L, Q>)
+) -> (
+    Vec<FinishedCaller<D, L, Q>>,
+    Worker<D, L, Q>,
+    Stepper<D, L, Q>,
+)
     requires may { MayAllRun (tells_of D.told D.faults L.told L.faults Q.posted) board.now lines.now callers.items }
     requires own { AllByRecursion (λ caller. queues_of caller.names.places ≡ queues.now) callers.items }
     requires room { IsRoomFor (length callers.items) room.items (vec_capacity room) }
@@ -146,7 +150,7 @@ pub(crate) fn run_all<
     }
     let ((ended, worker), stepper) = join(
         rt,
-        move || -> (Vec<Finished<D, L, Q>>, Worker<D, L, Q>)
+        move || -> (Vec<FinishedCaller<D, L, Q>>, Worker<D, L, Q>)
             requires { IsSync R.row
                 × MayAllRun (tells_of D.told D.faults L.told L.faults Q.posted) board.now lines.now callers.items
                 × AllByRecursion (λ caller. queues_of caller.names.places ≡ queues.now) callers.items
@@ -184,9 +188,9 @@ fn run_ticking<
     lines: &[ActionLine],
     gate: &P,
     callers: Vec<Caller<D, L, Q>>,
-    room: Vec<Finished<D, L, Q>>,
+    room: Vec<FinishedCaller<D, L, Q>>,
     worker: Worker<D, L, Q>,
-) -> (Vec<Finished<D, L, Q>>, Worker<D, L, Q>)
+) -> (Vec<FinishedCaller<D, L, Q>>, Worker<D, L, Q>)
     requires may { MayAllRun (tells_of D.told D.faults L.told L.faults Q.posted) board.now lines.now callers.items }
     requires own { AllByRecursion (λ caller. queues_of caller.names.places ≡ queues.now) callers.items }
     requires room { IsRoomFor (length callers.items) room.items (vec_capacity room) }
@@ -203,7 +207,7 @@ fn run_ticking<
     }
     join(
         rt,
-        move || -> Vec<Finished<D, L, Q>>
+        move || -> Vec<FinishedCaller<D, L, Q>>
             requires { IsSync R.row
                 × MayAllRun (tells_of D.told D.faults L.told L.faults Q.posted) board.now lines.now callers.items
                 × AllByRecursion (λ caller. queues_of caller.names.places ≡ queues.now) callers.items

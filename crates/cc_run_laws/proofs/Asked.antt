@@ -15,7 +15,7 @@ use Rattle.cc_script.proofs.Within.{script-of_mode, script-within}
 use Rattle.cc_script.specs.Generator.{generated}
 use Rattle.cc_script.specs.Grammar.{has_restart}
 use Rattle.cc_script.specs.Modes.{HasRestarts, IsOfMode}
-use Rattle.cc_script.specs.Within.{AreRestartsWithin, IsStreamWithin, IsWithin}
+use Rattle.cc_script.specs.Within.{AreRestartsWithin, IsStreamWithin, ScriptIsWithin}
 use Rattle.cc_script.specs.declared.script.Mode.{Mode}
 use Rattle.cc_script.specs.declared.script.Mode.TheVariants as mode
 use Rattle.cc_script.specs.declared.script.RestartLine.{RestartLine}
@@ -34,9 +34,9 @@ item-of P (y ∷ ys) (suc n) x all at = item-of P ys n x all.1 at
 
 -- ---- a script that the words ask for
 
-pub asked-within : (i : Input) (script : Script) → IsAsked i script → IsWithin script
+pub asked-within : (i : Input) (script : Script) → IsAsked i script → ScriptIsWithin script
 asked-within i script (inl read) = script-within (mode_in i.words) read.1.bytes script read.1.spelled
-asked-within i script (inr made) = subst IsWithin (sym made.is) (generated_within made.number)
+asked-within i script (inr made) = subst ScriptIsWithin (sym made.is) (generated_within made.number)
 
 asked-mode : (i : Input) (script : Script) → IsAsked i script → IsOfMode (mode_in i.words) script
 asked-mode i script (inl read) = script-of_mode (mode_in i.words) read.1.bytes script read.1.spelled
@@ -52,10 +52,10 @@ restarts-run i script asked n restart at = go (mode_in i.words) (asked-mode i sc
     go mode.Steps has = absurd (let same = ap (λ (l : List RestartLine). slice_get l n) has in cc (same, at))
 
 -- a stream of it is one of the first sixteen, and its log one of the first four
-pub stream-below : (script : Script) → IsWithin script → (s : ℕ) (line : StreamLine) → slice_get script.streams s ≡ Some line → s < 16
+pub stream-below : (script : Script) → ScriptIsWithin script → (s : ℕ) (line : StreamLine) → slice_get script.streams s ≡ Some line → s < 16
 stream-below script within s line named = let inside = slice_get_within script.streams s line named in let few = within.few_streams in omega (arith, inside, few)
 
-pub log-below : (script : Script) → IsWithin script → (s log : ℕ) (line : StreamLine) → slice_get script.streams s ≡ Some line → line.log ≡ Some log → log < 4
+pub log-below : (script : Script) → ScriptIsWithin script → (s log : ℕ) (line : StreamLine) → slice_get script.streams s ≡ Some line → line.log ≡ Some log → log < 4
 log-below script within s log line named logged =
     subst (λ (o : Option ℕ). IfSome o (λ handle. handle < 4)) logged (item-of IsStreamWithin script.streams s line within.streams named).log
 
@@ -105,5 +105,5 @@ module _ {D L : Type 0} (told : D → Option Disk) (faults : D → ℕ) (log_tol
   pub asked-run : (script : Script) → call.script ≡ Some script → IsAsked call.input script
   asked-run script ran = subst (λ (o : Option Script). IfSome o (IsAsked call.input)) ran clauses.asked
 
-  pub within-run : (script : Script) → call.script ≡ Some script → IsWithin script
+  pub within-run : (script : Script) → call.script ≡ Some script → ScriptIsWithin script
   within-run script ran = asked-within call.input script (asked-run script ran)

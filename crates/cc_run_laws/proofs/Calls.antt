@@ -6,11 +6,11 @@ use Rattle.std.proofs.Common.{ap, sym, subst, ◌∙◌}
 use Rattle.std.proofs.lemmas.Option.{same_Some}
 use Rattle.cc_model.specs.Good.{IsGood}
 use Rattle.cc_pieces.specs.Explained.{IsExplained}
-use Rattle.cc_redo.specs.Heard.{last_of, readings}
+use Rattle.cc_redo.specs.Heard.{last_lsn_of, readings}
 use Rattle.cc_restarts.specs.Restarting.{LogsRestarted, lsn_of}
 use Rattle.cc_restarts.specs.declared.ended.LogRestart.{LogRestart}
 use Rattle.cc_restarts.specs.declared.ended.Numbers.{Numbers}
-use Rattle.cc_program.specs.Begun.{IsBegun}
+use Rattle.cc_program.specs.Begun.{RunIsBegun}
 use Rattle.cc_program.specs.Runs.{IsExplainedBy, given_of}
 use Rattle.cc_program.specs.Restarting.{RanBehind, last_number}
 use Rattle.cc_program.specs.Setups.{IsSetupOf, setup_of}
@@ -64,7 +64,7 @@ module _ {D L : Type 0} (told : D → Option Disk) (faults : D → ℕ) (log_tol
     -- a run was made behind its restarts
     pub ran-behind : (script : Script) → call.script ≡ Some script → Behind script
     ran-behind script ran =
-        subst (λ (o : Option Script). IsBegun told faults log_told log_faults call.input o call.told.replies call.past call.status call.disks call.disks_begun call.logs call.logs_begun) ran clauses.restarted
+        subst (λ (o : Option Script). RunIsBegun told faults log_told log_faults call.input o call.told.replies call.past call.status call.disks call.disks_begun call.logs call.logs_begun) ran clauses.restarted
 
     pub good-run : (script : Script) → call.script ≡ Some script → IsGood (setup_of told faults script call.disks_begun call.logs_begun) call.past
     good-run script ran =
@@ -113,7 +113,7 @@ module _ {D L : Type 0} (told : D → Option Disk) (faults : D → ℕ) (log_tol
         restarted.restarted
 
     -- and the run goes on with the log from the last LSN
-    pub went-on : GoesOnFrom log (last_of (readings restarted.kept.entries)) call.past
+    pub went-on : GoesOnFrom log (last_lsn_of (readings restarted.kept.entries)) call.past
     went-on = subst (λ (m : ℕ). GoesOnFrom log m call.past) (number-last restarted.kept.entries k.0.last last) k.2
       where
         k : (numbers : Numbers) × (its-end.one.ended ≡ Ok numbers) × GoesOnFrom log (last_number numbers.last) call.past
@@ -121,7 +121,7 @@ module _ {D L : Type 0} (told : D → Option Disk) (faults : D → ℕ) (log_tol
             goes-on (setup_of told faults restarted.script call.disks_begun call.logs_begun) behind.ended call.told call.past behind.ends_told restarted.n its-end.one log restarted.restart restarted.updates its-end.at its-end.of_log restarted.restart_at
             restarted.restarted
 
-        last : k.0.last ≡ lsn_of (last_of (readings restarted.kept.entries))
+        last : k.0.last ≡ lsn_of (last_lsn_of (readings restarted.kept.entries))
         last =
             tells-last told faults log_told log_faults restarted.script.streams restarted.script.restarts behind.ended call.disks call.disks_begun call.logs call.logs_begun behind.made s log restarted.n restarted.line its-end.one restarted.kept
             restarted.lines its-once its-end.at restarted.handed_in.log_at k.0 k.1

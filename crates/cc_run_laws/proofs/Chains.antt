@@ -7,7 +7,7 @@ use Rattle.std.proofs.Common.{sym, subst, arith, inl, inr}
 use Rattle.cc_entry.specs.declared.entry.Entry.{Entry}
 use Rattle.cc_format.specs.declared.record.StreamRecord.{StreamRecord}
 use Rattle.cc_model.specs.Setup.{Setup}
-use Rattle.cc_redo.specs.Heard.{last_of, readings}
+use Rattle.cc_redo.specs.Heard.{last_lsn_of, readings}
 use Rattle.cc_redo.specs.Reading.{said_by}
 use Rattle.cc_redo.specs.declared.redo.Redo.{Redo}
 use Rattle.cc_restart_laws.specs.Stops.{updates_in}
@@ -16,11 +16,11 @@ use Rattle.cc_restarts.specs.Given.{size_said, valid_said}
 use Rattle.cc_restarts.specs.Restarting.{LogsRestarted}
 use Rattle.cc_restarts.specs.declared.ended.LogRestart.{LogRestart}
 use Rattle.cc_command.specs.Words.{mode_in}
-use Rattle.cc_program.specs.Begun.{IsBegun}
+use Rattle.cc_program.specs.Begun.{RunIsBegun}
 use Rattle.cc_program.specs.Ends.{IsAsked}
 use Rattle.cc_program.specs.Restarting.{LeftAlone}
 use Rattle.cc_program.specs.Setups.{setup_of}
-use Rattle.cc_script.specs.Within.{IsWithin}
+use Rattle.cc_script.specs.Within.{ScriptIsWithin}
 use Rattle.cc_script.specs.declared.script.Mode.TheVariants as mode
 use Rattle.cc_script.specs.declared.script.Script.{Script}
 use Rattle.cc_script.specs.declared.script.StreamLine.{StreamLine}
@@ -64,9 +64,9 @@ counted s size entries redo stream_is size_is within =
 
 -- what was made is that with which a run began
 moved : (past : List Entry) (s log size first : ℕ) (pages : ℕ → List ℕ) (made opening : Disk) (kept begun : Log) → made ≡ opening → kept ≡ begun → IsFileMade s size kept.entries pages first made → IsLogOf s size kept.entries →
-    GoesOnFrom log (last_of (readings kept.entries)) past → IsFileMade s size begun.entries pages first opening × IsLogOf s size begun.entries × GoesOnFrom log (last_of (readings begun.entries)) past
+    GoesOnFrom log (last_lsn_of (readings kept.entries)) past → IsFileMade s size begun.entries pages first opening × IsLogOf s size begun.entries × GoesOnFrom log (last_lsn_of (readings begun.entries)) past
 moved past s log size first pages made opening kept begun same_disk same_log file entries goes =
-    subst (λ (l : Log). IsFileMade s size l.entries pages first opening × IsLogOf s size l.entries × GoesOnFrom log (last_of (readings l.entries)) past) same_log
+    subst (λ (l : Log). IsFileMade s size l.entries pages first opening × IsLogOf s size l.entries × GoesOnFrom log (last_lsn_of (readings l.entries)) past) same_log
     (subst (λ (d : Disk). IsFileMade s size kept.entries pages first d) same_disk file, entries, goes)
 
 module _ {D L : Type 0} (told : D → Option Disk) (faults : D → ℕ) (log_told : L → Option Log) (log_faults : L → ℕ) where
@@ -77,7 +77,7 @@ module _ {D L : Type 0} (told : D → Option Disk) (faults : D → ℕ) (log_tol
       (updated-run told faults log_told log_faults call is.clauses is.script is.ran s log stream read opening left is.begun after (stream-below is.script within s stream is.named) (log-below is.script within s log stream is.named is.logged) is.run)
       (first-begun call.past s log stream read opening is.begun is.run.numbered.sizes is.whole is.none) (λ none. record { size = refl; valid = refl })
     where
-      within : IsWithin is.script
+      within : ScriptIsWithin is.script
       within = within-run told faults log_told log_faults call is.clauses is.script is.ran
 
   -- ---- one call behind what can be redone
@@ -111,13 +111,13 @@ module _ {D L : Type 0} (told : D → Option Disk) (faults : D → ℕ) (log_tol
         (log-below is.restarted.script within s log is.restarted.line is.restarted.lines.named is.restarted.lines.logged) is.run) with_begun.1
         (names-made s size first is.begun.entries pages is.opening here.0 stream is.restarted.line))
       where
-        within : IsWithin is.restarted.script
+        within : ScriptIsWithin is.restarted.script
         within = within-run told faults log_told log_faults call is.restarted.clauses is.restarted.script is.restarted.ran
 
         made : (made : Disk) × TellsAt told call.disks_begun s made × TellsAt log_told call.logs_begun log is.restarted.kept × IsFileMade s size is.restarted.kept.entries pages first made × IsLogOf s size is.restarted.kept.entries
         made = let its = its-file is.restarted in (its.0, its.1, its.2, its.3, its.4)
 
-        here : IsFileMade s size is.begun.entries pages first is.opening × IsLogOf s size is.begun.entries × GoesOnFrom log (last_of (readings is.begun.entries)) call.past
+        here : IsFileMade s size is.begun.entries pages first is.opening × IsLogOf s size is.begun.entries × GoesOnFrom log (last_lsn_of (readings is.begun.entries)) call.past
         here =
             moved call.past s log size first pages made.0 is.opening is.restarted.kept is.begun (tells-once told call.disks_begun s made.0 is.opening made.1 is.run.disk_begun)
             (tells-once log_told call.logs_begun log is.restarted.kept is.begun made.2 is.run.log_begun) made.3 made.4 (went-on told faults log_told log_faults s log stream was had call is.restarted)
@@ -143,7 +143,7 @@ module _ {D L : Type 0} (told : D → Option Disk) (faults : D → ℕ) (log_tol
           let its = ran-behind told faults log_told log_faults call clauses script ran in
           behind-restarts script its.ended (asked-run told faults log_told log_faults call clauses script ran) its.made (named script (subst (λ (o : Option Script). IsScriptOf call.input o script) (sym ran) refl))
       by-script None ran =
-          alone (subst (λ (o : Option Script). IsBegun told faults log_told log_faults call.input o call.told.replies call.past call.status call.disks call.disks_begun call.logs call.logs_begun) ran clauses.restarted)
+          alone (subst (λ (o : Option Script). RunIsBegun told faults log_told log_faults call.input o call.told.replies call.past call.status call.disks call.disks_begun call.logs call.logs_begun) ran clauses.restarted)
         where
           alone : LeftAlone told faults log_told log_faults call.input call.status call.disks call.disks_begun call.logs call.logs_begun → Begun
           alone (inl same) = (

@@ -8,9 +8,9 @@ use Rattle.std.proofs.lemmas.List.Elements.{Contains-append_left, Contains-appen
 use Rattle.cc_entry.specs.declared.entry.Entry.{Entry}
 use Rattle.cc_entry.specs.declared.entry.Entry.TheVariants as entry
 use Rattle.cc_format.specs.declared.record.StreamRecord.{StreamRecord}
-use Rattle.cc_log.specs.Turn.{Holds, appended}
+use Rattle.cc_log.specs.Turn.{HoldsLogEntries, appended}
 use Rattle.cc_model.specs.Logs.{flushed_to}
-use Rattle.cc_redo.specs.Heard.{Change, change_said, last_of, readings}
+use Rattle.cc_redo.specs.Heard.{Change, change_said, last_lsn_of, readings}
 use Rattle.cc_redo.specs.Reading.{said_by}
 use Rattle.cc_redo.specs.declared.record.LogRecord.{LogRecord}
 use Rattle.cc_redo.specs.declared.record.LogRecord.TheVariants.{Update}
@@ -34,7 +34,7 @@ use Rattle.cc_run_laws.proofs.Asked.{log-below, within-run}
 use Rattle.cc_run_laws.proofs.Calls.{tells-once, went-on}
 use Rattle.cc_run_laws.proofs.Chains.{all-left, its-file}
 use Rattle.cc_run_laws.proofs.Left.{log-gone}
-use Rattle.cc_run_laws.specs.Calls.{HasRestarted, IsFlushed}
+use Rattle.cc_run_laws.specs.Calls.{HasRestarted, LogEntryIsFlushed}
 use Rattle.cc_run_laws.specs.Chains.{HaveLeft, IsFirst, IsRunOf, RunsOn, StopsBefore}
 
 -- ---- of lists
@@ -85,7 +85,7 @@ pub record HasDurable (it : LogEntry) (log : Log) : Type 0 where
   pub contains : Contains log.entries it
   pub durable : it.lsn ≤ log.durable
 
-run-durable : (past : List Entry) (log : ℕ) (begun after : Log) → Holds (appended past log) (flushed_to past log) begun after → (it : LogEntry) → IsFlushed log it past → HasDurable it after
+run-durable : (past : List Entry) (log : ℕ) (begun after : Log) → HoldsLogEntries (appended past log) (flushed_to past log) begun after → (it : LogEntry) → LogEntryIsFlushed log it past → HasDurable it after
 run-durable past log begun after holds it is = record {
   contains =
       subst (λ (l : List LogEntry). Contains l it) (sym holds.entries_are)
@@ -111,7 +111,7 @@ module _ {D L : Type 0} (told : D → Option Disk) (faults : D → ℕ) (log_tol
     redone = all-left told faults log_told log_faults s log stream read opening
 
     -- of a first run
-    first-durable : (call : ProgramCall D L) (left : Disk) (after : Log) → IsFirst told faults log_told log_faults s log stream read opening call left after → (it : LogEntry) → IsFlushed log it call.past → HasDurable it after
+    first-durable : (call : ProgramCall D L) (left : Disk) (after : Log) → IsFirst told faults log_told log_faults s log stream read opening call left after → (it : LogEntry) → LogEntryIsFlushed log it call.past → HasDurable it after
     first-durable call left after is it flushed =
         run-durable call.past log is.begun after
         (log-gone log_told log_faults call.past call.logs_begun call.logs_left is.clauses.logs log
@@ -121,7 +121,7 @@ module _ {D L : Type 0} (told : D → Option Disk) (faults : D → ℕ) (log_tol
     -- of a run behind a restart
     module _ (calls : List (ProgramCall D L)) (was : Disk) (had : Log) (have : Left calls was had) (call : ProgramCall D L) (left : Disk) (after : Log) where
       module _ (runs : RunsOn told faults log_told log_faults s log stream was had call left after) where
-        holds : Holds (appended call.past log) (flushed_to call.past log) runs.begun after
+        holds : HoldsLogEntries (appended call.past log) (flushed_to call.past log) runs.begun after
         holds =
             log-gone log_told log_faults call.past call.logs_begun call.logs_left runs.restarted.clauses.logs log
             (log-below runs.restarted.script (within-run told faults log_told log_faults call runs.restarted.clauses runs.restarted.script runs.restarted.ran) s log runs.restarted.line runs.restarted.lines.named runs.restarted.lines.logged) runs.begun after
@@ -148,7 +148,7 @@ module _ {D L : Type 0} (told : D → Option Disk) (faults : D → ℕ) (log_tol
             durables : AllByRecursion (λ (e : LogEntry). e.lsn ≤ after.durable) runs.begun.entries
             durables =
                 begun-durable call.past log runs.begun after
-                (subst (λ (l : Log). GoesOnFrom log (last_of (readings l.entries)) call.past) kept-is (went-on told faults log_told log_faults s log stream was had call runs.restarted))
+                (subst (λ (l : Log). GoesOnFrom log (last_lsn_of (readings l.entries)) call.past) kept-is (went-on told faults log_told log_faults s log stream was had call runs.restarted))
                 (subst (λ (l : Log). AllByRecursion (λ (e : LogEntry). e.lsn ≤ 2 ^ 62) l.entries) kept-is file.in_range) holds
 
       -- behind a call that was stopped before its run the next one reads the same entries
@@ -161,17 +161,17 @@ module _ {D L : Type 0} (told : D → Option Disk) (faults : D → ℕ) (log_tol
           is-log : IsLogOf s (size_said stream read) stops.kept.entries
           is-log = log-front s (size_said stream read) had.durable had.entries stops.kept.entries (redone calls was had have).entries stops.handed_in.keeps
 
-          least : it.lsn ≤ last_of (readings stops.kept.entries)
+          least : it.lsn ≤ last_lsn_of (readings stops.kept.entries)
           least =
               let among = contains-among stops.kept.entries it kept in
               last-least 0 stops.kept.entries it among (among-all (λ (e : LogEntry). e.lsn ≤ 2 ^ 62) stops.kept.entries it is-log.in_range among)
 
     pub stays-durable : (calls : List (ProgramCall D L)) (left : Disk) (after : Log) (have : Left calls left after) (run : ProgramCall D L) → IsRunOf told faults log_told log_faults s log stream read opening calls left after have run → (it : LogEntry) →
-        IsFlushed log it run.past → HasDurable it after
+        LogEntryIsFlushed log it run.past → HasDurable it after
     stays-durable [] left after have run among it flushed = absurd among
-    stays-durable (call ∷ []) left after have run among it flushed = first-durable call left after have it (subst (λ (c : ProgramCall D L). IsFlushed log it c.past) among flushed)
+    stays-durable (call ∷ []) left after have run among it flushed = first-durable call left after have it (subst (λ (c : ProgramCall D L). LogEntryIsFlushed log it c.past) among flushed)
     stays-durable (call ∷ one ∷ earlier) left after (was, had, have, inl runs) run (inl same) it flushed =
-        run-durable call.past log runs.begun after (holds (one ∷ earlier) was had have call left after runs) it (subst (λ (c : ProgramCall D L). IsFlushed log it c.past) same flushed)
+        run-durable call.past log runs.begun after (holds (one ∷ earlier) was had have call left after runs) it (subst (λ (c : ProgramCall D L). LogEntryIsFlushed log it c.past) same flushed)
     stays-durable (call ∷ one ∷ earlier) left after (was, had, have, inl runs) run (inr among) it flushed =
         on-durable (one ∷ earlier) was had have call left after runs it (stays-durable (one ∷ earlier) was had have run among it flushed)
     stays-durable (call ∷ one ∷ earlier) left after (was, had, have, inr (inl stops)) run among it flushed =
@@ -181,7 +181,7 @@ module _ {D L : Type 0} (told : D → Option Disk) (faults : D → ℕ) (log_tol
 
     -- so the next restart reads it
     pub flushed-kept : (calls : List (ProgramCall D L)) (was : Disk) (had : Log) (have : Left calls was had) (call : ProgramCall D L) (restarted : HasRestarted told faults log_told log_faults s log stream was had call) (run : ProgramCall D L) →
-        IsRunOf told faults log_told log_faults s log stream read opening calls was had have run → (it : LogEntry) → IsFlushed log it run.past → Contains restarted.kept.entries it
+        IsRunOf told faults log_told log_faults s log stream read opening calls was had have run → (it : LogEntry) → LogEntryIsFlushed log it run.past → Contains restarted.kept.entries it
     flushed-kept calls was had have call restarted run among it flushed =
         let has = stays-durable calls was had have run among it flushed in
         handed-durable was had call.disks call.logs restarted.handed restarted.kept restarted.handed_in it has.contains has.durable

@@ -11,7 +11,7 @@ use Rattle.cc_script.specs.Generator.{generated}
 use Rattle.cc_script.specs.Grammar.{script_of}
 use Rattle.cc_script.specs.declared.script.Script.{Script}
 use Rattle.cc_program.specs.Complete.{Comes, IsFound}
-use Rattle.cc_program.specs.Ends.{Input, Output, GaveAll, IsAsked, IsEnded, IsPut, Spells, printed_by}
+use Rattle.cc_program.specs.Ends.{Input, ProgramOutput, GaveAll, IsAsked, ProgramIsEnded, IsTextPut, SpellsScript, printed_by}
 use Rattle.cc_command.specs.NoRun.{status_of}
 use Rattle.cc_command.specs.Words.{command_of, is_reading, mode_in, reads_source}
 use Rattle.cc_command.specs.declared.no_run.NoRun.{NoRun}
@@ -27,7 +27,7 @@ same-bytes : (i : Input) (bytes given : List ℕ) → (i.left ≡ Some bytes) �
 same-bytes i bytes given (inl told) all = told-same i.left bytes given told all.all
 same-bytes i bytes given (inr come) all = append_cancel_left i.given given bytes (sym all.gave ∙ come.gave)
 
-spells-is : (i : Input) (bytes : List ℕ) (script : Script) → Comes i bytes → Spells i script → script_of (mode_in i.words) bytes ≡ Ok script
+spells-is : (i : Input) (bytes : List ℕ) (script : Script) → Comes i bytes → SpellsScript i script → script_of (mode_in i.words) bytes ≡ Ok script
 spells-is i bytes script comes w = rw (same-bytes i bytes w.bytes comes.come w.given) at w.spelled
 
 one-script : (r : Result Script ℕ) (a b : Script) → r ≡ Ok a → r ≡ Ok b → a ≡ b
@@ -53,13 +53,13 @@ no-refusal no_run.NoMemory status is zero = absurd (cc (is, zero))
 no-refusal no_run.TooFewDevices status is zero = absurd (cc (is, zero))
 
 -- at status 0 a run was made of it
-pub run-of : (i : Input) (o : Output) (script : Script) (made : Option Script) (replies : List LineReply) (journal : List Entry) (status : ℕ) → IsFound i script → IsEnded i o made replies journal status → status ≡ 0 → made ≡ Some script
+pub run-of : (i : Input) (o : ProgramOutput) (script : Script) (made : Option Script) (replies : List LineReply) (journal : List Entry) (status : ℕ) → IsFound i script → ProgramIsEnded i o made replies journal status → status ≡ 0 → made ≡ Some script
 run-of i o script None replies journal status found ended zero = absurd (no-refusal ended.2.why status ended.2.status_is zero)
 run-of i o script (Some one) replies journal status found ended zero = ap (λ (it : Script). Some it) (one-found i one script ended.asked found)
 
 -- and its text was put whole
-pub put-of : (i : Input) (o : Output) (script : Script) (made : Option Script) (replies : List LineReply) (journal : List Entry) (status : ℕ) → IsFound i script → IsEnded i o made replies journal status → status ≡ 0 → IsPut o (printed_by (command_of i.words) script replies journal)
+pub put-of : (i : Input) (o : ProgramOutput) (script : Script) (made : Option Script) (replies : List LineReply) (journal : List Entry) (status : ℕ) → IsFound i script → ProgramIsEnded i o made replies journal status → status ≡ 0 → IsTextPut o (printed_by (command_of i.words) script replies journal)
 put-of i o script None replies journal status found ended zero = absurd (no-refusal ended.2.why status ended.2.status_is zero)
 put-of i o script (Some one) replies journal status found ended zero =
     let same : one ≡ script = one-found i one script ended.asked found in
-    subst (λ (it : Script). IsPut o (printed_by (command_of i.words) it replies journal)) same (ended.printed.whole zero)
+    subst (λ (it : Script). IsTextPut o (printed_by (command_of i.words) it replies journal)) same (ended.printed.whole zero)

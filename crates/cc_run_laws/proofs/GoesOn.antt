@@ -15,7 +15,7 @@ use Rattle.cc_entry.specs.declared.reply.Reply.TheVariants as reply
 use Rattle.cc_effects.specs.Moments.{EachOwn, Others}
 use Rattle.cc_model.specs.Setup.{Setup}
 use Rattle.cc_pieces.specs.Explained.{Answered}
-use Rattle.cc_redo.specs.Heard.{last_behind, last_of, lsn_read, reading, readings}
+use Rattle.cc_redo.specs.Heard.{last_behind, last_lsn_of, lsn_read, reading, readings}
 use Rattle.cc_restarts.specs.Restarting.{lsn_of}
 use Rattle.cc_restarts.specs.declared.ended.LogRestart.{LogRestart}
 use Rattle.cc_restarts.specs.declared.ended.Numbers.{Numbers}
@@ -76,8 +76,8 @@ number-told (suc k) fits = pick (nat_le 1 (suc k)) (nat_le (suc k) (2 ^ 62)) (le
     pick true false one other = absurd (cc other)
     pick false c one other = absurd (cc one)
 
-pub number-last : (kept : List LogEntry) (last : Option ℕ) → last ≡ lsn_of (last_of (readings kept)) → last_number last ≡ last_of (readings kept)
-number-last kept last is = ap last_number is ∙ number-told (last_of (readings kept)) (last-small 0 kept (omega arith))
+pub number-last : (kept : List LogEntry) (last : Option ℕ) → last ≡ lsn_of (last_lsn_of (readings kept)) → last_number last ≡ last_lsn_of (readings kept)
+number-last kept last is = ap last_number is ∙ number-told (last_lsn_of (readings kept)) (last-small 0 kept (omega arith))
 
 -- ---- the run
 

@@ -4,7 +4,7 @@ use Rattle.std.specs.declared.option.Option.{Option}
 use Rattle.std.specs.declared.option.Option.TheVariants.{Some}
 use Rattle.std.proofs.Common.{subst, arith}
 use Rattle.cc_entry.specs.declared.entry.Entry.{Entry}
-use Rattle.cc_log.specs.Turn.{Holds, appended}
+use Rattle.cc_log.specs.Turn.{HoldsLogEntries, appended}
 use Rattle.cc_model.specs.Allowed.{IsAllowed}
 use Rattle.cc_model.specs.Good.{IsGood, IsGoodSoFar}
 use Rattle.cc_model.specs.History.{history}
@@ -44,9 +44,9 @@ disk-gone told faults past disks disks_after are s below opening left was now =
     )
 
 pub log-gone : {L : Type 0} (told : L → Option Log) (faults : L → ℕ) (past : List Entry) (logs logs_after : List L) → LogsLeft told faults past logs logs_after → (log : ℕ) → log < 4 → (begun after : Log) →
-    TellsAt told logs log begun → TellsAt told logs_after log after → Holds (appended past log) (flushed_to past log) begun after
+    TellsAt told logs log begun → TellsAt told logs_after log after → HoldsLogEntries (appended past log) (flushed_to past log) begun after
 log-gone told faults past logs logs_after are log below begun after was now =
-    both-of (Holds (appended past log) (flushed_to past log)) (told was.device) (told now.device) begun after was.tells now.tells
+    both-of (HoldsLogEntries (appended past log) (flushed_to past log)) (told was.device) (told now.device) begun after was.tells now.tells
     (are.are.went log was.device now.device (get-take 4 logs log was.device below was.at) (get-take 4 logs_after log now.device below now.at))
 
 pub has-left : {D L : Type 0} (told : D → Option Disk) (faults : D → ℕ) (log_told : L → Option Log) (log_faults : L → ℕ) (past : List Entry) (disks disks_after : List D) (logs logs_after : List L) → DisksLeft told faults past disks disks_after →

@@ -11,11 +11,11 @@ use Rattle.cc_restart_laws.specs.Updates.{IsUpdated}
 use Rattle.cc_program.specs.Runs.{given_of}
 use Rattle.cc_program.specs.Setups.{setup_of}
 use Rattle.cc_command.specs.Words.{mode_in}
-use Rattle.cc_script.specs.Within.{IsWithin}
+use Rattle.cc_script.specs.Within.{ScriptIsWithin}
 use Rattle.cc_script.specs.declared.script.Mode.TheVariants as mode
 use Rattle.cc_script.specs.declared.script.Script.{Script}
 use Rattle.cc_script.specs.declared.script.StreamLine.{StreamLine}
-use Rattle.cc_stop_laws.specs.Redoable.{IsNumbered}
+use Rattle.cc_stop_laws.specs.Redoable.{StreamIsNumbered}
 use Rattle.cc_traits.specs.Disk.{Disk, page_of}
 use Rattle.cc_traits.specs.Log.{Log}
 use Rattle.cc_turns.specs.Desk.{disk_at_first}
@@ -44,7 +44,7 @@ module _ {D L : Type 0} (told : D → Option Disk) (faults : D → ℕ) (log_tol
   pub good : IsGoodSoFar setup call.past
   good = so-far setup call.past (good-run told faults log_told log_faults call clauses script ran)
 
-  pub within : IsWithin script
+  pub within : ScriptIsWithin script
   within = within-run told faults log_told log_faults call clauses script ran
 
   -- the disk told the opening pages of the stream
@@ -53,7 +53,7 @@ module _ {D L : Type 0} (told : D → Option Disk) (faults : D → ℕ) (log_tol
       ap (λ (o : Option D). opening_of (disk_at_first told faults o).told) (get-take 16 call.disks_begun s had.disk_begun.device (stream-below script within s line named) had.disk_begun.at)
       ∙ ap opening_of had.disk_begun.tells
 
-  pub ran-updated : IsUpdated s log call.past → IsNumbered s line read call.past → RanUpdated told log_told call s log line read opening left begun after
+  pub ran-updated : IsUpdated s log call.past → StreamIsNumbered s line read call.past → RanUpdated told log_told call s log line read opening left begun after
   ran-updated updated numbered = record {
     disk_begun = had.disk_begun;
     disk_left = had.disk_left;

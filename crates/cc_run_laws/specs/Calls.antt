@@ -15,7 +15,7 @@ use Rattle.cc_program.specs.Calls.{HasClauses, ProgramCall}
 use Rattle.cc_program.specs.Ends.{Input, IsAsked}
 use Rattle.cc_script.specs.declared.script.Script.{Script}
 use Rattle.cc_script.specs.declared.script.StreamLine.{StreamLine}
-use Rattle.cc_stop_laws.specs.Redoable.{IsHandedIn, IsNumbered, NamesAgain, RestartsStream, TellsAt}
+use Rattle.cc_stop_laws.specs.Redoable.{IsHandedIn, StreamIsNumbered, NamesAgain, RestartsStream, TellsAt}
 use Rattle.cc_traits.specs.Disk.{Disk, page_of}
 use Rattle.cc_traits.specs.Log.{Log, LogEntry}
 
@@ -29,7 +29,7 @@ pub record RanUpdated {D L : Type 0} (told : D → Option Disk) (log_told : L �
   pub log_left : TellsAt log_told call.logs_left log after
   pub updated : IsUpdated s log call.past
   pub reads : IsReadAs (page_of opening record_number) read
-  pub numbered : IsNumbered s line read call.past
+  pub numbered : StreamIsNumbered s line read call.past
 
 -- What was left of a stream's disk and of its log is handed to a call, whose script restarts the log over the stream. The line of the
 -- restart was answered as done.
@@ -63,7 +63,7 @@ pub record NamesStream (s log : ℕ) (stream : StreamLine) (handed : Disk) (scri
   pub names : NamesAgain handed stream line
 
 -- A run appended an entry to the log, and flushed the log up to its LSN.
-pub record IsFlushed (log : ℕ) (it : LogEntry) (past : List Entry) : Type 0 where
+pub record LogEntryIsFlushed (log : ℕ) (it : LogEntry) (past : List Entry) : Type 0 where
   pub pass : ℕ
   pub later : List Entry
   pub front : List Entry

@@ -2,7 +2,7 @@
 use Rattle.std.specs.Prelude.{◌≡◌, ℕ, List, [], ◌∷◌, ◌⊎◌}
 use Rattle.std.specs.declared.option.Option.{Option}
 use Rattle.cc_format.specs.declared.record.StreamRecord.{StreamRecord}
-use Rattle.cc_restarts.specs.Given.{AreSizes}
+use Rattle.cc_restarts.specs.Given.{AreRestartSizes}
 use Rattle.cc_script.specs.declared.script.StreamLine.{StreamLine}
 use Rattle.cc_traits.specs.Disk.{Disk}
 use Rattle.cc_traits.specs.Log.{Log}
@@ -10,7 +10,7 @@ use Rattle.cc_update_laws.specs.Devices.{IsWholeDisk}
 use Rattle.cc_run_laws.specs.Calls.{HasRestarted}
 use Rattle.cc_program.specs.Calls.{HasClauses, ProgramCall}
 use Rattle.cc_run_laws.specs.Chains.{RunsUnopened, StopsBefore}
-use Rattle.cc_run_laws.specs.Scripts.{CheckpointsAreRight, HadDevices, HasNoCheckpoint, HasNoneOrOpensNone, InitialisesNone, IsOpened, LeavesToUpdates}
+use Rattle.cc_run_laws.specs.Scripts.{CheckpointsAreRight, HadDevices, HasNoCheckpoint, HasNoneOrOpensNone, InitialisesNone, StreamIsOpened, LeavesToUpdates}
 
 -- A call ran a script that left a stream to its logged updates, over devices that tell. The stream's own line was done, and the script
 -- has no checkpoint of the log, or its checkpoints are right; or no line of a caller initialises the stream, the numbers of its record, or
@@ -19,8 +19,8 @@ pub record RanScript {D L : Type 0} (told : D → Option Disk) (log_told : L →
     (line : StreamLine) (read : Option StreamRecord) (opening left : Disk) (begun after : Log) : Type 0 where
   pub leaves : LeavesToUpdates call s log line
   pub had : HadDevices told log_told call s log line read opening left begun after
-  pub opened : (IsOpened leaves × (HasNoCheckpoint log leaves.its.script ⊎ CheckpointsAreRight call s log leaves.its.script))
-      ⊎ (InitialisesNone s leaves.its.script × AreSizes line read × HasNoneOrOpensNone call s log leaves.its.script)
+  pub opened : (StreamIsOpened leaves × (HasNoCheckpoint log leaves.its.script ⊎ CheckpointsAreRight call s log leaves.its.script))
+      ⊎ (InitialisesNone s leaves.its.script × AreRestartSizes line read × HasNoneOrOpensNone call s log leaves.its.script)
 
 -- A call that ran such a script over a log without entries, and left this.
 pub record IsFirstScript {D L : Type 0} (told : D → Option Disk) (faults : D → ℕ) (log_told : L → Option Log) (log_faults : L → ℕ)

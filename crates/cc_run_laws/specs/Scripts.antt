@@ -39,8 +39,8 @@ pub record LeavesToUpdates {D L : Type 0} (call : ProgramCall D L) (s log : ℕ)
   pub updates : AllByRecursion (λ each. left_to_updates s log each.0 each.1 ≡ true) (lines_answered (given_of its.script) call.told)
 
 -- The line of the stream was answered as done.
-abbrev pub IsOpened : {D L : Type 0} {call : ProgramCall D L} {s log : ℕ} {line : StreamLine} → LeavesToUpdates call s log line → Type 0
-IsOpened leaves = leaves.opening.answer ≡ answer.Given reply.Unit
+abbrev pub StreamIsOpened : {D L : Type 0} {call : ProgramCall D L} {s log : ℕ} {line : StreamLine} → LeavesToUpdates call s log line → Type 0
+StreamIsOpened leaves = leaves.opening.answer ≡ answer.Given reply.Unit
 
 -- No line of a caller initialises an object of the stream.
 abbrev pub InitialisesNone : ℕ → Script → Type 0

@@ -7,7 +7,7 @@ ghost use Rattle.cc_entry.specs.declared.entry.Entry.{Entry};
 ghost use Rattle.cc_model.specs.Good.{IsGood};
 ghost use Rattle.cc_model.specs.Setup.{Setup};
 ghost use Rattle.cc_program.specs.Complete.{HaveStayed, IsFound, RanWithoutFault};
-ghost use Rattle.cc_program.specs.Ends.{Input, Output, has_devices};
+ghost use Rattle.cc_program.specs.Ends.{Input, ProgramOutput, has_devices};
 ghost use Rattle.cc_program.specs.Main.{HasMain};
 ghost use Rattle.cc_program.specs.Setups.{run_disks, run_logs};
 ghost use Rattle.cc_script.specs.declared.script.Script.{Script};
@@ -20,7 +20,7 @@ use cc_traits::{LogFile, PageDisk};
 /// are enough devices for it, the sink neither failed nor took nothing, and no count of faults rose of the disks and the logs of a run,
 /// the run is complete.
 pub fn runs_without_faults_are_complete<D: PageDisk, L: LogFile>()
-    ensures { (u : Setup) (i : Input) (o : Output) (script : Script) (made : Option Script) (replies told : List LineReply)
+    ensures { (u : Setup) (i : Input) (o : ProgramOutput) (script : Script) (made : Option Script) (replies told : List LineReply)
         (journal : List Entry) (status : ℕ) (disks disks_after : List D) (logs logs_after : List L) →
         HasMain i o made replies journal status → IsGood u (reverse journal) →
         RanWithoutFault D.faults L.faults disks disks_after logs logs_after told (reverse journal) →

@@ -5,14 +5,14 @@ ghost use Rattle.std.specs.Prelude.{◌≡◌, ℕ, ◌≤◌, Contains, List, S
 ghost use Rattle.std.specs.List.{filter};
 ghost use Rattle.std.specs.declared.option.Option.{Option};
 ghost use Rattle.cc_format.specs.declared.record.StreamRecord.{StreamRecord};
-ghost use Rattle.cc_redo.specs.Heard.{last_of, readings};
+ghost use Rattle.cc_redo.specs.Heard.{last_lsn_of, readings};
 ghost use Rattle.cc_redo.specs.Reading.{said_by};
 ghost use Rattle.cc_redo.specs.declared.record.LogRecord.TheVariants.{Update};
 ghost use Rattle.cc_redo.specs.declared.redo.Redo.{Redo};
 ghost use Rattle.cc_restart_laws.specs.Stops.{updates_in};
 ghost use Rattle.cc_restart_laws.specs.Updates.{is_update_of};
 ghost use Rattle.cc_restarts.specs.Given.{size_said, valid_said};
-ghost use Rattle.cc_run_laws.specs.Calls.{HasRestarted, IsFlushed, IsScriptOf, NamesStream};
+ghost use Rattle.cc_run_laws.specs.Calls.{HasRestarted, LogEntryIsFlushed, IsScriptOf, NamesStream};
 ghost use Rattle.cc_program.specs.Calls.{HasClauses, ProgramCall};
 ghost use Rattle.cc_run_laws.specs.Chains.{HaveLeft, IsFirst, IsRunOf, RunsOn};
 ghost use Rattle.cc_script.specs.declared.script.Script.{Script};
@@ -30,7 +30,7 @@ use cc_traits::{LogFile, PageDisk};
 pub fn restarted_runs_go_on<D: PageDisk, L: LogFile>()
     ensures { (s log : ℕ) (stream : StreamLine) (was : Disk) (had : Log) (call : ProgramCall D L) →
         (restarted : HasRestarted D.told D.faults L.told L.faults s log stream was had call) →
-        GoesOnFrom log (last_of (readings restarted.kept.entries)) call.past }
+        GoesOnFrom log (last_lsn_of (readings restarted.kept.entries)) call.past }
 {}
 
 /// One stop and the call behind it. `first`: a first run leaves of its disk and of its log what can be redone to the file with which it
@@ -98,7 +98,7 @@ pub fn flushed_updates_are_redone<D: PageDisk, L: LogFile>()
         (was : Disk) (had : Log) → (have : HaveLeft D.told D.faults L.told L.faults s log stream read opening calls was had) →
         (call : ProgramCall D L) → (restarted : HasRestarted D.told D.faults L.told L.faults s log stream was had call) →
         (run : ProgramCall D L) → IsRunOf D.told D.faults L.told L.faults s log stream read opening calls was had have run →
-        (it : LogEntry) → IsFlushed log it run.past → Contains restarted.kept.entries it }
+        (it : LogEntry) → LogEntryIsFlushed log it run.past → Contains restarted.kept.entries it }
     ensures applied { (s log : ℕ) (stream : StreamLine) (read : Option StreamRecord) (opening : Disk) (calls : List (ProgramCall D L))
         (was : Disk) (had : Log) → HaveLeft D.told D.faults L.told L.faults s log stream read opening calls was had →
         (call : ProgramCall D L) → (restarted : HasRestarted D.told D.faults L.told L.faults s log stream was had call) →

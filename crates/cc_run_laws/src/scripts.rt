@@ -11,11 +11,11 @@ ghost use Rattle.cc_pieces.specs.Restarts.{refused_for};
 ghost use Rattle.cc_redo.specs.Reading.{said_by};
 ghost use Rattle.cc_restart_laws.specs.Stops.{updates_in};
 ghost use Rattle.cc_restart_laws.specs.Updates.{is_update_of};
-ghost use Rattle.cc_restarts.specs.Given.{AreSizes, size_said, valid_said};
+ghost use Rattle.cc_restarts.specs.Given.{AreRestartSizes, size_said, valid_said};
 ghost use Rattle.cc_run_laws.specs.Calls.{HasRestarted, RanUpdated};
 ghost use Rattle.cc_program.specs.Calls.{HasClauses, ProgramCall};
 ghost use Rattle.cc_run_laws.specs.ScriptChains.{HaveLeftByScripts};
-ghost use Rattle.cc_run_laws.specs.Scripts.{CheckpointsAreRight, HadDevices, HasNoCheckpoint, HasNoneOrOpensNone, InitialisesNone, IsOpened, LeavesToUpdates, NamesTheLog};
+ghost use Rattle.cc_run_laws.specs.Scripts.{CheckpointsAreRight, HadDevices, HasNoCheckpoint, HasNoneOrOpensNone, InitialisesNone, StreamIsOpened, LeavesToUpdates, NamesTheLog};
 ghost use Rattle.cc_script.specs.declared.script.StreamLine.{StreamLine};
 ghost use Rattle.cc_stop_laws.specs.Redoable.{IsFileMade, TellsAt, TellsGreatest};
 ghost use Rattle.cc_traits.specs.Disk.{Disk, page_of};
@@ -36,16 +36,16 @@ use cc_traits::{LogFile, PageDisk};
 pub fn scripts_of_updates_are_redone<D: PageDisk, L: LogFile>()
     ensures updates { (call : ProgramCall D L) → HasClauses D.told D.faults L.told L.faults call → (s log : ℕ) (line : StreamLine)
         (read : Option StreamRecord) (opening left : Disk) (begun after : Log) → (leaves : LeavesToUpdates call s log line) →
-        HadDevices D.told L.told call s log line read opening left begun after → IsOpened leaves →
+        HadDevices D.told L.told call s log line read opening left begun after → StreamIsOpened leaves →
         HasNoCheckpoint log leaves.its.script → RanUpdated D.told L.told call s log line read opening left begun after }
     ensures checkpoints { (call : ProgramCall D L) → HasClauses D.told D.faults L.told L.faults call → (s log : ℕ) (line : StreamLine)
         (read : Option StreamRecord) (opening left : Disk) (begun after : Log) → (leaves : LeavesToUpdates call s log line) →
-        HadDevices D.told L.told call s log line read opening left begun after → IsOpened leaves →
+        HadDevices D.told L.told call s log line read opening left begun after → StreamIsOpened leaves →
         CheckpointsAreRight call s log leaves.its.script → RanUpdated D.told L.told call s log line read opening left begun after }
     ensures kept { (call : ProgramCall D L) → HasClauses D.told D.faults L.told L.faults call → (s log : ℕ) (line : StreamLine)
         (read : Option StreamRecord) (opening left : Disk) (begun after : Log) → (leaves : LeavesToUpdates call s log line) →
         HadDevices D.told L.told call s log line read opening left begun after → InitialisesNone s leaves.its.script →
-        AreSizes line read → HasNoneOrOpensNone call s log leaves.its.script →
+        AreRestartSizes line read → HasNoneOrOpensNone call s log leaves.its.script →
         RanUpdated D.told L.told call s log line read opening left begun after }
 {
     scripts_of_updates_keep_the_form();

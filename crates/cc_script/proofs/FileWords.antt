@@ -10,7 +10,7 @@ use Rattle.std.proofs.lemmas.Bool.Decides.{nat_tests}
 use Rattle.cc_entry.specs.Place.{File}
 use Rattle.cc_script.specs.declared.script.StreamLine.{StreamLine}
 use Rattle.cc_script.specs.Words.{number_between}
-use Rattle.cc_script.specs.Actions.{stream_named, object_named, file_at, file_of}
+use Rattle.cc_script.specs.Actions.{stream_named, object_named, file_at, parsed_file}
 use Rattle.cc_script.specs.Laws.{has_no_colon, SpellsObject, IsFileSpelling}
 use Rattle.cc_script.proofs.Numbers.{decimal-number_of}
 use Rattle.cc_script.proofs.Steps.{then-gives, between-gives}
@@ -119,12 +119,12 @@ at-spelled streams word (Some colon) file by e =
       text = inr (omega (arith, most, same), cut.1 ∙ ap (take colon word ++◌) (ap (58 ∷◌) (text ∙ ap decimal same)));
     }
 
-file-spelled : (streams : List StreamLine) (word : List ℕ) (file : File) → file_of streams word ≡ Some file → IsFileSpelling streams word file
-unfolding file_of
+file-spelled : (streams : List StreamLine) (word : List ℕ) (file : File) → parsed_file streams word ≡ Some file → IsFileSpelling streams word file
+unfolding parsed_file
 file-spelled streams word file e = at-spelled streams word (position (λ b. b == 58) word) file refl e
 
-file-read : (streams : List StreamLine) (word : List ℕ) (file : File) → IsFileSpelling streams word file → file_of streams word ≡ Some file
-unfolding file_of file_at
+file-read : (streams : List StreamLine) (word : List ℕ) (file : File) → IsFileSpelling streams word file → parsed_file streams word ≡ Some file
+unfolding parsed_file file_at
 file-read streams word file s = either s.text
   where
     made : (number : ℕ) → number ≡ file.object → object_named streams s.name number ≡ Some file
@@ -142,5 +142,5 @@ file-read streams word file s = either s.text
         let read : number_between 0 15 (decimal file.object) ≡ Some file.object = between-decimal 0 15 file.object (omega arith) (omega (arith, few)) (omega arith) in
         rw (said.1, at, behind, read, before) (made file.object refl)
 
-pub files_spell : (streams : List StreamLine) (word : List ℕ) (file : File) → (file_of streams word ≡ Some file) ↔ IsFileSpelling streams word file
+pub files_spell : (streams : List StreamLine) (word : List ℕ) (file : File) → (parsed_file streams word ≡ Some file) ↔ IsFileSpelling streams word file
 files_spell streams word file = (file-spelled streams word file, file-read streams word file)

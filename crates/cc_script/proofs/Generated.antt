@@ -12,7 +12,7 @@ use Rattle.cc_script.specs.ActionTable.{bytes_moved}
 use Rattle.cc_script.specs.HoldWords.{bound_after, bound_if, IsRightIf, UsesRight, AreUsedRight}
 use Rattle.cc_script.specs.Checkpoints.{is_checkpoint, StandApart, CheckpointsStandApart}
 use Rattle.cc_script.specs.Modes.{stands, action_modes, IsLineOf, IsOfMode}
-use Rattle.cc_script.specs.Within.{IsFileWithin, IsPageWithin, IsActionWithin, IsLineWithin, PhasesAscend, IsWithin}
+use Rattle.cc_script.specs.Within.{IsFileWithin, IsPageWithin, IsActionWithin, IsLineWithin, PhasesAscend, ScriptIsWithin}
 use Rattle.cc_script.specs.Generator.{state_after, draw_of, caller_state, stream_state, page_state, byte_state, draws_of, drawn_file, drawn_page, drawn_action, drawn_caller, drawn_line, drawn_lines, drawn_streams, generated}
 
 draw-below : (m x : ℕ) → 0 < m → draw_of m x < m
@@ -146,7 +146,7 @@ words-right caller (suc more) number x = either (drawn_caller (draws_of x) == ca
         (a.right, subst (λ (bounds : List Bound). AreUsedRight caller bounds (drawn_lines more (suc number) (byte_state x))) (sym a.after) rest)
     either false rest = (tt, rest)
 
-pub generated_within : (n : ℕ) → IsWithin (generated n)
+pub generated_within : (n : ℕ) → ScriptIsWithin (generated n)
 unfolding generated
 generated_within n =
     let counted = lines-counted 4000 3 n in

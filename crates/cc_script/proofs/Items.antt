@@ -9,7 +9,7 @@ use Rattle.std.proofs.lemmas.Bool.Decides.{nat_tests}
 use Rattle.std.proofs.lemmas.Fmt.{digits_decimal}
 use Rattle.std.proofs.lemmas.Str.Parse.{numerals_by_value, tells_all_ascii_digits}
 use Rattle.cc_script.specs.Text.{parts}
-use Rattle.cc_script.specs.Words.{number_of, number_between, hex_digit_of, pair_of, with_bytes, pair_onto, pairs_onto, run_onto, item_onto, items_onto, bytes_of}
+use Rattle.cc_script.specs.Words.{parsed_number, number_between, parsed_hex_digit, parsed_pair, with_bytes, pair_onto, pairs_onto, run_onto, item_onto, items_onto, parsed_bytes}
 use Rattle.cc_script.specs.Laws.{Item, Pairs, Times, pair_text, item_text, item_bytes, items_bytes, IsItem, AreItems}
 use Rattle.cc_script.proofs.Numbers.{number_of-decimal}
 
@@ -20,10 +20,10 @@ glyph_low d h = grind (arith, nat_tests)
 glyph_high : (d : ℕ) → d < 16 → digit_glyph true d ≤ 70
 glyph_high d h = grind (arith, nat_tests)
 
-glyph_read : (d : ℕ) → d < 16 → hex_digit_of (digit_glyph true d) ≡ Some d
+glyph_read : (d : ℕ) → d < 16 → parsed_hex_digit (digit_glyph true d) ≡ Some d
 glyph_read d h = either (nat_lt d 10) refl
   where
-    either : (t : Bool) → nat_lt d 10 ≡ t → hex_digit_of (digit_glyph true d) ≡ Some d
+    either : (t : Bool) → nat_lt d 10 ≡ t → parsed_hex_digit (digit_glyph true d) ≡ Some d
     either true e =
         let l : d < 10 = grind (arith, nat_tests) in
         let digit : is_ascii_digit (48 + d) ≡ true = grind (arith, nat_tests) in
@@ -37,11 +37,11 @@ glyph_read d h = either (nat_lt d 10) refl
         let z : 55 + d - 55 ≡ d = omega arith in
         simp (e, no_digit, low, high, z)
 
-pair_read : (b : ℕ) → b < 256 → pair_of (digit_glyph true (b / 16)) (digit_glyph true (b % 16)) ≡ Some b
-unfolding pair_of
+pair_read : (b : ℕ) → b < 256 → parsed_pair (digit_glyph true (b / 16)) (digit_glyph true (b % 16)) ≡ Some b
+unfolding parsed_pair
 pair_read b h =
-    let high : hex_digit_of (digit_glyph true (b / 16)) ≡ Some (b / 16) = glyph_read (b / 16) (omega arith) in
-    let low : hex_digit_of (digit_glyph true (b % 16)) ≡ Some (b % 16) = glyph_read (b % 16) (omega arith) in
+    let high : parsed_hex_digit (digit_glyph true (b / 16)) ≡ Some (b / 16) = glyph_read (b / 16) (omega arith) in
+    let low : parsed_hex_digit (digit_glyph true (b % 16)) ≡ Some (b % 16) = glyph_read (b % 16) (omega arith) in
     let whole : 16 * (b / 16) + b % 16 ≡ b = omega arith in
     rw (high, low) (ap Some whole)
 
@@ -69,7 +69,7 @@ pairs_read (b ∷ bytes) before all room = either (nat_lt b 256) refl all (pairs
 between_read : (n : ℕ) → 0 < n → n ≤ 2097152 → number_between 1 2097152 (decimal n) ≡ Some n
 unfolding number_between
 between_read n low high =
-    let read : number_of (decimal n) ≡ Some n = number_of-decimal n (omega arith) in
+    let read : parsed_number (decimal n) ≡ Some n = number_of-decimal n (omega arith) in
     let s : nat_le 1 n ≡ true = grind (arith, nat_tests) in
     let t : nat_le n 2097152 ≡ true = grind (arith, nat_tests) in
     rw read (simp (s, t))
@@ -197,7 +197,7 @@ no_dash_joined (i ∷ j ∷ items) some h =
     let rest = join_with_byte 44 (map item_text (j ∷ items)) in
     rw f.2 (no_dash f.0 (f.1 ++ 44 ∷ rest) f.3)
 
-pub items_spell : (items : List Item) → 0 < length items → AreItems items → length (items_bytes items) ≤ 2097152 → bytes_of (join_with_byte 44 (map item_text items)) ≡ Some (items_bytes items)
-unfolding bytes_of
+pub items_spell : (items : List Item) → 0 < length items → AreItems items → length (items_bytes items) ≤ 2097152 → parsed_bytes (join_with_byte 44 (map item_text items)) ≡ Some (items_bytes items)
+unfolding parsed_bytes
 items_spell items some h room =
     simp (no_dash_joined items some h) (rw (parts_joined items some h room) (items_read items [] h (omega arith)))

@@ -10,9 +10,9 @@ use Rattle.cc_script.specs.declared.script.Mode.TheVariants as mode
 use Rattle.cc_script.specs.declared.script.StreamLine.{StreamLine}
 use Rattle.cc_script.specs.declared.script.Action.{Action}
 use Rattle.cc_script.specs.declared.script.Action.TheVariants as action
-use Rattle.cc_script.specs.Words.{number_of, number_between, is_name, name_of}
-use Rattle.cc_script.specs.Actions.{next, flag, ended, file_of, quota_of, copy_read_of}
-use Rattle.cc_script.specs.Grammar.{log_of, stored_of, stream_of, setting_of}
+use Rattle.cc_script.specs.Words.{parsed_number, number_between, is_name, name_of_word}
+use Rattle.cc_script.specs.Actions.{next, flag, ended, parsed_file, parsed_quota, parsed_copy_read}
+use Rattle.cc_script.specs.Grammar.{parsed_log, parsed_stored, parsed_stream, parsed_setting}
 use Rattle.cc_script.specs.Modes.{IsStreamOf}
 use Rattle.cc_script.specs.Laws.{SpellsQuota, SpellsLog, flag_words, IsStreamSpelling, IsReadSpelling, SpellsSetting}
 use Rattle.cc_script.proofs.Numbers.{decimal-number_of, number_of-decimal}
@@ -22,13 +22,13 @@ use Rattle.cc_script.proofs.Steps.{then-gives, if-gives, next-gives, ended-gives
 pub between-decimal : (low high n : ℕ) → low ≤ n → n ≤ high → high < 2 ^ 64 → number_between low high (decimal n) ≡ Some n
 unfolding number_between
 between-decimal low high n least most fits =
-    let read : number_of (decimal n) ≡ Some n = number_of-decimal n (omega arith) in
+    let read : parsed_number (decimal n) ≡ Some n = number_of-decimal n (omega arith) in
     let s : nat_le low n ≡ true = grind (arith, nat_tests) in
     let t : nat_le n high ≡ true = grind (arith, nat_tests) in
     rw read (simp (s, t))
 
-setting_spelled : (low high : ℕ) (ws : List (List ℕ)) (n : ℕ) → setting_of low high ws ≡ Some n → SpellsSetting low high ws n
-unfolding setting_of
+setting_spelled : (low high : ℕ) (ws : List (List ℕ)) (n : ℕ) → parsed_setting low high ws ≡ Some n → SpellsSetting low high ws n
+unfolding parsed_setting
 setting_spelled low high ws n e =
     let found = then-gives (next (number_between low high) ws) _ n e in
     let end = ended-gives _ _ n found.2 in
@@ -37,13 +37,13 @@ setting_spelled low high ws n e =
     let text : w.word ≡ decimal n = (decimal-number_of w.word found.0.0 b.number).1 ∙ ap decimal end.1 in
     (omega (arith, end.1, b.least), omega (arith, end.1, b.most), w.words ∙ rw (text, end.0) refl)
 
-setting_read : (low high : ℕ) (ws : List (List ℕ)) (n : ℕ) → high < 2 ^ 64 → SpellsSetting low high ws n → setting_of low high ws ≡ Some n
-unfolding setting_of
+setting_read : (low high : ℕ) (ws : List (List ℕ)) (n : ℕ) → high < 2 ^ 64 → SpellsSetting low high ws n → parsed_setting low high ws ≡ Some n
+unfolding parsed_setting
 setting_read low high ws n fits s =
     let read : number_between low high (decimal n) ≡ Some n = between-decimal low high n s.0 s.1 fits in
     rw (s.2, read) refl
 
-pub settings_spell : (low high : ℕ) (ws : List (List ℕ)) (n : ℕ) → high < 2 ^ 64 → (setting_of low high ws ≡ Some n) ↔ SpellsSetting low high ws n
+pub settings_spell : (low high : ℕ) (ws : List (List ℕ)) (n : ℕ) → high < 2 ^ 64 → (parsed_setting low high ws ≡ Some n) ↔ SpellsSetting low high ws n
 settings_spell low high ws n fits = (setting_spelled low high ws n, setting_read low high ws n fits)
 
 -- a flag is the given word, where that stands next
@@ -60,16 +60,16 @@ flag_read : (given : List ℕ) (is_set : Bool) → bytes_eq given given ≡ true
 flag_read given true e = simp e
 flag_read given false e = refl
 
-read_spelled : (streams : List StreamLine) (ws : List (List ℕ)) (asked : Action) → copy_read_of streams ws ≡ Some asked → IsReadSpelling streams ws asked
-unfolding copy_read_of
+read_spelled : (streams : List StreamLine) (ws : List (List ℕ)) (asked : Action) → parsed_copy_read streams ws ≡ Some asked → IsReadSpelling streams ws asked
+unfolding parsed_copy_read
 read_spelled streams ws asked e =
-    let file = then-gives (next (file_of streams) ws) _ asked e in
-    let at = then-gives (next number_of file.0.1) _ asked file.2 in
+    let file = then-gives (next (parsed_file streams) ws) _ asked e in
+    let at = then-gives (next parsed_number file.0.1) _ asked file.2 in
     let len = then-gives (next (number_between 0 2097152) at.0.1) _ asked at.2 in
     let is_set = (flag (codes "nowait") len.0.1).0 in
     let end = ended-gives (flag (codes "nowait") len.0.1).1 (action.CopyRead file.0.0 at.0.0 len.0.0 (not is_set)) asked len.2 in
-    let f = next-gives (file_of streams) ws file.0.0 file.0.1 file.1 in
-    let a = next-gives number_of file.0.1 at.0.0 at.0.1 at.1 in
+    let f = next-gives (parsed_file streams) ws file.0.0 file.0.1 file.1 in
+    let a = next-gives parsed_number file.0.1 at.0.0 at.0.1 at.1 in
     let l = next-gives (number_between 0 2097152) at.0.1 len.0.0 len.0.1 len.1 in
     let b = between-gives 0 2097152 l.word len.0.0 l.reads in
     let at_is = decimal-number_of a.word at.0.0 a.reads in
@@ -92,11 +92,11 @@ read_spelled streams ws asked e =
     flag_end true = refl
     flag_end false = refl
 
-read_read : (streams : List StreamLine) (ws : List (List ℕ)) (asked : Action) → IsReadSpelling streams ws asked → copy_read_of streams ws ≡ Some asked
-unfolding copy_read_of
+read_read : (streams : List StreamLine) (ws : List (List ℕ)) (asked : Action) → IsReadSpelling streams ws asked → parsed_copy_read streams ws ≡ Some asked
+unfolding parsed_copy_read
 read_read streams ws asked s =
-    let named : file_of streams s.name ≡ Some s.file = s.named in
-    let at : number_of (decimal s.at) ≡ Some s.at = number_of-decimal s.at s.at_fits in
+    let named : parsed_file streams s.name ≡ Some s.file = s.named in
+    let at : parsed_number (decimal s.at) ≡ Some s.at = number_of-decimal s.at s.at_fits in
     let len : number_between 0 2097152 (decimal s.len) ≡ Some s.len = between-decimal 0 2097152 s.len (omega arith) s.len_fits (omega arith) in
     rw (s.words, named, at, len) (last s.wait ∙ ap Some (sym s.asks))
   where
@@ -104,7 +104,7 @@ read_read streams ws asked s =
     last true = refl
     last false = refl
 
-pub reads_spell : (streams : List StreamLine) (ws : List (List ℕ)) (asked : Action) → (copy_read_of streams ws ≡ Some asked) ↔ IsReadSpelling streams ws asked
+pub reads_spell : (streams : List StreamLine) (ws : List (List ℕ)) (asked : Action) → (parsed_copy_read streams ws ≡ Some asked) ↔ IsReadSpelling streams ws asked
 reads_spell streams ws asked = (read_spelled streams ws asked, read_read streams ws asked)
 
 -- the words of a quota
@@ -113,8 +113,8 @@ record QuotaWords (ws : List (List ℕ)) (quota : ℕ) (more : List (List ℕ)) 
   words : ws ≡ own ++ more
   spells : SpellsQuota quota own
 
-quota_spelled : (ws : List (List ℕ)) (quota : ℕ) (more : List (List ℕ)) → quota_of ws ≡ Some (quota, more) → QuotaWords ws quota more
-unfolding quota_of
+quota_spelled : (ws : List (List ℕ)) (quota : ℕ) (more : List (List ℕ)) → parsed_quota ws ≡ Some (quota, more) → QuotaWords ws quota more
+unfolding parsed_quota
 quota_spelled ws quota more e = either (flag (codes "quota") ws).0 (flag_spelled (codes "quota") ws) e
   where
     either : (t : Bool) → ws ≡ flag_words (codes "quota") t ++ (flag (codes "quota") ws).1 → (if t then next (number_between 8 64) (flag (codes "quota") ws).1 else Some (16, ws)) ≡ Some (quota, more) → QuotaWords ws quota more
@@ -136,8 +136,8 @@ quota_spelled ws quota more e = either (flag (codes "quota") ws).0 (flag_spelled
         }
 
 -- and they are read so before other words
-quota_read : (quota : ℕ) (own more : List (List ℕ)) → (flag (codes "quota") more) ≡ (false, more) → SpellsQuota quota own → quota_of (own ++ more) ≡ Some (quota, more)
-unfolding quota_of
+quota_read : (quota : ℕ) (own more : List (List ℕ)) → (flag (codes "quota") more) ≡ (false, more) → SpellsQuota quota own → parsed_quota (own ++ more) ≡ Some (quota, more)
+unfolding parsed_quota
 quota_read quota own more other (inl unsaid) = rw (unsaid.0, unsaid.1) (rw other refl)
 quota_read quota own more other (inr said) =
     let read : number_between 8 64 (decimal quota) ≡ Some quota = between-decimal 8 64 quota said.0 said.1 (omega arith) in
@@ -149,8 +149,8 @@ record LogWords (ws : List (List ℕ)) (log : Option ℕ) (more : List (List ℕ
   words : ws ≡ own ++ more
   spells : SpellsLog log own
 
-log_spelled : (ws : List (List ℕ)) (log : Option ℕ) (more : List (List ℕ)) → log_of ws ≡ Some (log, more) → LogWords ws log more
-unfolding log_of
+log_spelled : (ws : List (List ℕ)) (log : Option ℕ) (more : List (List ℕ)) → parsed_log ws ≡ Some (log, more) → LogWords ws log more
+unfolding parsed_log
 log_spelled ws log more e = either (flag (codes "log") ws).0 (flag_spelled (codes "log") ws) e
   where
     found : (o : Option (ℕ × List (List ℕ))) → next (number_between 0 3) (flag (codes "log") ws).1 ≡ o → ws ≡ codes "log" ∷ (flag (codes "log") ws).1 → option_map (λ (it : ℕ × List (List ℕ)). (let pair : Option ℕ × List (List ℕ) = (Some it.0, it.1) in pair)) o ≡ Some (log, more) → LogWords ws log more
@@ -180,8 +180,8 @@ log_spelled ws log more e = either (flag (codes "log") ws).0 (flag_spelled (code
         }
 
 -- and they are read so before the last word
-log_read : (log : Option ℕ) (stored : Bool) (own : List (List ℕ)) → SpellsLog log own → log_of (own ++ flag_words (codes "stored") stored) ≡ Some (log, flag_words (codes "stored") stored)
-unfolding log_of
+log_read : (log : Option ℕ) (stored : Bool) (own : List (List ℕ)) → SpellsLog log own → parsed_log (own ++ flag_words (codes "stored") stored) ≡ Some (log, flag_words (codes "stored") stored)
+unfolding parsed_log
 log_read None true own unsaid = rw unsaid refl
 log_read None false own unsaid = rw unsaid refl
 log_read (Some handle) stored own said =
@@ -189,8 +189,8 @@ log_read (Some handle) stored own said =
     rw (said.1, read) refl
 
 -- so is the last word
-stored_read : (m : Mode) (stream : StreamLine) → IsStreamOf m stream → stored_of m (flag_words (codes "stored") stream.stored) ≡ (stream.stored, [])
-unfolding stored_of
+stored_read : (m : Mode) (stream : StreamLine) → IsStreamOf m stream → parsed_stored m (flag_words (codes "stored") stream.stored) ≡ (stream.stored, [])
+unfolding parsed_stored
 stored_read mode.Run stream of_mode = flag_read (codes "stored") stream.stored refl
 stored_read mode.Steps stream of_mode = rw of_mode refl
 
@@ -209,37 +209,37 @@ temporary_read false false None own said = rw said refl
 temporary_read false stored (Some handle) own said = rw said.1 refl
 
 -- the last word is the one that is read, and none in steps
-stored_spelled : (m : Mode) (ws : List (List ℕ)) → (stored_of m ws).1 ≡ [] → ws ≡ flag_words (codes "stored") (stored_of m ws).0
-unfolding stored_of
+stored_spelled : (m : Mode) (ws : List (List ℕ)) → (parsed_stored m ws).1 ≡ [] → ws ≡ flag_words (codes "stored") (parsed_stored m ws).0
+unfolding parsed_stored
 stored_spelled mode.Run ws ended =
     flag_spelled (codes "stored") ws ∙ (ap (flag_words (codes "stored") (flag (codes "stored") ws).0 ++◌) ended ∙ append-nil (flag_words (codes "stored") (flag (codes "stored") ws).0))
 stored_spelled mode.Steps ws ended = ended
 
-stored_of_mode : (m : Mode) (ws : List (List ℕ)) (stream : StreamLine) → stream.stored ≡ (stored_of m ws).0 → IsStreamOf m stream
-unfolding stored_of
+stored_of_mode : (m : Mode) (ws : List (List ℕ)) (stream : StreamLine) → stream.stored ≡ (parsed_stored m ws).0 → IsStreamOf m stream
+unfolding parsed_stored
 stored_of_mode mode.Run ws stream is = tt
 stored_of_mode mode.Steps ws stream is = is
 
-stream_spelled : (m : Mode) (n : ℕ) (ws : List (List ℕ)) (stream : StreamLine) → stream_of m n ws ≡ Some stream → IsStreamSpelling m n ws stream
-unfolding stream_of name_of
+stream_spelled : (m : Mode) (n : ℕ) (ws : List (List ℕ)) (stream : StreamLine) → parsed_stream m n ws ≡ Some stream → IsStreamSpelling m n ws stream
+unfolding parsed_stream name_of_word
 stream_spelled m n ws stream e =
-    let name = then-gives (next name_of ws) _ stream e in
-    let size = then-gives (next number_of name.0.1) _ stream name.2 in
-    let valid = then-gives (next number_of size.0.1) _ stream size.2 in
-    let quota = then-gives (quota_of valid.0.1) _ stream valid.2 in
+    let name = then-gives (next name_of_word ws) _ stream e in
+    let size = then-gives (next parsed_number name.0.1) _ stream name.2 in
+    let valid = then-gives (next parsed_number size.0.1) _ stream size.2 in
+    let quota = then-gives (parsed_quota valid.0.1) _ stream valid.2 in
     let is_set = (flag (codes "temporary") quota.0.1).0 in
-    let log = then-gives (log_of (flag (codes "temporary") quota.0.1).1) _ stream quota.2 in
+    let log = then-gives (parsed_log (flag (codes "temporary") quota.0.1).1) _ stream quota.2 in
     let end = ended-gives _ _ stream log.2 in
-    let w = next-gives name_of ws name.0.0 name.0.1 name.1 in
-    let s = next-gives number_of name.0.1 size.0.0 size.0.1 size.1 in
-    let v = next-gives number_of size.0.1 valid.0.0 valid.0.1 valid.1 in
+    let w = next-gives name_of_word ws name.0.0 name.0.1 name.1 in
+    let s = next-gives parsed_number name.0.1 size.0.0 size.0.1 size.1 in
+    let v = next-gives parsed_number size.0.1 valid.0.0 valid.0.1 valid.1 in
     let q = quota_spelled valid.0.1 quota.0.0 quota.0.1 quota.1 in
     let named = if-gives (is_name w.word) (Some w.word) name.0.0 w.reads in
     let same_name : w.word ≡ name.0.0 = same_Some w.word name.0.0 named.1 in
     let size_is = decimal-number_of s.word size.0.0 s.reads in
     let valid_is = decimal-number_of v.word valid.0.0 v.reads in
     let l = log_spelled (flag (codes "temporary") quota.0.1).1 log.0.0 log.0.1 log.1 in
-    let behind : List (List ℕ) = flag_words (codes "stored") (stored_of m log.0.1).0 in
+    let behind : List (List ℕ) = flag_words (codes "stored") (parsed_stored m log.0.1).0 in
     let all : (flag (codes "temporary") quota.0.1).1 ≡ l.own ++ behind = l.words ∙ ap (l.own ++◌) (stored_spelled m log.0.1 end.0) in
     let last : quota.0.1 ≡ flag_words (codes "temporary") is_set ++ (l.own ++ behind) = flag_spelled (codes "temporary") quota.0.1 ∙ ap (flag_words (codes "temporary") is_set ++◌) all in
     subst (IsStreamSpelling m n ws) end.1
@@ -256,12 +256,12 @@ stream_spelled m n ws stream e =
       of_mode = stored_of_mode m log.0.1 _ refl;
     })
 
-stream_read : (m : Mode) (n : ℕ) (ws : List (List ℕ)) (stream : StreamLine) → IsStreamSpelling m n ws stream → stream_of m n ws ≡ Some stream
-unfolding stream_of name_of
+stream_read : (m : Mode) (n : ℕ) (ws : List (List ℕ)) (stream : StreamLine) → IsStreamSpelling m n ws stream → parsed_stream m n ws ≡ Some stream
+unfolding parsed_stream name_of_word
 stream_read m n ws stream s =
     let named : is_name stream.name ≡ true = s.name in
-    let size : number_of (decimal stream.size) ≡ Some stream.size = number_of-decimal stream.size s.size in
-    let valid : number_of (decimal stream.valid) ≡ Some stream.valid = number_of-decimal stream.valid s.valid in
+    let size : parsed_number (decimal stream.size) ≡ Some stream.size = number_of-decimal stream.size s.size in
+    let valid : parsed_number (decimal stream.valid) ≡ Some stream.valid = number_of-decimal stream.valid s.valid in
     let behind = flag_words (codes "temporary") stream.temporary ++ (s.log_words ++ flag_words (codes "stored") stream.stored) in
     let quota = quota_read stream.quota s.quota_words behind (no_quota stream.temporary stream.stored stream.log s.log_words s.log) s.quota in
     let temporary = temporary_read stream.temporary stream.stored stream.log s.log_words s.log in
@@ -272,5 +272,5 @@ stream_read m n ws stream s =
     same : (let made : StreamLine = record { line = n; name = stream.name; size = stream.size; valid = stream.valid; quota = stream.quota; temporary = stream.temporary; log = stream.log; stored = stream.stored } in made) ≡ stream
     same = rw (← s.line) refl
 
-pub streams_spell : (m : Mode) (n : ℕ) (ws : List (List ℕ)) (stream : StreamLine) → (stream_of m n ws ≡ Some stream) ↔ IsStreamSpelling m n ws stream
+pub streams_spell : (m : Mode) (n : ℕ) (ws : List (List ℕ)) (stream : StreamLine) → (parsed_stream m n ws ≡ Some stream) ↔ IsStreamSpelling m n ws stream
 streams_spell m n ws stream = (stream_spelled m n ws stream, stream_read m n ws stream)

@@ -7,7 +7,7 @@ use Rattle.std.proofs.lemmas.List.{length-map, map-append}
 use Rattle.std.proofs.lemmas.Bool.Decides.{nat_tests}
 use Rattle.std.proofs.lemmas.Bool.{eqb-true, eqb-false, ne_eqb}
 use Rattle.indexmap.specs.IndexSet.{insert_key}
-use Rattle.cc_script.specs.HoldNames.{word_of, spelled}
+use Rattle.cc_script.specs.HoldNames.{word_of, words_as_bytes}
 
 symmetric : (a b : List ℕ) → bytes_eq a b ≡ bytes_eq b a
 symmetric [] [] = refl
@@ -19,13 +19,13 @@ symmetric (x ∷ a) (y ∷ b) = rw (symmetric a b) (either (x == y) refl)
     either true e = let same : x ≡ y = eqb-true x y e in rw same refl
     either false e = let other : (y == x) ≡ false = ne_eqb y x (λ same. eqb-false x y e (sym same)) in rw (e, other) refl
 
-same-place : {A : Type 0} (word : List ℕ) (words : List (Vec ℕ A)) → position_or_len (λ w. bytes_eq word w.items) words ≡ position_or_len (λ name. bytes_eq name word) (spelled words)
+same-place : {A : Type 0} (word : List ℕ) (words : List (Vec ℕ A)) → position_or_len (λ w. bytes_eq word w.items) words ≡ position_or_len (λ name. bytes_eq name word) (words_as_bytes words)
 same-place word [] = refl
 same-place word (first ∷ words) = rw (symmetric word first.items, same-place word words) refl
 
-pub found : {A : Type 0} (word : List ℕ) (words : List (Vec ℕ A)) → position (λ w. bytes_eq word w.items) words ≡ word_of (spelled words) word
+pub found : {A : Type 0} (word : List ℕ) (words : List (Vec ℕ A)) → position (λ w. bytes_eq word w.items) words ≡ word_of (words_as_bytes words) word
 found word words =
-    let len : length (spelled words) ≡ length words = length-map words (λ w. w.items) in
+    let len : length (words_as_bytes words) ≡ length words = length-map words (λ w. w.items) in
     rw (same-place word words, len) refl
 
 -- a word that is not found is equal to none
@@ -49,7 +49,7 @@ list_any-none p xs none = either (list_any p xs) refl
     either false e = refl
 
 -- and goes last
-pub bound_last : {A : Type 0} (words : List (Vec ℕ A)) (word : Vec ℕ A) → word_of (spelled words) word.items ≡ None → spelled (insert_key (λ x y. bytes_eq x.items y.items) words word) ≡ spelled words ++ word.items ∷ []
+pub bound_last : {A : Type 0} (words : List (Vec ℕ A)) (word : Vec ℕ A) → word_of (words_as_bytes words) word.items ≡ None → words_as_bytes (insert_key (λ x y. bytes_eq x.items y.items) words word) ≡ words_as_bytes words ++ word.items ∷ []
 bound_last words word none =
     let absent : list_any (λ w. bytes_eq word.items w.items) words ≡ false = list_any-none (λ w. bytes_eq word.items w.items) words (ap is_some (found word.items words ∙ none)) in
     rw absent (map-append (λ w. w.items) words (word ∷ []))

@@ -8,7 +8,7 @@ use Rattle.std.proofs.lemmas.Bool.Decides.{nat_tests}
 use Rattle.std.proofs.lemmas.Int.Digits.{first_digits_of}
 use Rattle.std.proofs.lemmas.Str.Parse.{IsNumeralModel, numerals_by_fold, tells_all_ascii_digits}
 use Rattle.std.proofs.lemmas.Fmt.{digits_decimal, digits_value-decimal, decimal-digits_value, decimal_digit, decimal-digits_of}
-use Rattle.cc_script.specs.Words.{number_of, number_onto}
+use Rattle.cc_script.specs.Words.{parsed_number, number_onto}
 
 -- digits read from the left, after the number so far
 abbrev read_on : ℕ → List ℕ → ℕ
@@ -53,8 +53,8 @@ read_digits n (d ∷ ds) p h = either (is_ascii_digit d) refl p (λ q. read_digi
     either false e q more = absurd (cc)
 
 -- a number's word has the decimal text
-pub decimal-number_of : (word : List ℕ) (n : ℕ) → number_of word ≡ Some n → (n < 2 ^ 64) × (word ≡ decimal n)
-unfolding number_of
+pub decimal-number_of : (word : List ℕ) (n : ℕ) → parsed_number word ≡ Some n → (n < 2 ^ 64) × (word ≡ decimal n)
+unfolding parsed_number
 decimal-number_of [] n h = absurd (cc)
 decimal-number_of (d ∷ ds) n h = either (d == 48) (nat_lt 0 (length ds)) refl refl h
   where
@@ -71,8 +71,8 @@ decimal-number_of (d ∷ ds) n h = either (d == 48) (nat_lt 0 (length ds)) refl 
     either false t e f g = read (λ z. absurd (grind (arith, nat_tests))) g
 
 -- digits without a leading zero are a number's word
-number_of-digits : (ds : List ℕ) → 0 < length ds → (get_or ds 0 0 ≡ 48 → length ds ≡ 1) → all_ascii_digits ds ≡ true → read_on 0 ds < 2 ^ 64 → number_of ds ≡ Some (read_on 0 ds)
-unfolding number_of
+number_of-digits : (ds : List ℕ) → 0 < length ds → (get_or ds 0 0 ≡ 48 → length ds ≡ 1) → all_ascii_digits ds ≡ true → read_on 0 ds < 2 ^ 64 → parsed_number ds ≡ Some (read_on 0 ds)
+unfolding parsed_number
 number_of-digits [] l lead p h = absurd (omega arith)
 number_of-digits (d ∷ ds) l lead p h = either (d == 48) refl
   where
@@ -84,14 +84,14 @@ number_of-digits (d ∷ ds) l lead p h = either (d == 48) refl
         simp t (read_digits 0 (d ∷ ds) p h)
     either false e = read_digits 0 (d ∷ ds) p h
 
-pub number_of-decimal : (n : ℕ) → n < 2 ^ 64 → number_of (decimal n) ≡ Some n
+pub number_of-decimal : (n : ℕ) → n < 2 ^ 64 → parsed_number (decimal n) ≡ Some n
 number_of-decimal zero h = rw (decimal_digit 0 (lit< tt)) (number_of-digits (48 ∷ []) (lit< tt) (λ _. refl) refl (lit< tt))
 number_of-decimal (suc k) h =
     let text : decimal (suc k) ≡ map (λ d. 48 + d) (digits_of 10 (suc k)) = decimal-digits_of (suc k) (omega arith) h in
     let first : 0 < get_or (digits_of 10 (suc k)) 0 0 = first_digits_of 10 (suc k) (lit≤ tt) (omega arith) in
     let lead = glyph_leads (digits_of 10 (suc k)) first in
     let value : read_on 0 (decimal (suc k)) ≡ suc k = digits_value-decimal own (suc k) h in
-    let read : number_of (decimal (suc k)) ≡ Some (read_on 0 (decimal (suc k))) =
+    let read : parsed_number (decimal (suc k)) ≡ Some (read_on 0 (decimal (suc k))) =
     number_of-digits (decimal (suc k)) (rw text lead.0) (λ z. absurd (lead.1 (ap (λ (t : List ℕ). get_or t 0 0) (sym text) ∙ z))) (digits_decimal own (suc k) h) (omega (arith, value)) in
     read ∙ ap Some value
   where

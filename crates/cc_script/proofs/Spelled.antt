@@ -9,14 +9,14 @@ use Rattle.std.proofs.lemmas.List.Splits.{join_with_byte-slice_split}
 use Rattle.std.proofs.lemmas.Slice.Eq.{bytes_eq-Decides}
 use Rattle.std.proofs.lemmas.Bool.Decides.{nat_tests}
 use Rattle.cc_script.specs.Text.{parts}
-use Rattle.cc_script.specs.Words.{number_of, number_between, hex_digit_of, pair_of, with_bytes, pair_onto, pairs_onto, run_onto, item_onto, items_onto, bytes_of}
-use Rattle.cc_script.specs.Laws.{Item, Pairs, Times, pair_text, item_text, item_bytes, items_bytes, IsItem, AreItems, IsSpelling, Spells}
+use Rattle.cc_script.specs.Words.{parsed_number, number_between, parsed_hex_digit, parsed_pair, with_bytes, pair_onto, pairs_onto, run_onto, item_onto, items_onto, parsed_bytes}
+use Rattle.cc_script.specs.Laws.{Item, Pairs, Times, pair_text, item_text, item_bytes, items_bytes, IsItem, AreItems, IsSpelling, SpellsBytes}
 use Rattle.cc_script.proofs.Numbers.{decimal-number_of}
 use Rattle.cc_script.proofs.Parts.{some_part}
 use Rattle.cc_script.proofs.Items.{items_spell}
 
 -- what is read as a digit is its glyph
-glyph_of : (c d : ℕ) → hex_digit_of c ≡ Some d → (c ≡ digit_glyph true d) × (d < 16)
+glyph_of : (c d : ℕ) → parsed_hex_digit c ≡ Some d → (c ≡ digit_glyph true d) × (d < 16)
 glyph_of c d h = either (is_ascii_digit c) refl h
   where
     letter : (s t : Bool) → nat_le 65 c ≡ s → nat_le c 70 ≡ t → (if s && t then Some (c - 55) else None) ≡ Some d → (c ≡ digit_glyph true d) × (d < 16)
@@ -41,11 +41,11 @@ glyph_of c d h = either (is_ascii_digit c) refl h
     either false e g = letter (nat_le 65 c) (nat_le c 70) refl refl g
 
 -- what is read as a pair is its text
-pair_of_text : (a b v : ℕ) → pair_of a b ≡ Some v → (a ∷ b ∷ [] ≡ pair_text v) × (v < 256)
-unfolding pair_of
-pair_of_text a b v h = either (hex_digit_of a) (hex_digit_of b) refl refl h
+pair_of_text : (a b v : ℕ) → parsed_pair a b ≡ Some v → (a ∷ b ∷ [] ≡ pair_text v) × (v < 256)
+unfolding parsed_pair
+pair_of_text a b v h = either (parsed_hex_digit a) (parsed_hex_digit b) refl refl h
   where
-    either : (s t : Option ℕ) → hex_digit_of a ≡ s → hex_digit_of b ≡ t → option_and_then (λ high. option_and_then (λ low. Some (16 * high + low)) t) s ≡ Some v → (a ∷ b ∷ [] ≡ pair_text v) × (v < 256)
+    either : (s t : Option ℕ) → parsed_hex_digit a ≡ s → parsed_hex_digit b ≡ t → option_and_then (λ high. option_and_then (λ low. Some (16 * high + low)) t) s ≡ Some v → (a ∷ b ∷ [] ≡ pair_text v) × (v < 256)
     either (Some m) (Some n) e f g =
         let p = glyph_of a m e in
         let q = glyph_of b n f in
@@ -71,9 +71,9 @@ with_added before byte count after h = either (nat_le (length before + count) 20
 
 pair_added : (before : List ℕ) (a b : ℕ) (after : List ℕ) → pair_onto before a b ≡ Some after → (v : ℕ) × (a ∷ b ∷ [] ≡ pair_text v) × (v < 256) × (before ++ v ∷ [] ≡ after) × (length after ≤ 2097152)
 unfolding pair_onto
-pair_added before a b after h = either (pair_of a b) refl h
+pair_added before a b after h = either (parsed_pair a b) refl h
   where
-    either : (o : Option ℕ) → pair_of a b ≡ o → option_and_then (λ byte. with_bytes before byte 1) o ≡ Some after → (v : ℕ) × (a ∷ b ∷ [] ≡ pair_text v) × (v < 256) × (before ++ v ∷ [] ≡ after) × (length after ≤ 2097152)
+    either : (o : Option ℕ) → parsed_pair a b ≡ o → option_and_then (λ byte. with_bytes before byte 1) o ≡ Some after → (v : ℕ) × (a ∷ b ∷ [] ≡ pair_text v) × (v < 256) × (before ++ v ∷ [] ≡ after) × (length after ≤ 2097152)
     either (Some v) e g =
         let p = pair_of_text a b v e in
         let w = with_added before v 1 after g in
@@ -121,9 +121,9 @@ record ItemRead (before text after : List ℕ) : Type 0 where
 
 run_added : (before : List ℕ) (a b : ℕ) (number after : List ℕ) → run_onto before a b number ≡ Some after → ItemRead before (a ∷ b ∷ 120 ∷ number) after
 unfolding run_onto number_between
-run_added before a b number after h = either (pair_of a b) (number_of number) refl refl h
+run_added before a b number after h = either (parsed_pair a b) (parsed_number number) refl refl h
   where
-    counted : (v n : ℕ) (s t : Bool) → pair_of a b ≡ Some v → number_of number ≡ Some n → nat_le 1 n ≡ s → nat_le n 2097152 ≡ t → option_and_then (λ count. with_bytes before v count) (if s && t then Some n else None) ≡ Some after → ItemRead before (a ∷ b ∷ 120 ∷ number) after
+    counted : (v n : ℕ) (s t : Bool) → parsed_pair a b ≡ Some v → parsed_number number ≡ Some n → nat_le 1 n ≡ s → nat_le n 2097152 ≡ t → option_and_then (λ count. with_bytes before v count) (if s && t then Some n else None) ≡ Some after → ItemRead before (a ∷ b ∷ 120 ∷ number) after
     counted v n true true e f k l g =
         let p = pair_of_text a b v e in
         let d = decimal-number_of number n f in
@@ -134,7 +134,7 @@ run_added before a b number after h = either (pair_of a b) (number_of number) re
     counted v n true false e f k l g = absurd (cc)
     counted v n false t e f k l g = absurd (cc)
 
-    either : (o q : Option ℕ) → pair_of a b ≡ o → number_of number ≡ q → option_and_then (λ byte. option_and_then (λ count. with_bytes before byte count) (option_and_then (λ n. if nat_le 1 n && nat_le n 2097152 then Some n else None) q)) o ≡ Some after → ItemRead before (a ∷ b ∷ 120 ∷ number) after
+    either : (o q : Option ℕ) → parsed_pair a b ≡ o → parsed_number number ≡ q → option_and_then (λ byte. option_and_then (λ count. with_bytes before byte count) (option_and_then (λ n. if nat_le 1 n && nat_le n 2097152 then Some n else None) q)) o ≡ Some after → ItemRead before (a ∷ b ∷ 120 ∷ number) after
     either (Some v) (Some n) e f g = counted v n (nat_le 1 n) (nat_le n 2097152) e f refl refl g
     either (Some v) None e f g = absurd (cc)
     either None q e f g = absurd (cc)
@@ -202,27 +202,27 @@ spelling word bytes h =
     some (i ∷ items) front more e = omega arith
 
 -- what is read is spelled
-read_spells : (word bytes : List ℕ) → bytes_of word ≡ Some bytes → Spells word bytes
-unfolding bytes_of
+read_spells : (word bytes : List ℕ) → parsed_bytes word ≡ Some bytes → SpellsBytes word bytes
+unfolding parsed_bytes
 read_spells word bytes h = either (bytes_eq word (codes "-")) refl h
   where
-    either : (t : Bool) → bytes_eq word (codes "-") ≡ t → (if t then Some [] else items_onto [] (parts 44 word)) ≡ Some bytes → Spells word bytes
+    either : (t : Bool) → bytes_eq word (codes "-") ≡ t → (if t then Some [] else items_onto [] (parts 44 word)) ≡ Some bytes → SpellsBytes word bytes
     either true e g =
         let dash : word ≡ codes "-" = (bytes_eq-Decides word (codes "-")).0 e in
         let none : [] ≡ bytes = cc in
         inl (dash, sym none)
     either false e g = inr (spelling word bytes g)
 
-dash_read : bytes_of (codes "-") ≡ Some []
-unfolding bytes_of
+dash_read : parsed_bytes (codes "-") ≡ Some []
+unfolding parsed_bytes
 dash_read = refl
 
 -- what is spelled is read
-spells_read : (word bytes : List ℕ) → Spells word bytes → bytes_of word ≡ Some bytes
+spells_read : (word bytes : List ℕ) → SpellsBytes word bytes → parsed_bytes word ≡ Some bytes
 spells_read word bytes (inl s) = rw (s.0, s.1) dash_read
 spells_read word bytes (inr s) =
     let i = s.1 in
     rw (← i.text, ← i.gives) (items_spell s.0 i.some i.are_items (rw i.gives i.most))
 
-pub words_spell : (word bytes : List ℕ) → (bytes_of word ≡ Some bytes) ↔ Spells word bytes
+pub words_spell : (word bytes : List ℕ) → (parsed_bytes word ≡ Some bytes) ↔ SpellsBytes word bytes
 words_spell word bytes = (read_spells word bytes, spells_read word bytes)

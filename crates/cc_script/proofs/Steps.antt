@@ -10,9 +10,9 @@ use Rattle.cc_script.specs.declared.verb.Verb.{Verb}
 use Rattle.cc_script.specs.Outcome.{◌>>=◌}
 use Rattle.cc_script.specs.Modes.{stands, verb_modes}
 use Rattle.cc_script.specs.Verbs.{verb_of, verb_in}
-use Rattle.cc_script.specs.Words.{number_of, number_between, is_name, name_of, bytes_of, caller_of}
-use Rattle.cc_script.specs.Laws.{Spells}
-use Rattle.cc_script.specs.Actions.{next, ended, stream_named, object_named, file_at, file_of}
+use Rattle.cc_script.specs.Words.{parsed_number, number_between, is_name, name_of_word, parsed_bytes, parsed_caller}
+use Rattle.cc_script.specs.Laws.{SpellsBytes}
+use Rattle.cc_script.specs.Actions.{next, ended, stream_named, object_named, file_at, parsed_file}
 use Rattle.cc_script.specs.Within.{IsFileWithin}
 use Rattle.cc_script.proofs.Spelled.{words_spell}
 
@@ -61,14 +61,14 @@ ended-gives (word ∷ more) a b e = either (length (word ∷ more) == 0) refl e
 
 -- a number of a range
 pub record IsBetween (low high : ℕ) (word : List ℕ) (n : ℕ) : Type 0 where
-  pub number : number_of word ≡ Some n
+  pub number : parsed_number word ≡ Some n
   pub least : low ≤ n
   pub most : n ≤ high
 
 pub between-gives : (low high : ℕ) (word : List ℕ) (n : ℕ) → number_between low high word ≡ Some n → IsBetween low high word n
 unfolding number_between
 between-gives low high word n e =
-    let m = then-gives (number_of word) (λ m. if nat_le low m && nat_le m high then Some m else None) n e in
+    let m = then-gives (parsed_number word) (λ m. if nat_le low m && nat_le m high then Some m else None) n e in
     let t = if-gives (nat_le low m.0 && nat_le m.0 high) (Some m.0) n m.2 in
     let same : m.0 ≡ n = cc in
     let tests = both (nat_le low m.0) (nat_le m.0 high) t.0 in
@@ -86,13 +86,13 @@ verb-gives m word v e =
     subst (λ (v : Verb). stands (verb_modes v) m ≡ true) same t.0
 
 -- a name is the word that it is read from
-pub name_gives : (word name : List ℕ) → name_of word ≡ Some name → name ≡ word
-unfolding name_of
+pub name_gives : (word name : List ℕ) → name_of_word word ≡ Some name → name ≡ word
+unfolding name_of_word
 name_gives word name e = let t = if-gives (is_name word) (Some word) name e in cc
 
 -- a caller is one of 16
-pub caller-gives : (word : List ℕ) (n : ℕ) → caller_of word ≡ Some n → (1 ≤ n) × (n ≤ 16)
-unfolding caller_of
+pub caller-gives : (word : List ℕ) (n : ℕ) → parsed_caller word ≡ Some n → (1 ≤ n) × (n ≤ 16)
+unfolding parsed_caller
 caller-gives [] n e = absurd (cc)
 caller-gives (c ∷ number) n e =
     let b = between-gives 1 16 number n (if-gives (c == 116) (number_between 1 16 number) n e).1 in (b.least, b.most)
@@ -130,14 +130,14 @@ at-gives streams word (Some colon) file e =
     object-gives streams (take colon word) number.0 file (omega (arith, most)) number.2
 
 -- so a file that is read is within
-pub file-gives : (streams : List StreamLine) (word : List ℕ) (file : File) → file_of streams word ≡ Some file → IsFileWithin streams file
-unfolding file_of
+pub file-gives : (streams : List StreamLine) (word : List ℕ) (file : File) → parsed_file streams word ≡ Some file → IsFileWithin streams file
+unfolding parsed_file
 file-gives streams word file e = at-gives streams word (position (λ b. b == 58) word) file e
 
 -- a word spells no more bytes than one may
-pub bytes-give : (word bytes : List ℕ) → bytes_of word ≡ Some bytes → length bytes ≤ 2097152
+pub bytes-give : (word bytes : List ℕ) → parsed_bytes word ≡ Some bytes → length bytes ≤ 2097152
 bytes-give word bytes e = most ((words_spell word bytes).0 e)
   where
-    most : Spells word bytes → length bytes ≤ 2097152
+    most : SpellsBytes word bytes → length bytes ≤ 2097152
     most (inl none) = rw none.1 (omega arith)
     most (inr items) = items.1.most

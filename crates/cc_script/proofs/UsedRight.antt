@@ -9,7 +9,7 @@ use Rattle.cc_script.specs.declared.bound.Need.TheVariants as need
 use Rattle.cc_script.specs.declared.script.Action.{Action}
 use Rattle.cc_script.specs.declared.script.Action.TheVariants as action
 use Rattle.cc_script.specs.declared.script.ActionLine.{ActionLine}
-use Rattle.cc_script.specs.HoldWords.{meets, covers, is_open, has_range, may_use, changed, as_pin, as_ended, repinned, bound_after, Uses, UsesBytes, UsesRight, bound_if, IsRightIf, bound_so_far, AreUsedRight, binds, words_bound}
+use Rattle.cc_script.specs.HoldWords.{meets, bound_covers, is_usable_word, bound_has_range, may_use, with_hold_changed, as_pin, as_ended, bound_repinned, bound_after, UsesHold, UsesBytes, UsesRight, bound_if, IsRightIf, bound_so_far, AreUsedRight, binds, words_bound}
 use Rattle.cc_script.proofs.Steps.{both}
 use Rattle.cc_script.proofs.Plain.{IsNumbered}
 
@@ -17,22 +17,22 @@ pub no_no : (t : Bool) → not t ≡ true → t ≡ false
 no_no true e = absurd (cc)
 no_no false e = refl
 
-uses : (n : Need) (bounds : List Bound) (word : ℕ) → is_open n (slice_get bounds word) ≡ true → Uses n bounds word
+uses : (n : Need) (bounds : List Bound) (word : ℕ) → is_usable_word n (slice_get bounds word) ≡ true → UsesHold n bounds word
 uses n bounds word e = either (slice_get bounds word) refl e
   where
-    either : (o : Option Bound) → slice_get bounds word ≡ o → is_open n o ≡ true → Uses n bounds word
+    either : (o : Option Bound) → slice_get bounds word ≡ o → is_usable_word n o ≡ true → UsesHold n bounds word
     either None f g = absurd (cc)
     either (Some b) f g =
         let tests = both (not b.ended) (meets n b.kind) g in
         record { bound = b; named = f; still = no_no b.ended tests.0; serves = tests.1 }
 
-uses-bytes : (n : Need) (bounds : List Bound) (word at len : ℕ) → has_range n at len (slice_get bounds word) ≡ true → UsesBytes n bounds word at len
+uses-bytes : (n : Need) (bounds : List Bound) (word at len : ℕ) → bound_has_range n at len (slice_get bounds word) ≡ true → UsesBytes n bounds word at len
 uses-bytes n bounds word at len e = either (slice_get bounds word) refl e
   where
-    either : (o : Option Bound) → slice_get bounds word ≡ o → has_range n at len o ≡ true → UsesBytes n bounds word at len
+    either : (o : Option Bound) → slice_get bounds word ≡ o → bound_has_range n at len o ≡ true → UsesBytes n bounds word at len
     either None f g = absurd (cc)
     either (Some b) f g =
-        let tests = both (is_open n (Some b)) (covers at len b) g in
+        let tests = both (is_usable_word n (Some b)) (bound_covers at len b) g in
         let opens = both (not b.ended) (meets n b.kind) tests.0 in
         let ends = both (nat_le b.at at) (nat_le (at + len) (b.at + b.len)) tests.1 in
         record {
@@ -62,11 +62,11 @@ used-right (action.MdlBytes word at len) bounds new is may = uses-bytes need.Rea
 used-right (action.MdlStore word at bytes) bounds new is may = uses-bytes need.WriteChain bounds word at (length bytes) may
 used-right other bounds new is may = tt
 
-changed-length : (change : Bound → Bound) (o : Option Bound) (bounds : List Bound) (word : ℕ) → length (changed change o bounds word) ≡ length bounds
+changed-length : (change : Bound → Bound) (o : Option Bound) (bounds : List Bound) (word : ℕ) → length (with_hold_changed change o bounds word) ≡ length bounds
 changed-length change None bounds word = refl
 changed-length change (Some b) bounds word = length-set bounds word (change b)
 
-repinned-length : (n : Need) (bounds : List Bound) (word : ℕ) → Uses n bounds word → length (repinned (slice_get bounds word)) ≡ 1
+repinned-length : (n : Need) (bounds : List Bound) (word : ℕ) → UsesHold n bounds word → length (bound_repinned (slice_get bounds word)) ≡ 1
 repinned-length n bounds word is = rw is.named refl
 
 pushed-length : (bounds : List Bound) (b : Bound) → length (bounds ++ b ∷ []) ≡ suc (length bounds)
@@ -86,7 +86,7 @@ after-length (action.MdlDone word) bounds is = changed-length as_ended (slice_ge
 after-length (action.MdlAbort word) bounds is = changed-length as_ended (slice_get bounds word) bounds word
 after-length (action.Repin word made) bounds is =
     let one = repinned-length need.Pin bounds word is.0 in
-    let len : length (bounds ++ repinned (slice_get bounds word)) ≡ length bounds + length (repinned (slice_get bounds word)) = length-append bounds (repinned (slice_get bounds word)) in
+    let len : length (bounds ++ bound_repinned (slice_get bounds word)) ≡ length bounds + length (bound_repinned (slice_get bounds word)) = length-append bounds (bound_repinned (slice_get bounds word)) in
     omega (arith, len, one)
 after-length other bounds is = refl
 

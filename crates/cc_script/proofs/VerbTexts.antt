@@ -2,7 +2,7 @@
 use Rattle.std.proofs.Common.{◌≡◌, Some, None, refl, ap, sym, ◌∙◌}
 use Rattle.cc_script.specs.declared.verb.Verb.{Verb}
 use Rattle.cc_script.specs.declared.verb.Verb.TheVariants as verb
-use Rattle.cc_script.specs.Words.{caller_of, number_between, number_of}
+use Rattle.cc_script.specs.Words.{parsed_caller, number_between, parsed_number}
 use Rattle.cc_script.specs.Verbs.{verb_text, verb_of}
 
 pub verbs_found : (v : Verb) → verb_of (verb_text v) ≡ Some v
@@ -79,8 +79,8 @@ pub verbs_differ : (v w : Verb) → verb_text v ≡ verb_text w → v ≡ w
 verbs_differ v w e =
     let same : Some v ≡ Some w = sym (verbs_found v) ∙ (ap verb_of e ∙ verbs_found w) in cc
 
-pub verbs_no_callers : (v : Verb) → caller_of (verb_text v) ≡ None
-unfolding caller_of number_between number_of
+pub verbs_no_callers : (v : Verb) → parsed_caller (verb_text v) ≡ None
+unfolding parsed_caller number_between parsed_number
 verbs_no_callers verb.Stream = refl
 verbs_no_callers verb.Journal = refl
 verbs_no_callers verb.Threshold = refl

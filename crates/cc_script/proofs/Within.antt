@@ -19,27 +19,27 @@ use Rattle.cc_script.specs.declared.reading.Reading.{Reading}
 use Rattle.cc_script.specs.declared.reading.Workers.{Workers}
 use Rattle.cc_script.specs.declared.phase_lines.PhaseLines.{PhaseLines}
 use Rattle.cc_script.specs.Text.{lines, words}
-use Rattle.cc_script.specs.Words.{number_of, number_between, name_of, caller_of}
+use Rattle.cc_script.specs.Words.{parsed_number, number_between, name_of_word, parsed_caller}
 use Rattle.cc_script.specs.Modes.{RunAlone, StepsAlone, stands, verb_modes, is_call, IsLineOf, HasPhases, HasRestarts, IsOfMode, IsStreamOf}
 use Rattle.cc_script.specs.Verbs.{takes_caller, verb_in}
 use Rattle.cc_script.specs.declared.bound.Bound.{Bound}
 use Rattle.cc_script.specs.declared.caller_words.CallerWords.{CallerWords}
-use Rattle.cc_script.specs.Actions.{next, flag, quota_of}
+use Rattle.cc_script.specs.Actions.{next, flag, parsed_quota}
 use Rattle.cc_script.specs.ActionTable.{action_of, bytes_counted, dirty_lines}
 use Rattle.cc_script.specs.HoldWords.{may_use, bound_after, IsRightIf, bound_so_far, UsesRight}
 use Rattle.cc_script.specs.Checkpoints.{is_checkpoint, no_lines_yet, is_other, phase_with, is_kept_apart, StandApart, CheckpointsStandApart}
-use Rattle.cc_script.specs.Grammar.{nothing_read, may_add, with_stream, log_of, stored_of, stream_of, setting_of, with_journal, with_threshold, workers_of, with_workers, restart_of, has_restart, with_restart, with_phase, placed, no_words, words_by, keeps_totals, keeps_apart, with_action, action_line, caller_line, verb_line, called_line, uncalled_line, line_by, words_line, is_printable, text_line, line_of, or_wrong, lines_of, script_of}
+use Rattle.cc_script.specs.Grammar.{nothing_read, may_add, with_stream_line, parsed_log, parsed_stored, parsed_stream, parsed_setting, with_journal_line, with_threshold, parsed_workers, with_workers, parsed_restart, has_restart, with_restart, with_phase, placed_line, no_words, words_by, keeps_totals, keeps_apart, with_action, action_line, caller_line, verb_line, called_line, uncalled_line, line_by, words_line, is_printable, text_line, line_of, or_wrong, lines_of, script_of}
 use Rattle.cc_script.specs.declared.script.ScriptFault.{ScriptFault}
-use Rattle.cc_script.specs.Answers.{Reads}
-use Rattle.cc_script.specs.Within.{IsStreamWithin, IsLineWithin, PhasesAscend, AreRestartsWithin, IsWithin}
+use Rattle.cc_script.specs.Answers.{ReadsScript}
+use Rattle.cc_script.specs.Within.{IsStreamWithin, IsLineWithin, PhasesAscend, AreRestartsWithin, ScriptIsWithin}
 use Rattle.cc_script.proofs.Steps.{then-gives, if-gives, both, next-gives, ended-gives, between-gives, verb-gives, caller-gives}
 use Rattle.cc_script.proofs.Plain.{IsNumbered}
 use Rattle.cc_script.proofs.ActionsRead.{action-gives}
 use Rattle.cc_script.proofs.UsedRight.{no_no, used-right, after-length, numbered-length, so_far-onto, right-onto}
 
 -- a quota is in its range
-quota-gives : (ws : List (List ℕ)) (q : ℕ) (more : List (List ℕ)) → quota_of ws ≡ Some (q, more) → (8 ≤ q) × (q ≤ 64)
-unfolding quota_of
+quota-gives : (ws : List (List ℕ)) (q : ℕ) (more : List (List ℕ)) → parsed_quota ws ≡ Some (q, more) → (8 ≤ q) × (q ≤ 64)
+unfolding parsed_quota
 quota-gives ws q more e = either (flag (codes "quota") ws).0 e
   where
     either : (t : Bool) → (if t then next (number_between 8 64) (flag (codes "quota") ws).1 else Some (16, ws)) ≡ Some (q, more) → (8 ≤ q) × (q ≤ 64)
@@ -51,8 +51,8 @@ quota-gives ws q more e = either (flag (codes "quota") ws).0 e
         let same : 16 ≡ q = ap (λ (it : ℕ × List (List ℕ)). it.0) pair in (omega (arith, same), omega (arith, same))
 
 -- and a log one of four
-log-gives : (ws : List (List ℕ)) (log : Option ℕ) (more : List (List ℕ)) → log_of ws ≡ Some (log, more) → IfSome log (λ handle. handle < 4)
-unfolding log_of
+log-gives : (ws : List (List ℕ)) (log : Option ℕ) (more : List (List ℕ)) → parsed_log ws ≡ Some (log, more) → IfSome log (λ handle. handle < 4)
+unfolding parsed_log
 log-gives ws log more e = either (flag (codes "log") ws).0 e
   where
     found : (o : Option (ℕ × List (List ℕ))) → next (number_between 0 3) (flag (codes "log") ws).1 ≡ o → option_map (λ (it : ℕ × List (List ℕ)). (let pair : Option ℕ × List (List ℕ) = (Some it.0, it.1) in pair)) o ≡ Some (log, more) → IfSome log (λ handle. handle < 4)
@@ -73,27 +73,27 @@ log-gives ws log more e = either (flag (codes "log") ws).0 e
         subst (λ (log : Option ℕ). IfSome log (λ handle. handle < 4)) same tt
 
 -- in steps no stream is stored
-stored-gives : (m : Mode) (ws : List (List ℕ)) (stream : StreamLine) → stream.stored ≡ (stored_of m ws).0 → IsStreamOf m stream
-unfolding stored_of
+stored-gives : (m : Mode) (ws : List (List ℕ)) (stream : StreamLine) → stream.stored ≡ (parsed_stored m ws).0 → IsStreamOf m stream
+unfolding parsed_stored
 stored-gives mode.Run ws stream is = tt
 stored-gives mode.Steps ws stream is = is
 
-stream-gives : (m : Mode) (n : ℕ) (ws : List (List ℕ)) (stream : StreamLine) → stream_of m n ws ≡ Some stream → IsStreamWithin stream × IsStreamOf m stream
-unfolding stream_of
+stream-gives : (m : Mode) (n : ℕ) (ws : List (List ℕ)) (stream : StreamLine) → parsed_stream m n ws ≡ Some stream → IsStreamWithin stream × IsStreamOf m stream
+unfolding parsed_stream
 stream-gives m n ws stream e =
-    let name = then-gives (next name_of ws) _ stream e in
-    let size = then-gives (next number_of name.0.1) _ stream name.2 in
-    let valid = then-gives (next number_of size.0.1) _ stream size.2 in
-    let quota = then-gives (quota_of valid.0.1) _ stream valid.2 in
-    let log = then-gives (log_of (flag (codes "temporary") quota.0.1).1) _ stream quota.2 in
+    let name = then-gives (next name_of_word ws) _ stream e in
+    let size = then-gives (next parsed_number name.0.1) _ stream name.2 in
+    let valid = then-gives (next parsed_number size.0.1) _ stream size.2 in
+    let quota = then-gives (parsed_quota valid.0.1) _ stream valid.2 in
+    let log = then-gives (parsed_log (flag (codes "temporary") quota.0.1).1) _ stream quota.2 in
     let end = ended-gives _ _ stream log.2 in
     let q = quota-gives valid.0.1 quota.0.0 quota.0.1 quota.1 in
     let l = log-gives (flag (codes "temporary") quota.0.1).1 log.0.0 log.0.1 log.1 in
     subst (λ (stream : StreamLine). IsStreamWithin stream × IsStreamOf m stream) end.1 (record { least_quota = q.0; most_quota = q.1; log = l }, stored-gives m log.0.1 _ refl)
 
 -- a number that is set is in its range
-setting-gives : (low high : ℕ) (ws : List (List ℕ)) (n : ℕ) → setting_of low high ws ≡ Some n → (low ≤ n) × (n ≤ high)
-unfolding setting_of
+setting-gives : (low high : ℕ) (ws : List (List ℕ)) (n : ℕ) → parsed_setting low high ws ≡ Some n → (low ≤ n) × (n ≤ high)
+unfolding parsed_setting
 setting-gives low high ws n e =
     let found = then-gives (next (number_between low high) ws) _ n e in
     let end = ended-gives _ _ n found.2 in
@@ -102,8 +102,8 @@ setting-gives low high ws n e =
     (omega (arith, end.1, b.least), omega (arith, end.1, b.most))
 
 -- so are the ticks, and the steps of read-ahead
-workers-gives : (ws : List (List ℕ)) (set : Workers) → workers_of ws ≡ Some set → (set.ticks ≤ 1000) × (set.aheads ≤ 1000)
-unfolding workers_of
+workers-gives : (ws : List (List ℕ)) (set : Workers) → parsed_workers ws ≡ Some set → (set.ticks ≤ 1000) × (set.aheads ≤ 1000)
+unfolding parsed_workers
 workers-gives ws set e =
     let ticks = then-gives (next (number_between 0 1000) ws) _ set e in
     let aheads = then-gives (next (number_between 0 1000) ticks.0.1) _ set ticks.2 in
@@ -242,7 +242,7 @@ fails-call false call e f = absurd (cc)
 
 -- The script so far keeps within that and is of its mode, has no more lines than were read, and its words are kept.
 record IsSoFar (m : Mode) (n : ℕ) (r : Reading) : Type 0 where
-  within : IsWithin r.script
+  within : ScriptIsWithin r.script
   streams : AllByRecursion (IsStreamOf m) r.script.streams
   lines : AllByRecursion (IsLineOf m) r.script.lines
   phases : HasPhases m r.script.phases
@@ -298,8 +298,8 @@ later m n r is = record { within = is.within; streams = is.streams; lines = is.l
 no_lines : (xs : List ActionLine) → (length xs == 0) ≡ true → xs ≡ []
 no_lines xs e = let z : length xs ≡ 0 = grind (arith, nat_tests, e) in nil_from_length xs z
 
-stream-so_far : (m : Mode) (n : ℕ) (stream : StreamLine) (r new : Reading) → IsStreamWithin stream × IsStreamOf m stream → IsSoFar m n r → with_stream stream r ≡ Some new → IsSoFar m n new
-unfolding with_stream may_add
+stream-so_far : (m : Mode) (n : ℕ) (stream : StreamLine) (r new : Reading) → IsStreamWithin stream × IsStreamOf m stream → IsSoFar m n r → with_stream_line stream r ≡ Some new → IsSoFar m n new
+unfolding with_stream_line may_add
 stream-so_far m n stream r new one is e =
     let t = if-gives (may_add stream r) _ new e in
     let none = both (length r.script.lines == 0) _ t.0 in
@@ -341,8 +341,8 @@ stream-so_far m n stream r new one is e =
       in_phase = is.in_phase;
     })
 
-journal-so_far : (m : Mode) (n capacity : ℕ) (r new : Reading) → (64 ≤ capacity) × (capacity ≤ 1048576) → IsSoFar m n r → with_journal capacity r ≡ Some new → IsSoFar m n new
-unfolding with_journal
+journal-so_far : (m : Mode) (n capacity : ℕ) (r new : Reading) → (64 ≤ capacity) × (capacity ≤ 1048576) → IsSoFar m n r → with_journal_line capacity r ≡ Some new → IsSoFar m n new
+unfolding with_journal_line
 journal-so_far m n capacity r new range is e =
     let w = is.within in
     let made : Reading = record r { script = record r.script { journal = capacity }; has_journal = true } in
@@ -459,8 +459,8 @@ workers-so_far m n set r new range is e =
     })
 
 -- the log of a restart is one of four
-restart-gives : (n : ℕ) (ws : List (List ℕ)) (restart : RestartLine) → restart_of n ws ≡ Some restart → restart.handle < 4
-unfolding restart_of
+restart-gives : (n : ℕ) (ws : List (List ℕ)) (restart : RestartLine) → parsed_restart n ws ≡ Some restart → restart.handle < 4
+unfolding parsed_restart
 restart-gives n ws restart e =
     let found = then-gives (next (number_between 0 3) ws) _ restart e in
     let end = ended-gives _ _ restart found.2 in
@@ -619,7 +619,7 @@ action-so_far m n line caller fails v ws r new room range may_fail in_mode is e 
     let w = is.within in
     let few = is.few in
     let k = is.kept caller range.1 in
-    let last : ActionLine = placed line caller fails a r in
+    let last : ActionLine = placed_line line caller fails a r in
     let len : length (r.script.lines ++ last ∷ []) ≡ length r.script.lines + 1 = length-append r.script.lines (last ∷ []) in
     let numbered : IsNumbered a (length own.bounds) (length found.0.1) = subst (λ (old : ℕ). IsNumbered a old (length found.0.1)) k.names read.numbered in
     let right : UsesRight own.bounds a = used-right a own.bounds (length found.0.1) numbered may.0 in
@@ -688,25 +688,25 @@ caller-so_far m n line caller v ws r new room range in_mode is e =
 verb-so_far : (m : Mode) (n line : ℕ) (v : Verb) (ws : List (List ℕ)) (r new : Reading) → n < 65536 → stands (verb_modes v) m ≡ true → IsSoFar m n r → verb_line m line v ws r ≡ Some new → IsSoFar m (n + 1) new
 unfolding verb_line
 verb-so_far m n line verb.Stream ws r new room in_mode is e =
-    let found = then-gives (stream_of m line ws) _ new e in
+    let found = then-gives (parsed_stream m line ws) _ new e in
     later m n new (stream-so_far m n found.0 r new (stream-gives m line ws found.0 found.1) is found.2)
 verb-so_far m n line verb.Journal ws r new room in_mode is e =
-    let found = then-gives (setting_of 64 1048576 ws) _ new e in
+    let found = then-gives (parsed_setting 64 1048576 ws) _ new e in
     later m n new (journal-so_far m n found.0 r new (setting-gives 64 1048576 ws found.0 found.1) is found.2)
 verb-so_far m n line verb.Threshold ws r new room in_mode is e =
-    let found = then-gives (setting_of 1 16384 ws) _ new e in
+    let found = then-gives (parsed_setting 1 16384 ws) _ new e in
     later m n new (threshold-so_far m n found.0 r new (setting-gives 1 16384 ws found.0 found.1) is found.2)
 verb-so_far m n line verb.Workers ws r new room in_mode is e =
-    let found = then-gives (workers_of ws) _ new e in
+    let found = then-gives (parsed_workers ws) _ new e in
     later m n new (workers-so_far m n found.0 r new (workers-gives ws found.0 found.1) is found.2)
 verb-so_far m n line verb.Restart ws r new room in_mode is e =
-    let found = then-gives (restart_of line ws) _ new e in
+    let found = then-gives (parsed_restart line ws) _ new e in
     later m n new (restart-so_far m n found.0 r new in_mode (restart-gives line ws found.0 found.1) is found.2)
 verb-so_far m n line verb.Phase ws r new room in_mode is e = later m n new (phase-so_far m n ws r new in_mode is e)
 verb-so_far m n line v ws r new room in_mode is e = caller-so_far m n line 1 v ws r new room (lit≤ tt, lit≤ tt) in_mode is e
 
 -- a line by a caller, or without a caller word
-by-so_far : (m : Mode) (n line : ℕ) (caller : Option ℕ) (word : List ℕ) (more : List (List ℕ)) (r new : Reading) → n < 65536 → caller_of word ≡ caller → IsSoFar m n r → line_by m line caller word more r ≡ Some new → IsSoFar m (n + 1) new
+by-so_far : (m : Mode) (n line : ℕ) (caller : Option ℕ) (word : List ℕ) (more : List (List ℕ)) (r new : Reading) → n < 65536 → parsed_caller word ≡ caller → IsSoFar m n r → line_by m line caller word more r ≡ Some new → IsSoFar m (n + 1) new
 unfolding called_line uncalled_line
 by-so_far m n line (Some caller) word more r new room by is e =
     let c = caller-gives word caller by in
@@ -722,7 +722,7 @@ by-so_far m n line None word more r new room by is e =
 words-so_far : (m : Mode) (n line : ℕ) (ws : List (List ℕ)) (r new : Reading) → n < 65536 → IsSoFar m n r → words_line m line ws r ≡ Some new → IsSoFar m (n + 1) new
 unfolding words_line
 words-so_far m n line [] r new room is e = let same : r ≡ new = cc in subst (IsSoFar m (n + 1)) same (later m n r is)
-words-so_far m n line (word ∷ more) r new room is e = by-so_far m n line (caller_of word) word more r new room refl is e
+words-so_far m n line (word ∷ more) r new room is e = by-so_far m n line (parsed_caller word) word more r new room refl is e
 
 text-so_far : (m : Mode) (n line : ℕ) (text : List ℕ) (r new : Reading) → n < 65536 → IsSoFar m n r → text_line m line text r ≡ Some new → IsSoFar m (n + 1) new
 unfolding text_line
@@ -736,37 +736,37 @@ line-so_far : (m : Mode) (n line : ℕ) (bytes : List ℕ) (r new : Reading) →
 unfolding line_of
 line-so_far m n line bytes r new room is e = text-so_far m n line (strip_carriage_return bytes) r new room is e
 
-lines-so_far : (m : Mode) (n : ℕ) (ls : List (List ℕ)) (r : Reading) (script : Script) → IsSoFar m n r → lines_of m n ls r ≡ Ok script → IsWithin script × IsOfMode m script
+lines-so_far : (m : Mode) (n : ℕ) (ls : List (List ℕ)) (r : Reading) (script : Script) → IsSoFar m n r → lines_of m n ls r ≡ Ok script → ScriptIsWithin script × IsOfMode m script
 unfolding lines_of
 lines-so_far m n [] r script is e =
     let same : r.script ≡ script = cc in
-    subst (λ (script : Script). IsWithin script × IsOfMode m script) same (is.within, record { streams = is.streams; lines = is.lines; phases = is.phases; restarts = is.restarts })
+    subst (λ (script : Script). ScriptIsWithin script × IsOfMode m script) same (is.within, record { streams = is.streams; lines = is.lines; phases = is.phases; restarts = is.restarts })
 lines-so_far m n (line ∷ more) r script is e = either (nat_lt n 65536) refl e (λ new. lines-so_far m (n + 1) more new script)
   where
-    on : (o : Option Reading) → line_of m (n + 1) line r ≡ o → n < 65536 → or_wrong (n + 1) o (λ next. lines_of m (n + 1) more next) ≡ Ok script → ((new : Reading) → IsSoFar m (n + 1) new → lines_of m (n + 1) more new ≡ Ok script → IsWithin script × IsOfMode m script) → IsWithin script × IsOfMode m script
+    on : (o : Option Reading) → line_of m (n + 1) line r ≡ o → n < 65536 → or_wrong (n + 1) o (λ next. lines_of m (n + 1) more next) ≡ Ok script → ((new : Reading) → IsSoFar m (n + 1) new → lines_of m (n + 1) more new ≡ Ok script → ScriptIsWithin script × IsOfMode m script) → ScriptIsWithin script × IsOfMode m script
     on None f room g go = absurd (cc)
     on (Some new) f room g go = go new (line-so_far m n (n + 1) line r new room is f) g
 
-    either : (t : Bool) → nat_lt n 65536 ≡ t → (if t then or_wrong (n + 1) (line_of m (n + 1) line r) (λ next. lines_of m (n + 1) more next) else Err (n + 1)) ≡ Ok script → ((new : Reading) → IsSoFar m (n + 1) new → lines_of m (n + 1) more new ≡ Ok script → IsWithin script × IsOfMode m script) → IsWithin script × IsOfMode m script
+    either : (t : Bool) → nat_lt n 65536 ≡ t → (if t then or_wrong (n + 1) (line_of m (n + 1) line r) (λ next. lines_of m (n + 1) more next) else Err (n + 1)) ≡ Ok script → ((new : Reading) → IsSoFar m (n + 1) new → lines_of m (n + 1) more new ≡ Ok script → ScriptIsWithin script × IsOfMode m script) → ScriptIsWithin script × IsOfMode m script
     either true f g go = on (line_of m (n + 1) line r) refl (grind (arith, nat_tests, f)) g go
     either false f g go = absurd (cc)
 
-script-gives : (m : Mode) (bytes : List ℕ) (script : Script) → script_of m bytes ≡ Ok script → IsWithin script × IsOfMode m script
+script-gives : (m : Mode) (bytes : List ℕ) (script : Script) → script_of m bytes ≡ Ok script → ScriptIsWithin script × IsOfMode m script
 unfolding script_of
 script-gives m bytes script e = lines-so_far m 0 (lines bytes) nothing_read script (nothing-so_far m) e
 
-pub script-within : (m : Mode) (bytes : List ℕ) (script : Script) → script_of m bytes ≡ Ok script → IsWithin script
+pub script-within : (m : Mode) (bytes : List ℕ) (script : Script) → script_of m bytes ≡ Ok script → ScriptIsWithin script
 script-within m bytes script e = (script-gives m bytes script e).0
 
 pub script-of_mode : (m : Mode) (bytes : List ℕ) (script : Script) → script_of m bytes ≡ Ok script → IsOfMode m script
 script-of_mode m bytes script e = (script-gives m bytes script e).1
 
 -- so what is read does
-pub reads-within : (m : Mode) (bytes : List ℕ) (answer : Result Script ScriptFault) → Reads (script_of m bytes) answer → IfOk answer (IsWithin)
+pub reads-within : (m : Mode) (bytes : List ℕ) (answer : Result Script ScriptFault) → ReadsScript (script_of m bytes) answer → IfOk answer (ScriptIsWithin)
 reads-within m bytes (Ok script) reads = script-within m bytes script reads
 reads-within m bytes (Err why) reads = tt
 
-pub reads-of_mode : (m : Mode) (bytes : List ℕ) (answer : Result Script ScriptFault) → Reads (script_of m bytes) answer → IfOk answer (IsOfMode m)
+pub reads-of_mode : (m : Mode) (bytes : List ℕ) (answer : Result Script ScriptFault) → ReadsScript (script_of m bytes) answer → IfOk answer (IsOfMode m)
 reads-of_mode m bytes (Ok script) reads = script-of_mode m bytes script reads
 reads-of_mode m bytes (Err why) reads = tt
 

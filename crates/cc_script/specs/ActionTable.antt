@@ -6,10 +6,10 @@ use Rattle.cc_script.specs.declared.script.Action.{Action}
 use Rattle.cc_script.specs.declared.script.Action.TheVariants as action
 use Rattle.cc_script.specs.declared.verb.Verb.{Verb}
 use Rattle.cc_script.specs.declared.verb.Verb.TheVariants as verb
-use Rattle.cc_script.specs.Actions.{ended, initialise_of, uninitialise_of, copy_read_of, copy_write_of, zero_of, set_sizes_of, state_of, flush_of, purge_of, discard_of, set_log_of, append_of, log_flush_of, dirty_pages_of, lsn_for_file_of}
-use Rattle.cc_script.specs.EventActions.{nc_read_in, nc_write_in, nc_store_page_of, ask_ahead_of, set_granularity_of, set_attributes_of, set_threshold_of, fill_of, drop_of, write_begin_of, write_end_of, sync_of, can_write_of, defer_of, async_read_of}
-use Rattle.cc_script.specs.ShimActions.{read_of, write_of, update_of, levels_of, settle_of, checkpoint_of, lock_of, unlock_of}
-use Rattle.cc_script.specs.HoldActions.{map_of, pin_read_of, pin_mapped_of, prepare_pin_of, held_read_of, pinned_write_of, set_dirty_of, unpin_of, repin_of, unpin_repinned_of, mdl_read_of, mdl_write_of, mdl_bytes_of, mdl_store_of, mdl_done_of, mdl_abort_of}
+use Rattle.cc_script.specs.Actions.{ended, parsed_initialise, parsed_uninitialise, parsed_copy_read, parsed_copy_write, parsed_zero, parsed_set_sizes, parsed_state, parsed_flush, parsed_purge, parsed_discard, parsed_set_log, parsed_append, parsed_log_flush, parsed_dirty_pages, parsed_lsn_for_file}
+use Rattle.cc_script.specs.EventActions.{nc_read_in, nc_write_in, parsed_nc_store_page, parsed_ask_ahead, parsed_set_granularity, parsed_set_attributes, parsed_set_threshold, parsed_fill, parsed_drop, parsed_write_begin, parsed_write_end, parsed_sync, parsed_can_write, parsed_defer, parsed_async_read}
+use Rattle.cc_script.specs.ShimActions.{parsed_read, parsed_write, parsed_update, parsed_levels, parsed_settle, parsed_checkpoint, parsed_lock, parsed_unlock}
+use Rattle.cc_script.specs.HoldActions.{parsed_map, parsed_pin_read, parsed_pin_mapped, parsed_prepare_pin, parsed_held_read, parsed_pinned_write, parsed_set_dirty, parsed_unpin, parsed_repin, parsed_unpin_repinned, parsed_mdl_read, parsed_mdl_write, parsed_mdl_bytes, parsed_mdl_store, parsed_mdl_done, parsed_mdl_abort}
 
 -- an action that binds no word
 abbrev pub binds_none : List (List ℕ) → Option Action → Option (Action × List (List ℕ))
@@ -17,65 +17,65 @@ binds_none names action = option_map (λ a. (a, names)) action
 
 -- the action of a verb, where its caller bound these words, and the words that are bound behind it
 unfoldable pub action_of : Mode → List StreamLine → List (List ℕ) → Verb → List (List ℕ) → Option (Action × List (List ℕ))
-action_of mode streams names verb.Initialise ws = binds_none names (initialise_of streams ws)
-action_of mode streams names verb.Uninitialise ws = binds_none names (uninitialise_of streams ws)
-action_of mode streams names verb.CopyRead ws = binds_none names (copy_read_of streams ws)
-action_of mode streams names verb.CopyWrite ws = binds_none names (copy_write_of streams ws)
-action_of mode streams names verb.Zero ws = binds_none names (zero_of streams ws)
-action_of mode streams names verb.Map ws = map_of streams names ws
-action_of mode streams names verb.PinRead ws = pin_read_of streams names ws
-action_of mode streams names verb.PinMapped ws = binds_none names (pin_mapped_of names ws)
-action_of mode streams names verb.PreparePin ws = prepare_pin_of streams names ws
-action_of mode streams names verb.HeldRead ws = binds_none names (held_read_of names ws)
-action_of mode streams names verb.PinnedWrite ws = binds_none names (pinned_write_of names ws)
-action_of mode streams names verb.SetDirty ws = binds_none names (set_dirty_of names ws)
-action_of mode streams names verb.Unpin ws = binds_none names (unpin_of names ws)
-action_of mode streams names verb.Repin ws = repin_of names ws
-action_of mode streams names verb.UnpinRepinned ws = binds_none names (unpin_repinned_of mode names ws)
-action_of mode streams names verb.MdlRead ws = mdl_read_of streams names ws
-action_of mode streams names verb.MdlWrite ws = mdl_write_of streams names ws
-action_of mode streams names verb.MdlBytes ws = binds_none names (mdl_bytes_of names ws)
-action_of mode streams names verb.MdlStore ws = binds_none names (mdl_store_of names ws)
-action_of mode streams names verb.MdlDone ws = binds_none names (mdl_done_of names ws)
-action_of mode streams names verb.MdlAbort ws = binds_none names (mdl_abort_of names ws)
+action_of mode streams names verb.Initialise ws = binds_none names (parsed_initialise streams ws)
+action_of mode streams names verb.Uninitialise ws = binds_none names (parsed_uninitialise streams ws)
+action_of mode streams names verb.CopyRead ws = binds_none names (parsed_copy_read streams ws)
+action_of mode streams names verb.CopyWrite ws = binds_none names (parsed_copy_write streams ws)
+action_of mode streams names verb.Zero ws = binds_none names (parsed_zero streams ws)
+action_of mode streams names verb.Map ws = parsed_map streams names ws
+action_of mode streams names verb.PinRead ws = parsed_pin_read streams names ws
+action_of mode streams names verb.PinMapped ws = binds_none names (parsed_pin_mapped names ws)
+action_of mode streams names verb.PreparePin ws = parsed_prepare_pin streams names ws
+action_of mode streams names verb.HeldRead ws = binds_none names (parsed_held_read names ws)
+action_of mode streams names verb.PinnedWrite ws = binds_none names (parsed_pinned_write names ws)
+action_of mode streams names verb.SetDirty ws = binds_none names (parsed_set_dirty names ws)
+action_of mode streams names verb.Unpin ws = binds_none names (parsed_unpin names ws)
+action_of mode streams names verb.Repin ws = parsed_repin names ws
+action_of mode streams names verb.UnpinRepinned ws = binds_none names (parsed_unpin_repinned mode names ws)
+action_of mode streams names verb.MdlRead ws = parsed_mdl_read streams names ws
+action_of mode streams names verb.MdlWrite ws = parsed_mdl_write streams names ws
+action_of mode streams names verb.MdlBytes ws = binds_none names (parsed_mdl_bytes names ws)
+action_of mode streams names verb.MdlStore ws = binds_none names (parsed_mdl_store names ws)
+action_of mode streams names verb.MdlDone ws = binds_none names (parsed_mdl_done names ws)
+action_of mode streams names verb.MdlAbort ws = binds_none names (parsed_mdl_abort names ws)
 action_of mode streams names verb.NcRead ws = binds_none names (nc_read_in mode streams ws)
 action_of mode streams names verb.NcWrite ws = binds_none names (nc_write_in mode streams ws)
-action_of mode streams names verb.NcStore ws = binds_none names (nc_store_page_of streams ws)
-action_of mode streams names verb.SetSizes ws = binds_none names (set_sizes_of streams ws)
-action_of mode streams names verb.State ws = binds_none names (state_of streams ws)
-action_of mode streams names verb.Flush ws = binds_none names (flush_of streams ws)
-action_of mode streams names verb.Purge ws = binds_none names (purge_of streams ws)
-action_of mode streams names verb.Discard ws = binds_none names (discard_of streams ws)
-action_of mode streams names verb.Read ws = binds_none names (read_of streams ws)
-action_of mode streams names verb.Write ws = binds_none names (write_of streams ws)
-action_of mode streams names verb.Update ws = binds_none names (update_of streams ws)
-action_of mode streams names verb.Lock ws = binds_none names (lock_of streams ws)
-action_of mode streams names verb.Unlock ws = binds_none names (unlock_of streams ws)
-action_of mode streams names verb.Levels ws = binds_none names (levels_of streams ws)
-action_of mode streams names verb.Settle ws = binds_none names (settle_of streams ws)
-action_of mode streams names verb.Checkpoint ws = binds_none names (checkpoint_of streams ws)
+action_of mode streams names verb.NcStore ws = binds_none names (parsed_nc_store_page streams ws)
+action_of mode streams names verb.SetSizes ws = binds_none names (parsed_set_sizes streams ws)
+action_of mode streams names verb.State ws = binds_none names (parsed_state streams ws)
+action_of mode streams names verb.Flush ws = binds_none names (parsed_flush streams ws)
+action_of mode streams names verb.Purge ws = binds_none names (parsed_purge streams ws)
+action_of mode streams names verb.Discard ws = binds_none names (parsed_discard streams ws)
+action_of mode streams names verb.Read ws = binds_none names (parsed_read streams ws)
+action_of mode streams names verb.Write ws = binds_none names (parsed_write streams ws)
+action_of mode streams names verb.Update ws = binds_none names (parsed_update streams ws)
+action_of mode streams names verb.Lock ws = binds_none names (parsed_lock streams ws)
+action_of mode streams names verb.Unlock ws = binds_none names (parsed_unlock streams ws)
+action_of mode streams names verb.Levels ws = binds_none names (parsed_levels streams ws)
+action_of mode streams names verb.Settle ws = binds_none names (parsed_settle streams ws)
+action_of mode streams names verb.Checkpoint ws = binds_none names (parsed_checkpoint streams ws)
 action_of mode streams names verb.IsDirtyData ws = binds_none names (ended ws action.IsDirtyData)
-action_of mode streams names verb.DirtyPages ws = binds_none names (dirty_pages_of ws)
-action_of mode streams names verb.LsnForFile ws = binds_none names (lsn_for_file_of streams ws)
-action_of mode streams names verb.SetLog ws = binds_none names (set_log_of streams ws)
-action_of mode streams names verb.Append ws = binds_none names (append_of ws)
-action_of mode streams names verb.LogFlush ws = binds_none names (log_flush_of ws)
-action_of mode streams names verb.SetGranularity ws = binds_none names (set_granularity_of streams ws)
-action_of mode streams names verb.SetAttributes ws = binds_none names (set_attributes_of streams ws)
-action_of mode streams names verb.SetThreshold ws = binds_none names (set_threshold_of streams ws)
-action_of mode streams names verb.Fill ws = binds_none names (fill_of streams ws)
-action_of mode streams names verb.Drop ws = binds_none names (drop_of streams ws)
-action_of mode streams names verb.WriteBegin ws = binds_none names (write_begin_of streams ws)
-action_of mode streams names verb.WriteEnd ws = binds_none names (write_end_of streams ws)
-action_of mode streams names verb.Sync ws = binds_none names (sync_of streams ws)
+action_of mode streams names verb.DirtyPages ws = binds_none names (parsed_dirty_pages ws)
+action_of mode streams names verb.LsnForFile ws = binds_none names (parsed_lsn_for_file streams ws)
+action_of mode streams names verb.SetLog ws = binds_none names (parsed_set_log streams ws)
+action_of mode streams names verb.Append ws = binds_none names (parsed_append ws)
+action_of mode streams names verb.LogFlush ws = binds_none names (parsed_log_flush ws)
+action_of mode streams names verb.SetGranularity ws = binds_none names (parsed_set_granularity streams ws)
+action_of mode streams names verb.SetAttributes ws = binds_none names (parsed_set_attributes streams ws)
+action_of mode streams names verb.SetThreshold ws = binds_none names (parsed_set_threshold streams ws)
+action_of mode streams names verb.Fill ws = binds_none names (parsed_fill streams ws)
+action_of mode streams names verb.Drop ws = binds_none names (parsed_drop streams ws)
+action_of mode streams names verb.WriteBegin ws = binds_none names (parsed_write_begin streams ws)
+action_of mode streams names verb.WriteEnd ws = binds_none names (parsed_write_end streams ws)
+action_of mode streams names verb.Sync ws = binds_none names (parsed_sync streams ws)
 action_of mode streams names verb.Scan ws = binds_none names (ended ws action.Scan)
-action_of mode streams names verb.AskAhead ws = binds_none names (ask_ahead_of streams ws)
+action_of mode streams names verb.AskAhead ws = binds_none names (parsed_ask_ahead streams ws)
 action_of mode streams names verb.AheadStep ws = binds_none names (ended ws action.AheadStep)
-action_of mode streams names verb.AsyncRead ws = binds_none names (async_read_of streams ws)
+action_of mode streams names verb.AsyncRead ws = binds_none names (parsed_async_read streams ws)
 action_of mode streams names verb.Complete ws = binds_none names (ended ws action.Complete)
 action_of mode streams names verb.Tick ws = binds_none names (ended ws action.Tick)
-action_of mode streams names verb.CanWrite ws = binds_none names (can_write_of streams ws)
-action_of mode streams names verb.Defer ws = binds_none names (defer_of streams ws)
+action_of mode streams names verb.CanWrite ws = binds_none names (parsed_can_write streams ws)
+action_of mode streams names verb.Defer ws = binds_none names (parsed_defer streams ws)
 action_of mode streams names verb.Post ws = binds_none names (ended ws action.Post)
 action_of mode streams names verb.Stream ws = None
 action_of mode streams names verb.Journal ws = None

@@ -8,7 +8,7 @@ use Rattle.cc_script.specs.declared.script.StreamLine.{StreamLine}
 use Rattle.cc_script.specs.declared.script.Action.{Action}
 use Rattle.cc_script.specs.declared.script.Action.TheVariants as action
 use Rattle.cc_script.specs.Outcome.{◌>>=◌}
-use Rattle.cc_script.specs.Words.{number_of, number_between, bytes_of}
+use Rattle.cc_script.specs.Words.{parsed_number, number_between, parsed_bytes}
 
 -- the next word in a form, and the words behind it
 abbrev pub next : {A : Type 0} → (List ℕ → Option A) → List (List ℕ) → Option (A × List (List ℕ))
@@ -40,159 +40,159 @@ file_at streams word (Some colon) = do
   object_named streams (take colon word) number
 
 -- a file: NAME of a stream, whose object 0 it is, or NAME:N with the number of an object, 0 to 15
-unfoldable pub file_of : List StreamLine → List ℕ → Option File
-file_of streams word = file_at streams word (position (λ b. b == 58) word)
+unfoldable pub parsed_file : List StreamLine → List ℕ → Option File
+parsed_file streams word = file_at streams word (position (λ b. b == 58) word)
 
 -- two numbers, of which the first is at most the second
-unfoldable pub span_of : List (List ℕ) → Option (Range × List (List ℕ))
-span_of ws = do
-  from ← next number_of ws
-  to ← next number_of from.1
+unfoldable pub parsed_span : List (List ℕ) → Option (Range × List (List ℕ))
+parsed_span ws = do
+  from ← next parsed_number ws
+  to ← next parsed_number from.1
   if nat_le from.0 to.0 then Some (record { from = from.0; to = to.0 }, to.1) else None
 
 -- [FROM TO] at the end of a line: none is the whole stream
-unfoldable pub optional_span_of : List (List ℕ) → Option (Option Range)
-optional_span_of ws = if length ws == 0 then Some None else (do
-  span ← span_of ws
+unfoldable pub parsed_optional_span : List (List ℕ) → Option (Option Range)
+parsed_optional_span ws = if length ws == 0 then Some None else (do
+  span ← parsed_span ws
   ended span.1 (Some span.0))
 
 -- [N] at the end of a line
-unfoldable pub optional_number_of : List (List ℕ) → Option (Option ℕ)
-optional_number_of ws = if length ws == 0 then Some None else (do
-  number ← next number_of ws
+unfoldable pub parsed_optional_number : List (List ℕ) → Option (Option ℕ)
+parsed_optional_number ws = if length ws == 0 then Some None else (do
+  number ← next parsed_number ws
   ended number.1 (Some number.0))
 
 -- [quota Q]: a stream's quota in view blocks, 16 where it is not said
-unfoldable pub quota_of : List (List ℕ) → Option (ℕ × List (List ℕ))
-quota_of ws = if (flag (codes "quota") ws).0 then next (number_between 8 64) (flag (codes "quota") ws).1 else Some (16, ws)
+unfoldable pub parsed_quota : List (List ℕ) → Option (ℕ × List (List ℕ))
+parsed_quota ws = if (flag (codes "quota") ws).0 then next (number_between 8 64) (flag (codes "quota") ws).1 else Some (16, ws)
 
 -- ALLOC SIZE VALID: any three numbers
-unfoldable pub sizes_of : List (List ℕ) → Option (FileSizes × List (List ℕ))
-sizes_of ws = do
-  allocation ← next number_of ws
-  size ← next number_of allocation.1
-  valid ← next number_of size.1
+unfoldable pub parsed_sizes : List (List ℕ) → Option (FileSizes × List (List ℕ))
+parsed_sizes ws = do
+  allocation ← next parsed_number ws
+  size ← next parsed_number allocation.1
+  valid ← next parsed_number size.1
   Some (record { allocation = allocation.0; size = size.0; valid = valid.0 }, valid.1)
 
 -- init FILE ALLOC SIZE VALID [quota Q] [temporary]
-unfoldable pub initialise_of : List StreamLine → List (List ℕ) → Option Action
-initialise_of streams ws = do
-  file ← next (file_of streams) ws
-  sizes ← sizes_of file.1
-  quota ← quota_of sizes.1
+unfoldable pub parsed_initialise : List StreamLine → List (List ℕ) → Option Action
+parsed_initialise streams ws = do
+  file ← next (parsed_file streams) ws
+  sizes ← parsed_sizes file.1
+  quota ← parsed_quota sizes.1
   ended (flag (codes "temporary") quota.1).1
       (action.Initialise file.0 sizes.0 quota.0 (flag (codes "temporary") quota.1).0)
 
 -- uninit FILE [N]
-unfoldable pub uninitialise_of : List StreamLine → List (List ℕ) → Option Action
-uninitialise_of streams ws = do
-  file ← next (file_of streams) ws
-  truncate ← optional_number_of file.1
+unfoldable pub parsed_uninitialise : List StreamLine → List (List ℕ) → Option Action
+parsed_uninitialise streams ws = do
+  file ← next (parsed_file streams) ws
+  truncate ← parsed_optional_number file.1
   Some (action.Uninitialise file.0 truncate)
 
 -- cread FILE AT LEN [nowait]
-unfoldable pub copy_read_of : List StreamLine → List (List ℕ) → Option Action
-copy_read_of streams ws = do
-  file ← next (file_of streams) ws
-  at ← next number_of file.1
+unfoldable pub parsed_copy_read : List StreamLine → List (List ℕ) → Option Action
+parsed_copy_read streams ws = do
+  file ← next (parsed_file streams) ws
+  at ← next parsed_number file.1
   len ← next (number_between 0 2097152) at.1
   ended (flag (codes "nowait") len.1).1 (action.CopyRead file.0 at.0 len.0 (not (flag (codes "nowait") len.1).0))
 
 -- cwrite FILE AT BYTES
-unfoldable pub copy_write_of : List StreamLine → List (List ℕ) → Option Action
-copy_write_of streams ws = do
-  file ← next (file_of streams) ws
-  at ← next number_of file.1
-  bytes ← next bytes_of at.1
+unfoldable pub parsed_copy_write : List StreamLine → List (List ℕ) → Option Action
+parsed_copy_write streams ws = do
+  file ← next (parsed_file streams) ws
+  at ← next parsed_number file.1
+  bytes ← next parsed_bytes at.1
   ended bytes.1 (action.CopyWrite file.0 at.0 bytes.0)
 
 -- zero FILE FROM TO
-unfoldable pub zero_of : List StreamLine → List (List ℕ) → Option Action
-zero_of streams ws = do
-  file ← next (file_of streams) ws
-  span ← span_of file.1
+unfoldable pub parsed_zero : List StreamLine → List (List ℕ) → Option Action
+parsed_zero streams ws = do
+  file ← next (parsed_file streams) ws
+  span ← parsed_span file.1
   ended span.1 (action.Zero file.0 span.0)
 
 -- sizes FILE ALLOC SIZE
-unfoldable pub set_sizes_of : List StreamLine → List (List ℕ) → Option Action
-set_sizes_of streams ws = do
-  file ← next (file_of streams) ws
-  allocation ← next number_of file.1
-  size ← next number_of allocation.1
+unfoldable pub parsed_set_sizes : List StreamLine → List (List ℕ) → Option Action
+parsed_set_sizes streams ws = do
+  file ← next (parsed_file streams) ws
+  allocation ← next parsed_number file.1
+  size ← next parsed_number allocation.1
   ended size.1 (action.SetSizes file.0 allocation.0 size.0)
 
 -- state FILE
-unfoldable pub state_of : List StreamLine → List (List ℕ) → Option Action
-state_of streams ws = do
-  file ← next (file_of streams) ws
+unfoldable pub parsed_state : List StreamLine → List (List ℕ) → Option Action
+parsed_state streams ws = do
+  file ← next (parsed_file streams) ws
   ended file.1 (action.State file.0)
 
 -- flush FILE [FROM TO]
-unfoldable pub flush_of : List StreamLine → List (List ℕ) → Option Action
-flush_of streams ws = do
-  file ← next (file_of streams) ws
-  span ← optional_span_of file.1
+unfoldable pub parsed_flush : List StreamLine → List (List ℕ) → Option Action
+parsed_flush streams ws = do
+  file ← next (parsed_file streams) ws
+  span ← parsed_optional_span file.1
   Some (action.Flush file.0 span)
 
 -- purge FILE [FROM TO]
-unfoldable pub purge_of : List StreamLine → List (List ℕ) → Option Action
-purge_of streams ws = do
-  file ← next (file_of streams) ws
-  span ← optional_span_of file.1
+unfoldable pub parsed_purge : List StreamLine → List (List ℕ) → Option Action
+parsed_purge streams ws = do
+  file ← next (parsed_file streams) ws
+  span ← parsed_optional_span file.1
   Some (action.Purge file.0 span)
 
 -- discard FILE [FROM TO]
-unfoldable pub discard_of : List StreamLine → List (List ℕ) → Option Action
-discard_of streams ws = do
-  file ← next (file_of streams) ws
-  span ← optional_span_of file.1
+unfoldable pub parsed_discard : List StreamLine → List (List ℕ) → Option Action
+parsed_discard streams ws = do
+  file ← next (parsed_file streams) ws
+  span ← parsed_optional_span file.1
   Some (action.Discard file.0 span)
 
 -- ncread FILE AT LEN
-unfoldable pub nc_read_of : List StreamLine → List (List ℕ) → Option Action
-nc_read_of streams ws = do
-  file ← next (file_of streams) ws
-  at ← next number_of file.1
+unfoldable pub parsed_nc_read : List StreamLine → List (List ℕ) → Option Action
+parsed_nc_read streams ws = do
+  file ← next (parsed_file streams) ws
+  at ← next parsed_number file.1
   len ← next (number_between 0 2097152) at.1
   ended len.1 (action.NcRead file.0 at.0 len.0)
 
 -- ncwrite FILE AT BYTES
-unfoldable pub nc_write_of : List StreamLine → List (List ℕ) → Option Action
-nc_write_of streams ws = do
-  file ← next (file_of streams) ws
-  at ← next number_of file.1
-  bytes ← next bytes_of at.1
+unfoldable pub parsed_nc_write : List StreamLine → List (List ℕ) → Option Action
+parsed_nc_write streams ws = do
+  file ← next (parsed_file streams) ws
+  at ← next parsed_number file.1
+  bytes ← next parsed_bytes at.1
   ended bytes.1 (action.NcWrite file.0 at.0 bytes.0)
 
 -- setlog FILE LOG
-unfoldable pub set_log_of : List StreamLine → List (List ℕ) → Option Action
-set_log_of streams ws = do
-  file ← next (file_of streams) ws
+unfoldable pub parsed_set_log : List StreamLine → List (List ℕ) → Option Action
+parsed_set_log streams ws = do
+  file ← next (parsed_file streams) ws
   log ← next (number_between 0 3) file.1
   ended log.1 (action.SetLog file.0 log.0)
 
 -- append LOG BYTES
-unfoldable pub append_of : List (List ℕ) → Option Action
-append_of ws = do
+unfoldable pub parsed_append : List (List ℕ) → Option Action
+parsed_append ws = do
   log ← next (number_between 0 3) ws
-  bytes ← next bytes_of log.1
+  bytes ← next parsed_bytes log.1
   ended bytes.1 (action.Append log.0 bytes.0)
 
 -- logflush LOG LSN
-unfoldable pub log_flush_of : List (List ℕ) → Option Action
-log_flush_of ws = do
+unfoldable pub parsed_log_flush : List (List ℕ) → Option Action
+parsed_log_flush ws = do
   log ← next (number_between 0 3) ws
   lsn ← next (number_between 1 4611686018427387904) log.1
   ended lsn.1 (action.LogFlush log.0 lsn.0)
 
 -- dirty LOG
-unfoldable pub dirty_pages_of : List (List ℕ) → Option Action
-dirty_pages_of ws = do
+unfoldable pub parsed_dirty_pages : List (List ℕ) → Option Action
+parsed_dirty_pages ws = do
   log ← next (number_between 0 3) ws
   ended log.1 (action.DirtyPages log.0)
 
 -- lsns FILE
-unfoldable pub lsn_for_file_of : List StreamLine → List (List ℕ) → Option Action
-lsn_for_file_of streams ws = do
-  file ← next (file_of streams) ws
+unfoldable pub parsed_lsn_for_file : List StreamLine → List (List ℕ) → Option Action
+parsed_lsn_for_file streams ws = do
+  file ← next (parsed_file streams) ws
   ended file.1 (action.LsnForFile file.0)

@@ -5,7 +5,7 @@ use Rattle.cc_script.specs.declared.script.ScriptFault.{ScriptFault}
 use Rattle.cc_script.specs.declared.script.ScriptFault.TheVariants as fault
 
 -- the script of the grammar, or its first wrong line; only want of memory is free
-abbrev pub Reads : Result Script ℕ → Result Script ScriptFault → Type 0
-Reads spelled (Ok script) = spelled ≡ Ok script
-Reads spelled (Err (fault.Syntax line)) = spelled ≡ Err line
-Reads spelled (Err fault.NoMemory) = Unit {0}
+abbrev pub ReadsScript : Result Script ℕ → Result Script ScriptFault → Type 0
+ReadsScript spelled (Ok script) = spelled ≡ Ok script
+ReadsScript spelled (Err (fault.Syntax line)) = spelled ≡ Err line
+ReadsScript spelled (Err fault.NoMemory) = Unit {0}

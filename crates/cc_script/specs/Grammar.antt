@@ -16,10 +16,10 @@ use Rattle.cc_script.specs.declared.reading.Workers.{Workers}
 use Rattle.cc_script.specs.declared.caller_words.CallerWords.{CallerWords}
 use Rattle.cc_script.specs.Outcome.{◌>>=◌}
 use Rattle.cc_script.specs.Text.{lines, words}
-use Rattle.cc_script.specs.Words.{number_of, number_between, name_of, caller_of}
+use Rattle.cc_script.specs.Words.{parsed_number, number_between, name_of_word, parsed_caller}
 use Rattle.cc_script.specs.Verbs.{takes_caller, verb_in}
 use Rattle.cc_script.specs.Modes.{is_call}
-use Rattle.cc_script.specs.Actions.{next, flag, ended, stream_named, quota_of}
+use Rattle.cc_script.specs.Actions.{next, flag, ended, stream_named, parsed_quota}
 use Rattle.cc_script.specs.ActionTable.{action_of, bytes_counted, dirty_lines}
 use Rattle.cc_script.specs.HoldWords.{may_use, bound_after}
 use Rattle.cc_script.specs.Checkpoints.{no_lines_yet, phase_with, is_kept_apart}
@@ -51,33 +51,33 @@ may_add stream r =
     (length r.script.lines == 0) && (nat_lt (length r.script.streams) 16
     && not (is_some (stream_named r.script.streams stream.name)))
 
-unfoldable pub with_stream : StreamLine → Reading → Option Reading
-with_stream stream r =
+unfoldable pub with_stream_line : StreamLine → Reading → Option Reading
+with_stream_line stream r =
     if may_add stream r
     then Some (record r { script = record r.script { streams = r.script.streams ++ stream ∷ [] } })
     else None
 
 -- [log LOG]: the log of a stream, none where it is not said
-unfoldable pub log_of : List (List ℕ) → Option (Option ℕ × List (List ℕ))
-log_of ws =
+unfoldable pub parsed_log : List (List ℕ) → Option (Option ℕ × List (List ℕ))
+parsed_log ws =
     if (flag (codes "log") ws).0
     then option_map (λ log. (Some log.0, log.1)) (next (number_between 0 3) (flag (codes "log") ws).1)
     else Some (None, ws)
 
 -- [stored]: whether the stream is opened with the sizes of its record; a word of run alone
-unfoldable pub stored_of : Mode → List (List ℕ) → Bool × List (List ℕ)
-stored_of mode.Run ws = flag (codes "stored") ws
-stored_of mode.Steps ws = (false, ws)
+unfoldable pub parsed_stored : Mode → List (List ℕ) → Bool × List (List ℕ)
+parsed_stored mode.Run ws = flag (codes "stored") ws
+parsed_stored mode.Steps ws = (false, ws)
 
 -- stream NAME SIZE VALID [quota Q] [temporary] [log LOG] [stored]
-unfoldable pub stream_of : Mode → ℕ → List (List ℕ) → Option StreamLine
-stream_of m n ws = do
-  name ← next name_of ws
-  size ← next number_of name.1
-  valid ← next number_of size.1
-  quota ← quota_of valid.1
-  log ← log_of (flag (codes "temporary") quota.1).1
-  ended (stored_of m log.1).1 (record {
+unfoldable pub parsed_stream : Mode → ℕ → List (List ℕ) → Option StreamLine
+parsed_stream m n ws = do
+  name ← next name_of_word ws
+  size ← next parsed_number name.1
+  valid ← next parsed_number size.1
+  quota ← parsed_quota valid.1
+  log ← parsed_log (flag (codes "temporary") quota.1).1
+  ended (parsed_stored m log.1).1 (record {
     line = n;
     name = name.0;
     size = size.0;
@@ -85,18 +85,18 @@ stream_of m n ws = do
     quota = quota.0;
     temporary = (flag (codes "temporary") quota.1).0;
     log = log.0;
-    stored = (stored_of m log.1).0;
+    stored = (parsed_stored m log.1).0;
   })
 
 -- the number of a line that sets one
-unfoldable pub setting_of : ℕ → ℕ → List (List ℕ) → Option ℕ
-setting_of low high ws = do
+unfoldable pub parsed_setting : ℕ → ℕ → List (List ℕ) → Option ℕ
+parsed_setting low high ws = do
   n ← next (number_between low high) ws
   ended n.1 n.0
 
 -- journal N: at most once, before the first action
-unfoldable pub with_journal : ℕ → Reading → Option Reading
-with_journal capacity r =
+unfoldable pub with_journal_line : ℕ → Reading → Option Reading
+with_journal_line capacity r =
     if (length r.script.lines == 0) && not r.has_journal
     then Some (record r { script = record r.script { journal = capacity }; has_journal = true })
     else None
@@ -109,8 +109,8 @@ with_threshold pages r =
     else None
 
 -- L A: up to 1000 ticks of the lazy writer in each phase, and up to 1000 steps of the read-ahead worker
-unfoldable pub workers_of : List (List ℕ) → Option Workers
-workers_of ws = do
+unfoldable pub parsed_workers : List (List ℕ) → Option Workers
+parsed_workers ws = do
   ticks ← next (number_between 0 1000) ws
   aheads ← next (number_between 0 1000) ticks.1
   ended aheads.1 (record { ticks = ticks.0; aheads = aheads.0 })
@@ -123,8 +123,8 @@ with_workers set r =
     else None
 
 -- restart LOG
-unfoldable pub restart_of : ℕ → List (List ℕ) → Option RestartLine
-restart_of n ws = do
+unfoldable pub parsed_restart : ℕ → List (List ℕ) → Option RestartLine
+parsed_restart n ws = do
   handle ← next (number_between 0 3) ws
   ended handle.1 (record { line = n; handle = handle.0 })
 
@@ -148,8 +148,8 @@ with_phase ws r =
     else None
 
 -- a line of a caller's action, in the phase that is under way, and whether it fails
-abbrev pub placed : ℕ → ℕ → Bool → Action → Reading → ActionLine
-placed n caller fails action r = record { line = n; phase = r.script.phases; caller = caller; fails = fails; action = action }
+abbrev pub placed_line : ℕ → ℕ → Bool → Action → Reading → ActionLine
+placed_line n caller fails action r = record { line = n; phase = r.script.phases; caller = caller; fails = fails; action = action }
 
 -- the totals that one more line keeps to: in all 33554432 bytes, and 64 lines `dirty`
 abbrev pub keeps_totals : Action → Reading → Bool
@@ -169,7 +169,7 @@ unfoldable pub with_action : ℕ → ℕ → Bool → CallerWords → Action →
 with_action n caller fails own action r =
     if keeps_totals action r && (keeps_apart caller action r && (may_use action own.bounds && (not fails || is_call action)))
     then Some (record r {
-      script = record r.script { lines = r.script.lines ++ placed n caller fails action r ∷ [] };
+      script = record r.script { lines = r.script.lines ++ placed_line n caller fails action r ∷ [] };
       total = r.total + bytes_counted action;
       dirty = r.dirty + dirty_lines action;
       words = slice_set r.words caller (words_after action own);
@@ -192,19 +192,19 @@ caller_line mode n caller v ws r = action_line mode n caller false v ws r
 -- a line of a verb, without a caller word
 unfoldable pub verb_line : Mode → ℕ → Verb → List (List ℕ) → Reading → Option Reading
 verb_line mode n verb.Stream ws r = do
-  stream ← stream_of mode n ws
-  with_stream stream r
+  stream ← parsed_stream mode n ws
+  with_stream_line stream r
 verb_line mode n verb.Journal ws r = do
-  capacity ← setting_of 64 1048576 ws
-  with_journal capacity r
+  capacity ← parsed_setting 64 1048576 ws
+  with_journal_line capacity r
 verb_line mode n verb.Threshold ws r = do
-  pages ← setting_of 1 16384 ws
+  pages ← parsed_setting 1 16384 ws
   with_threshold pages r
 verb_line mode n verb.Workers ws r = do
-  set ← workers_of ws
+  set ← parsed_workers ws
   with_workers set r
 verb_line mode n verb.Restart ws r = do
-  restart ← restart_of n ws
+  restart ← parsed_restart n ws
   with_restart restart r
 verb_line mode n verb.Phase ws r = with_phase ws r
 verb_line mode n v ws r = caller_line mode n 1 v ws r
@@ -229,7 +229,7 @@ line_by mode n None word more r = uncalled_line mode n (word ∷ more) r
 -- a line of these words; one of no words says nothing
 unfoldable pub words_line : Mode → ℕ → List (List ℕ) → Reading → Option Reading
 words_line mode n [] r = Some r
-words_line mode n (word ∷ more) r = line_by mode n (caller_of word) word more r
+words_line mode n (word ∷ more) r = line_by mode n (parsed_caller word) word more r
 
 -- printable ASCII, or a space
 abbrev pub is_printable : ℕ → Bool

@@ -8,44 +8,44 @@ use Rattle.cc_script.specs.declared.script.StreamLine.{StreamLine}
 use Rattle.cc_script.specs.declared.script.Action.{Action}
 use Rattle.cc_script.specs.declared.script.Action.TheVariants as action
 use Rattle.cc_script.specs.Outcome.{◌>>=◌}
-use Rattle.cc_script.specs.Words.{number_of, number_between, name_of, bytes_of}
+use Rattle.cc_script.specs.Words.{parsed_number, number_between, name_of_word, parsed_bytes}
 use Rattle.cc_script.specs.HoldNames.{word_of, new_word}
-use Rattle.cc_script.specs.Actions.{next, flag, ended, file_of}
+use Rattle.cc_script.specs.Actions.{next, flag, ended, parsed_file}
 
 -- FILE AT LEN HOLD: the hold that a line makes, whose word is bound, then the words that are bound behind it, and those
 -- that are left of the line
-unfoldable pub stretch_of : List StreamLine → List (List ℕ) → List (List ℕ) → Option (Stretch × List (List ℕ) × List (List ℕ))
-stretch_of streams names ws = do
-  file ← next (file_of streams) ws
-  at ← next number_of file.1
-  len ← next number_of at.1
-  name ← next name_of len.1
+unfoldable pub parsed_stretch : List StreamLine → List (List ℕ) → List (List ℕ) → Option (Stretch × List (List ℕ) × List (List ℕ))
+parsed_stretch streams names ws = do
+  file ← next (parsed_file streams) ws
+  at ← next parsed_number file.1
+  len ← next parsed_number at.1
+  name ← next name_of_word len.1
   bound ← new_word names name.0
   Some (record { file = file.0; at = at.0; len = len.0; word = bound.0 }, bound.1, name.1)
 
 -- map FILE AT LEN HOLD
-unfoldable pub map_of : List StreamLine → List (List ℕ) → List (List ℕ) → Option (Action × List (List ℕ))
-map_of streams names ws = do
-  on ← stretch_of streams names ws
+unfoldable pub parsed_map : List StreamLine → List (List ℕ) → List (List ℕ) → Option (Action × List (List ℕ))
+parsed_map streams names ws = do
+  on ← parsed_stretch streams names ws
   ended on.2 (action.Map on.0.file on.0.at on.0.len on.0.word, on.1)
 
 -- pin FILE AT LEN HOLD [excl]
-unfoldable pub pin_read_of : List StreamLine → List (List ℕ) → List (List ℕ) → Option (Action × List (List ℕ))
-pin_read_of streams names ws = do
-  on ← stretch_of streams names ws
+unfoldable pub parsed_pin_read : List StreamLine → List (List ℕ) → List (List ℕ) → Option (Action × List (List ℕ))
+parsed_pin_read streams names ws = do
+  on ← parsed_stretch streams names ws
   ended (flag (codes "excl") on.2).1
       (action.PinRead on.0.file on.0.at on.0.len on.0.word (flag (codes "excl") on.2).0, on.1)
 
 -- pinmapped HOLD [excl]
-unfoldable pub pin_mapped_of : List (List ℕ) → List (List ℕ) → Option Action
-pin_mapped_of names ws = do
+unfoldable pub parsed_pin_mapped : List (List ℕ) → List (List ℕ) → Option Action
+parsed_pin_mapped names ws = do
   word ← next (word_of names) ws
   ended (flag (codes "excl") word.1).1 (action.PinMapped word.0 (flag (codes "excl") word.1).0)
 
 -- prepare FILE AT LEN HOLD [zero] [excl]
-unfoldable pub prepare_pin_of : List StreamLine → List (List ℕ) → List (List ℕ) → Option (Action × List (List ℕ))
-prepare_pin_of streams names ws = do
-  on ← stretch_of streams names ws
+unfoldable pub parsed_prepare_pin : List StreamLine → List (List ℕ) → List (List ℕ) → Option (Action × List (List ℕ))
+parsed_prepare_pin streams names ws = do
+  on ← parsed_stretch streams names ws
   ended (flag (codes "excl") (flag (codes "zero") on.2).1).1 (
     action.PreparePin on.0.file on.0.at on.0.len on.0.word (flag (codes "zero") on.2).0
         (flag (codes "excl") (flag (codes "zero") on.2).1).0,
@@ -53,91 +53,91 @@ prepare_pin_of streams names ws = do
   )
 
 -- hread HOLD AT LEN
-unfoldable pub held_read_of : List (List ℕ) → List (List ℕ) → Option Action
-held_read_of names ws = do
+unfoldable pub parsed_held_read : List (List ℕ) → List (List ℕ) → Option Action
+parsed_held_read names ws = do
   word ← next (word_of names) ws
-  at ← next number_of word.1
+  at ← next parsed_number word.1
   len ← next (number_between 0 2097152) at.1
   ended len.1 (action.HeldRead word.0 at.0 len.0)
 
 -- pwrite HOLD AT BYTES
-unfoldable pub pinned_write_of : List (List ℕ) → List (List ℕ) → Option Action
-pinned_write_of names ws = do
+unfoldable pub parsed_pinned_write : List (List ℕ) → List (List ℕ) → Option Action
+parsed_pinned_write names ws = do
   word ← next (word_of names) ws
-  at ← next number_of word.1
-  bytes ← next bytes_of at.1
+  at ← next parsed_number word.1
+  bytes ← next parsed_bytes at.1
   ended bytes.1 (action.PinnedWrite word.0 at.0 bytes.0)
 
 -- stamp HOLD [LSN]
-unfoldable pub stamp_of : List (List ℕ) → Option (Option ℕ)
-stamp_of ws = if length ws == 0 then Some None else (do
+unfoldable pub parsed_stamp : List (List ℕ) → Option (Option ℕ)
+parsed_stamp ws = if length ws == 0 then Some None else (do
   lsn ← next (number_between 1 4611686018427387904) ws
   ended lsn.1 (Some lsn.0))
 
-unfoldable pub set_dirty_of : List (List ℕ) → List (List ℕ) → Option Action
-set_dirty_of names ws = do
+unfoldable pub parsed_set_dirty : List (List ℕ) → List (List ℕ) → Option Action
+parsed_set_dirty names ws = do
   word ← next (word_of names) ws
-  lsn ← stamp_of word.1
+  lsn ← parsed_stamp word.1
   Some (action.SetDirty word.0 lsn)
 
 -- unpin HOLD
-unfoldable pub unpin_of : List (List ℕ) → List (List ℕ) → Option Action
-unpin_of names ws = do
+unfoldable pub parsed_unpin : List (List ℕ) → List (List ℕ) → Option Action
+parsed_unpin names ws = do
   word ← next (word_of names) ws
   ended word.1 (action.Unpin word.0)
 
 -- repin HOLD HOLD
-unfoldable pub repin_of : List (List ℕ) → List (List ℕ) → Option (Action × List (List ℕ))
-repin_of names ws = do
+unfoldable pub parsed_repin : List (List ℕ) → List (List ℕ) → Option (Action × List (List ℕ))
+parsed_repin names ws = do
   word ← next (word_of names) ws
-  name ← next name_of word.1
+  name ← next name_of_word word.1
   bound ← new_word names name.0
   ended name.1 (action.Repin word.0 bound.0, bound.1)
 
 -- unrepin HOLD [through], where `through` is of a run alone
-unfoldable pub unpin_repinned_of : Mode → List (List ℕ) → List (List ℕ) → Option Action
-unpin_repinned_of mode.Run names ws = do
+unfoldable pub parsed_unpin_repinned : Mode → List (List ℕ) → List (List ℕ) → Option Action
+parsed_unpin_repinned mode.Run names ws = do
   word ← next (word_of names) ws
   ended (flag (codes "through") word.1).1 (action.UnpinRepinned word.0 (flag (codes "through") word.1).0)
-unpin_repinned_of mode.Steps names ws = do
+parsed_unpin_repinned mode.Steps names ws = do
   word ← next (word_of names) ws
   ended word.1 (action.UnpinRepinned word.0 false)
 
 -- mdlread FILE AT LEN HOLD
-unfoldable pub mdl_read_of : List StreamLine → List (List ℕ) → List (List ℕ) → Option (Action × List (List ℕ))
-mdl_read_of streams names ws = do
-  on ← stretch_of streams names ws
+unfoldable pub parsed_mdl_read : List StreamLine → List (List ℕ) → List (List ℕ) → Option (Action × List (List ℕ))
+parsed_mdl_read streams names ws = do
+  on ← parsed_stretch streams names ws
   ended on.2 (action.MdlRead on.0.file on.0.at on.0.len on.0.word, on.1)
 
 -- mdlwrite FILE AT LEN HOLD
-unfoldable pub mdl_write_of : List StreamLine → List (List ℕ) → List (List ℕ) → Option (Action × List (List ℕ))
-mdl_write_of streams names ws = do
-  on ← stretch_of streams names ws
+unfoldable pub parsed_mdl_write : List StreamLine → List (List ℕ) → List (List ℕ) → Option (Action × List (List ℕ))
+parsed_mdl_write streams names ws = do
+  on ← parsed_stretch streams names ws
   ended on.2 (action.MdlWrite on.0.file on.0.at on.0.len on.0.word, on.1)
 
 -- mdlget HOLD AT LEN
-unfoldable pub mdl_bytes_of : List (List ℕ) → List (List ℕ) → Option Action
-mdl_bytes_of names ws = do
+unfoldable pub parsed_mdl_bytes : List (List ℕ) → List (List ℕ) → Option Action
+parsed_mdl_bytes names ws = do
   word ← next (word_of names) ws
-  at ← next number_of word.1
+  at ← next parsed_number word.1
   len ← next (number_between 0 2097152) at.1
   ended len.1 (action.MdlBytes word.0 at.0 len.0)
 
 -- mdlput HOLD AT BYTES
-unfoldable pub mdl_store_of : List (List ℕ) → List (List ℕ) → Option Action
-mdl_store_of names ws = do
+unfoldable pub parsed_mdl_store : List (List ℕ) → List (List ℕ) → Option Action
+parsed_mdl_store names ws = do
   word ← next (word_of names) ws
-  at ← next number_of word.1
-  bytes ← next bytes_of at.1
+  at ← next parsed_number word.1
+  bytes ← next parsed_bytes at.1
   ended bytes.1 (action.MdlStore word.0 at.0 bytes.0)
 
 -- mdldone HOLD, mdlabort HOLD
-unfoldable pub mdl_done_of : List (List ℕ) → List (List ℕ) → Option Action
-mdl_done_of names ws = do
+unfoldable pub parsed_mdl_done : List (List ℕ) → List (List ℕ) → Option Action
+parsed_mdl_done names ws = do
   word ← next (word_of names) ws
   ended word.1 (action.MdlDone word.0)
 
-unfoldable pub mdl_abort_of : List (List ℕ) → List (List ℕ) → Option Action
-mdl_abort_of names ws = do
+unfoldable pub parsed_mdl_abort : List (List ℕ) → List (List ℕ) → Option Action
+parsed_mdl_abort names ws = do
   word ← next (word_of names) ws
   ended word.1 (action.MdlAbort word.0)

@@ -13,5 +13,5 @@ unfoldable pub new_word : List (List ℕ) → List ℕ → Option (ℕ × List (
 new_word names name = if is_some (word_of names name) then None else Some (length names, names ++ name ∷ [])
 
 -- the words as bytes
-abbrev pub spelled : {A : Type 0} → List (Vec ℕ A) → List (List ℕ)
-spelled words = map (λ word. word.items) words
+abbrev pub words_as_bytes : {A : Type 0} → List (Vec ℕ A) → List (List ℕ)
+words_as_bytes words = map (λ word. word.items) words

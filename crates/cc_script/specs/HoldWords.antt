@@ -23,32 +23,32 @@ meets need.WriteChain k = is_write_chain k
 meets need.Chain k = is_read_chain k || is_write_chain k
 
 -- the bytes lie in those of the hold
-abbrev pub covers : ℕ → ℕ → Bound → Bool
-covers at len b = nat_le b.at at && nat_le (at + len) (b.at + b.len)
+abbrev pub bound_covers : ℕ → ℕ → Bound → Bool
+bound_covers at len b = nat_le b.at at && nat_le (at + len) (b.at + b.len)
 
 -- a word may be used: it was bound, its hold was not ended, and is of a kind that serves
-abbrev pub is_open : Need → Option Bound → Bool
-is_open n None = false
-is_open n (Some b) = not b.ended && meets n b.kind
+abbrev pub is_usable_word : Need → Option Bound → Bool
+is_usable_word n None = false
+is_usable_word n (Some b) = not b.ended && meets n b.kind
 
 -- and the bytes lie in the hold
-abbrev pub has_range : Need → ℕ → ℕ → Option Bound → Bool
-has_range n at len None = false
-has_range n at len (Some b) = is_open n (Some b) && covers at len b
+abbrev pub bound_has_range : Need → ℕ → ℕ → Option Bound → Bool
+bound_has_range n at len None = false
+bound_has_range n at len (Some b) = is_usable_word n (Some b) && bound_covers at len b
 
 -- the words that an action uses may be used, where its caller bound these before
 unfoldable pub may_use : Action → List Bound → Bool
-may_use (action.PinMapped word _) bounds = is_open need.Map (slice_get bounds word)
-may_use (action.HeldRead word at len) bounds = has_range need.MapOrPin at len (slice_get bounds word)
-may_use (action.PinnedWrite word at bytes) bounds = has_range need.Pin at (length bytes) (slice_get bounds word)
-may_use (action.SetDirty word _) bounds = is_open need.Pin (slice_get bounds word)
-may_use (action.Unpin word) bounds = is_open need.MapOrPin (slice_get bounds word)
-may_use (action.Repin word _) bounds = is_open need.Pin (slice_get bounds word)
-may_use (action.UnpinRepinned word _) bounds = is_open need.Repin (slice_get bounds word)
-may_use (action.MdlBytes word at len) bounds = has_range need.ReadChain at len (slice_get bounds word)
-may_use (action.MdlStore word at bytes) bounds = has_range need.WriteChain at (length bytes) (slice_get bounds word)
-may_use (action.MdlDone word) bounds = is_open need.Chain (slice_get bounds word)
-may_use (action.MdlAbort word) bounds = is_open need.WriteChain (slice_get bounds word)
+may_use (action.PinMapped word _) bounds = is_usable_word need.Map (slice_get bounds word)
+may_use (action.HeldRead word at len) bounds = bound_has_range need.MapOrPin at len (slice_get bounds word)
+may_use (action.PinnedWrite word at bytes) bounds = bound_has_range need.Pin at (length bytes) (slice_get bounds word)
+may_use (action.SetDirty word _) bounds = is_usable_word need.Pin (slice_get bounds word)
+may_use (action.Unpin word) bounds = is_usable_word need.MapOrPin (slice_get bounds word)
+may_use (action.Repin word _) bounds = is_usable_word need.Pin (slice_get bounds word)
+may_use (action.UnpinRepinned word _) bounds = is_usable_word need.Repin (slice_get bounds word)
+may_use (action.MdlBytes word at len) bounds = bound_has_range need.ReadChain at len (slice_get bounds word)
+may_use (action.MdlStore word at bytes) bounds = bound_has_range need.WriteChain at (length bytes) (slice_get bounds word)
+may_use (action.MdlDone word) bounds = is_usable_word need.Chain (slice_get bounds word)
+may_use (action.MdlAbort word) bounds = is_usable_word need.WriteChain (slice_get bounds word)
 may_use other bounds = true
 
 -- a hold of this kind on bytes of a file
@@ -56,9 +56,9 @@ abbrev pub fresh : HoldKind → File → ℕ → ℕ → Bound
 fresh k file at len = record { kind = k; file = file; at = at; len = len; ended = false }
 
 -- the hold of a word changes, where the word was bound
-abbrev pub changed : (Bound → Bound) → Option Bound → List Bound → ℕ → List Bound
-changed change None bounds word = bounds
-changed change (Some b) bounds word = slice_set bounds word (change b)
+abbrev pub with_hold_changed : (Bound → Bound) → Option Bound → List Bound → ℕ → List Bound
+with_hold_changed change None bounds word = bounds
+with_hold_changed change (Some b) bounds word = slice_set bounds word (change b)
 
 -- a map becomes a pin; a hold is ended; a repin has the bytes of its pin
 abbrev pub as_pin : Bound → Bound
@@ -67,27 +67,27 @@ as_pin b = record b { kind = kind.Pin }
 abbrev pub as_ended : Bound → Bound
 as_ended b = record b { ended = true }
 
-abbrev pub repinned : Option Bound → List Bound
-repinned None = []
-repinned (Some b) = fresh kind.Repin b.file b.at b.len ∷ []
+abbrev pub bound_repinned : Option Bound → List Bound
+bound_repinned None = []
+bound_repinned (Some b) = fresh kind.Repin b.file b.at b.len ∷ []
 
 -- what a caller bound, behind one more line
 abbrev pub bound_after : Action → List Bound → List Bound
 bound_after (action.Map file at len _) bounds = bounds ++ fresh kind.Map file at len ∷ []
 bound_after (action.PinRead file at len _ _) bounds = bounds ++ fresh kind.Pin file at len ∷ []
-bound_after (action.PinMapped word _) bounds = changed as_pin (slice_get bounds word) bounds word
+bound_after (action.PinMapped word _) bounds = with_hold_changed as_pin (slice_get bounds word) bounds word
 bound_after (action.PreparePin file at len _ _ _) bounds = bounds ++ fresh kind.Pin file at len ∷ []
-bound_after (action.Unpin word) bounds = changed as_ended (slice_get bounds word) bounds word
-bound_after (action.Repin word _) bounds = bounds ++ repinned (slice_get bounds word)
-bound_after (action.UnpinRepinned word _) bounds = changed as_ended (slice_get bounds word) bounds word
+bound_after (action.Unpin word) bounds = with_hold_changed as_ended (slice_get bounds word) bounds word
+bound_after (action.Repin word _) bounds = bounds ++ bound_repinned (slice_get bounds word)
+bound_after (action.UnpinRepinned word _) bounds = with_hold_changed as_ended (slice_get bounds word) bounds word
 bound_after (action.MdlRead file at len _) bounds = bounds ++ fresh kind.ReadChain file at len ∷ []
 bound_after (action.MdlWrite file at len _) bounds = bounds ++ fresh kind.WriteChain file at len ∷ []
-bound_after (action.MdlDone word) bounds = changed as_ended (slice_get bounds word) bounds word
-bound_after (action.MdlAbort word) bounds = changed as_ended (slice_get bounds word) bounds word
+bound_after (action.MdlDone word) bounds = with_hold_changed as_ended (slice_get bounds word) bounds word
+bound_after (action.MdlAbort word) bounds = with_hold_changed as_ended (slice_get bounds word) bounds word
 bound_after other bounds = bounds
 
 -- A word names a hold that its caller bound, of a kind that serves, and that no line ended.
-pub record Uses (n : Need) (bounds : List Bound) (word : ℕ) : Type 0 where
+pub record UsesHold (n : Need) (bounds : List Bound) (word : ℕ) : Type 0 where
   pub bound : Bound
   pub named : slice_get bounds word ≡ Some bound
   pub still : bound.ended ≡ false
@@ -95,7 +95,7 @@ pub record Uses (n : Need) (bounds : List Bound) (word : ℕ) : Type 0 where
 
 -- and the bytes lie in those of the hold
 pub record UsesBytes (n : Need) (bounds : List Bound) (word at len : ℕ) : Type 0 where
-  pub uses : Uses n bounds word
+  pub uses : UsesHold n bounds word
   pub from : uses.bound.at ≤ at
   pub to : at + len ≤ uses.bound.at + uses.bound.len
 
@@ -104,20 +104,20 @@ pub record UsesBytes (n : Need) (bounds : List Bound) (word at len : ℕ) : Type
 abbrev pub UsesRight : List Bound → Action → Type 0
 UsesRight bounds (action.Map _ _ _ word) = word ≡ length bounds
 UsesRight bounds (action.PinRead _ _ _ word _) = word ≡ length bounds
-UsesRight bounds (action.PinMapped word _) = Uses need.Map bounds word
+UsesRight bounds (action.PinMapped word _) = UsesHold need.Map bounds word
 UsesRight bounds (action.PreparePin _ _ _ word _ _) = word ≡ length bounds
 UsesRight bounds (action.HeldRead word at len) = UsesBytes need.MapOrPin bounds word at len
 UsesRight bounds (action.PinnedWrite word at bytes) = UsesBytes need.Pin bounds word at (length bytes)
-UsesRight bounds (action.SetDirty word _) = Uses need.Pin bounds word
-UsesRight bounds (action.Unpin word) = Uses need.MapOrPin bounds word
-UsesRight bounds (action.Repin word made) = Uses need.Pin bounds word × (made ≡ length bounds)
-UsesRight bounds (action.UnpinRepinned word _) = Uses need.Repin bounds word
+UsesRight bounds (action.SetDirty word _) = UsesHold need.Pin bounds word
+UsesRight bounds (action.Unpin word) = UsesHold need.MapOrPin bounds word
+UsesRight bounds (action.Repin word made) = UsesHold need.Pin bounds word × (made ≡ length bounds)
+UsesRight bounds (action.UnpinRepinned word _) = UsesHold need.Repin bounds word
 UsesRight bounds (action.MdlRead _ _ _ word) = word ≡ length bounds
 UsesRight bounds (action.MdlWrite _ _ _ word) = word ≡ length bounds
 UsesRight bounds (action.MdlBytes word at len) = UsesBytes need.ReadChain bounds word at len
 UsesRight bounds (action.MdlStore word at bytes) = UsesBytes need.WriteChain bounds word at (length bytes)
-UsesRight bounds (action.MdlDone word) = Uses need.Chain bounds word
-UsesRight bounds (action.MdlAbort word) = Uses need.WriteChain bounds word
+UsesRight bounds (action.MdlDone word) = UsesHold need.Chain bounds word
+UsesRight bounds (action.MdlAbort word) = UsesHold need.WriteChain bounds word
 UsesRight bounds other = Unit {0}
 
 -- behind a line that is the caller's, or that of another, which changes nothing

@@ -10,21 +10,21 @@ use Rattle.cc_script.specs.declared.script.Action.{Action}
 use Rattle.cc_script.specs.declared.script.Action.TheVariants as action
 use Rattle.cc_script.specs.declared.script.ActionLine.{ActionLine}
 use Rattle.cc_script.specs.Text.{lines}
-use Rattle.cc_script.specs.Words.{number_of, is_name, caller_of, bytes_of}
-use Rattle.cc_script.specs.Actions.{stream_named, file_of, copy_read_of}
+use Rattle.cc_script.specs.Words.{parsed_number, is_name, parsed_caller, parsed_bytes}
+use Rattle.cc_script.specs.Actions.{stream_named, parsed_file, parsed_copy_read}
 use Rattle.cc_script.specs.Verbs.{verb_text, verb_of}
-use Rattle.cc_script.specs.ShimActions.{path_text, path_of}
+use Rattle.cc_script.specs.ShimActions.{path_text, parsed_path}
 use Rattle.cc_script.specs.declared.script.Mode.{Mode}
 use Rattle.cc_script.specs.declared.script.Script.{Script}
-use Rattle.cc_script.specs.Grammar.{stream_of, setting_of, script_of}
+use Rattle.cc_script.specs.Grammar.{parsed_stream, parsed_setting, script_of}
 use Rattle.cc_script.specs.declared.bound.Bound.{Bound}
 use Rattle.cc_script.specs.HoldWords.{bound_so_far, AreUsedRight, words_bound}
-use Rattle.cc_script.specs.Within.{PhasesAscend, IsWithin}
+use Rattle.cc_script.specs.Within.{PhasesAscend, ScriptIsWithin}
 use Rattle.cc_script.specs.Modes.{IsOfMode, IsStreamOf}
 
 -- a number's word is exactly its decimal text
 abbrev pub NumbersAreDecimal : Type 0
-NumbersAreDecimal = (word : List ℕ) (n : ℕ) → (number_of word ≡ Some n) ↔ ((n < 2 ^ 64) × (word ≡ decimal n))
+NumbersAreDecimal = (word : List ℕ) (n : ℕ) → (parsed_number word ≡ Some n) ↔ ((n < 2 ^ 64) × (word ≡ decimal n))
 
 -- no two verbs have one text, and the reader finds each
 abbrev pub VerbsDiffer : Type 0
@@ -35,14 +35,14 @@ VerbsAreFound = (v : Verb) → verb_of (verb_text v) ≡ Some v
 
 -- no verb is a caller word
 abbrev pub VerbsAreNoCallers : Type 0
-VerbsAreNoCallers = (v : Verb) → caller_of (verb_text v) ≡ None
+VerbsAreNoCallers = (v : Verb) → parsed_caller (verb_text v) ≡ None
 
 -- no two paths of a read have one word, and the reader finds each
 abbrev pub PathsDiffer : Type 0
 PathsDiffer = (p q : ReadPath) → path_text p ≡ path_text q → p ≡ q
 
 abbrev pub PathsAreFound : Type 0
-PathsAreFound = (p : ReadPath) → path_of (path_text p) ≡ Some p
+PathsAreFound = (p : ReadPath) → parsed_path (path_text p) ≡ Some p
 
 -- the lines, joined by line feeds, are the bytes, but for a line feed at the end; no line has one inside
 abbrev pub LinesJoin : Type 0
@@ -90,12 +90,12 @@ pub record IsSpelling (items : List Item) (word bytes : List ℕ) : Type 0 where
   pub most : length bytes ≤ 2097152
 
 -- a word spells bytes: `-` spells none, and items spell theirs in their order
-abbrev pub Spells : List ℕ → List ℕ → Type 0
-Spells word bytes = ((word ≡ codes "-") × (bytes ≡ [])) ⊎ ((items : List Item) × IsSpelling items word bytes)
+abbrev pub SpellsBytes : List ℕ → List ℕ → Type 0
+SpellsBytes word bytes = ((word ≡ codes "-") × (bytes ≡ [])) ⊎ ((items : List Item) × IsSpelling items word bytes)
 
 -- the words that are read as bytes are those that spell them
 abbrev pub WordsSpell : Type 0
-WordsSpell = (word bytes : List ℕ) → (bytes_of word ≡ Some bytes) ↔ Spells word bytes
+WordsSpell = (word bytes : List ℕ) → (parsed_bytes word ≡ Some bytes) ↔ SpellsBytes word bytes
 
 -- a word where a flag is set, and none where it is not
 abbrev pub flag_words : List ℕ → Bool → List (List ℕ)
@@ -131,7 +131,7 @@ pub record IsStreamSpelling (m : Mode) (n : ℕ) (ws : List (List ℕ)) (stream 
 abbrev pub StreamsSpell : Type 0
 StreamsSpell =
     (m : Mode) (n : ℕ) (ws : List (List ℕ)) (stream : StreamLine) →
-    (stream_of m n ws ≡ Some stream) ↔ IsStreamSpelling m n ws stream
+    (parsed_stream m n ws ≡ Some stream) ↔ IsStreamSpelling m n ws stream
 
 -- no byte of a name is a colon
 abbrev pub has_no_colon : List ℕ → Bool
@@ -151,7 +151,7 @@ pub record IsFileSpelling (streams : List StreamLine) (word : List ℕ) (file : 
 -- the words that are read as a file are those that name one
 abbrev pub FilesSpell : Type 0
 FilesSpell =
-    (streams : List StreamLine) (word : List ℕ) (file : File) → (file_of streams word ≡ Some file) ↔ IsFileSpelling streams word file
+    (streams : List StreamLine) (word : List ℕ) (file : File) → (parsed_file streams word ≡ Some file) ↔ IsFileSpelling streams word file
 
 -- the words behind `cread` for this read
 pub record IsReadSpelling (streams : List StreamLine) (ws : List (List ℕ)) (asked : Action) : Type 0 where
@@ -161,7 +161,7 @@ pub record IsReadSpelling (streams : List StreamLine) (ws : List (List ℕ)) (as
   pub len : ℕ
   pub wait : Bool
   pub words : ws ≡ name ∷ decimal at ∷ decimal len ∷ flag_words (codes "nowait") (not wait)
-  pub named : file_of streams name ≡ Some file
+  pub named : parsed_file streams name ≡ Some file
   pub at_fits : at < 2 ^ 64
   pub len_fits : len ≤ 2097152
   pub asks : asked ≡ action.CopyRead file at len wait
@@ -169,7 +169,7 @@ pub record IsReadSpelling (streams : List StreamLine) (ws : List (List ℕ)) (as
 abbrev pub ReadsSpell : Type 0
 ReadsSpell =
     (streams : List StreamLine) (ws : List (List ℕ)) (asked : Action) →
-    (copy_read_of streams ws ≡ Some asked) ↔ IsReadSpelling streams ws asked
+    (parsed_copy_read streams ws ≡ Some asked) ↔ IsReadSpelling streams ws asked
 
 -- the word behind the verb of a line that sets a number
 abbrev pub SpellsSetting : ℕ → ℕ → List (List ℕ) → ℕ → Type 0
@@ -177,11 +177,11 @@ SpellsSetting low high ws n = (low ≤ n) × (n ≤ high) × (ws ≡ decimal n �
 
 abbrev pub SettingsSpell : Type 0
 SettingsSpell =
-    (low high : ℕ) (ws : List (List ℕ)) (n : ℕ) → high < 2 ^ 64 → (setting_of low high ws ≡ Some n) ↔ SpellsSetting low high ws n
+    (low high : ℕ) (ws : List (List ℕ)) (n : ℕ) → high < 2 ^ 64 → (parsed_setting low high ws ≡ Some n) ↔ SpellsSetting low high ws n
 
 -- every script of the grammar keeps within what its run may rely on
 abbrev pub ScriptsAreWithin : Type 0
-ScriptsAreWithin = (mode : Mode) (bytes : List ℕ) (script : Script) → script_of mode bytes ≡ Ok script → IsWithin script
+ScriptsAreWithin = (mode : Mode) (bytes : List ℕ) (script : Script) → script_of mode bytes ≡ Ok script → ScriptIsWithin script
 
 -- and has the actions of its mode alone
 abbrev pub ScriptsAreOfMode : Type 0

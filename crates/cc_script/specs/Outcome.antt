@@ -21,9 +21,9 @@ Becomes given (Err fault.Syntax) new = given ≡ None
 Becomes given (Err fault.NoMemory) new = Unit {0}
 
 -- a value is read, and what is left behind it
-abbrev pub Takes : {A B : Type 0} → Option (A × B) → Option A → B → Type 0
-Takes given (Some value) rest = given ≡ Some (value, rest)
-Takes given None rest = given ≡ None
+abbrev pub ReadsValue : {A B : Type 0} → Option (A × B) → Option A → B → Type 0
+ReadsValue given (Some value) rest = given ≡ Some (value, rest)
+ReadsValue given None rest = given ≡ None
 
 -- the same of a reader that may find no memory
 abbrev pub TakesIf : {A B : Type 0} → Option (A × B) → Result A LineFault → B → Type 0

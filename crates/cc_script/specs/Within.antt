@@ -129,7 +129,7 @@ AreRestartsWithin (restart ∷ restarts) =
     (restart.handle < 4) × (has_restart restart.handle restarts ≡ false) × AreRestartsWithin restarts
 
 -- a script keeps within what its run may rely on
-pub record IsWithin (script : Script) : Type 0 where
+pub record ScriptIsWithin (script : Script) : Type 0 where
   pub header : IsHeaderWithin script
   pub first_phase : 1 ≤ script.phases
   pub last_phase : script.phases ≤ 1001

@@ -15,14 +15,14 @@ number_onto n (d ∷ digits) =
     else None
 
 -- a number: decimal, `0` or without a leading zero, below 2^64
-unfoldable pub number_of : List ℕ → Option ℕ
-number_of [] = None
-number_of (d ∷ digits) = if d == 48 && nat_lt 0 (length digits) then None else number_onto 0 (d ∷ digits)
+unfoldable pub parsed_number : List ℕ → Option ℕ
+parsed_number [] = None
+parsed_number (d ∷ digits) = if d == 48 && nat_lt 0 (length digits) then None else number_onto 0 (d ∷ digits)
 
 -- a number from `low` to `high`
 unfoldable pub number_between : ℕ → ℕ → List ℕ → Option ℕ
 number_between low high word = do
-  n ← number_of word
+  n ← parsed_number word
   if nat_le low n && nat_le n high then Some n else None
 
 abbrev pub is_lower_case : ℕ → Bool
@@ -36,23 +36,23 @@ unfoldable pub is_name : List ℕ → Bool
 is_name [] = false
 is_name (c ∷ more) = is_lower_case c && (nat_le (length more) 15 && list_all is_name_byte (c ∷ more))
 
-unfoldable pub name_of : List ℕ → Option (List ℕ)
-name_of word = if is_name word then Some word else None
+unfoldable pub name_of_word : List ℕ → Option (List ℕ)
+name_of_word word = if is_name word then Some word else None
 
 -- a caller word: `t1` to `t16`
-unfoldable pub caller_of : List ℕ → Option ℕ
-caller_of [] = None
-caller_of (c ∷ number) = if c == 116 then number_between 1 16 number else None
+unfoldable pub parsed_caller : List ℕ → Option ℕ
+parsed_caller [] = None
+parsed_caller (c ∷ number) = if c == 116 then number_between 1 16 number else None
 
 -- an upper-case hexadecimal digit
-abbrev pub hex_digit_of : ℕ → Option ℕ
-hex_digit_of c = if is_ascii_digit c then Some (c - 48) else (if nat_le 65 c && nat_le c 70 then Some (c - 55) else None)
+abbrev pub parsed_hex_digit : ℕ → Option ℕ
+parsed_hex_digit c = if is_ascii_digit c then Some (c - 48) else (if nat_le 65 c && nat_le c 70 then Some (c - 55) else None)
 
 -- a byte as a pair of digits
-unfoldable pub pair_of : ℕ → ℕ → Option ℕ
-pair_of a b = do
-  high ← hex_digit_of a
-  low ← hex_digit_of b
+unfoldable pub parsed_pair : ℕ → ℕ → Option ℕ
+parsed_pair a b = do
+  high ← parsed_hex_digit a
+  low ← parsed_hex_digit b
   Some (16 * high + low)
 
 -- `count` bytes of one value after others, in all at most 2097152
@@ -62,7 +62,7 @@ with_bytes before byte count = if nat_le (length before + count) 2097152 then So
 -- a pair of digits, one byte
 unfoldable pub pair_onto : List ℕ → ℕ → ℕ → Option (List ℕ)
 pair_onto before a b = do
-  byte ← pair_of a b
+  byte ← parsed_pair a b
   with_bytes before byte 1
 
 -- pairs of digits, one byte each
@@ -76,7 +76,7 @@ pairs_onto before (a ∷ b ∷ more) = do
 -- a pair, `x` and how many bytes there are of that value
 unfoldable pub run_onto : List ℕ → ℕ → ℕ → List ℕ → Option (List ℕ)
 run_onto before a b number = do
-  byte ← pair_of a b
+  byte ← parsed_pair a b
   count ← number_between 1 2097152 number
   with_bytes before byte count
 
@@ -94,5 +94,5 @@ items_onto before (item ∷ more) = do
   items_onto bytes more
 
 -- bytes: `-` for none, or items parted by commas
-unfoldable pub bytes_of : List ℕ → Option (List ℕ)
-bytes_of word = if bytes_eq word (codes "-") then Some [] else items_onto [] (parts 44 word)
+unfoldable pub parsed_bytes : List ℕ → Option (List ℕ)
+parsed_bytes word = if bytes_eq word (codes "-") then Some [] else items_onto [] (parts 44 word)

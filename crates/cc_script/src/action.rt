@@ -2,7 +2,7 @@
 
 ghost use Rattle.std.specs.Prelude.{◌≡◌};
 ghost use Rattle.cc_script.specs.Outcome.{Gives, TakesIf};
-ghost use Rattle.cc_script.specs.Actions.{initialise_of, uninitialise_of, copy_read_of, copy_write_of, zero_of, nc_read_of, nc_write_of, set_sizes_of, state_of, flush_of, purge_of, discard_of, set_log_of, append_of, log_flush_of, dirty_pages_of, lsn_for_file_of, ended};
+ghost use Rattle.cc_script.specs.Actions.{parsed_initialise, parsed_uninitialise, parsed_copy_read, parsed_copy_write, parsed_zero, parsed_nc_read, parsed_nc_write, parsed_set_sizes, parsed_state, parsed_flush, parsed_purge, parsed_discard, parsed_set_log, parsed_append, parsed_log_flush, parsed_dirty_pages, parsed_lsn_for_file, ended};
 ghost use Rattle.cc_script.specs.EventActions.{nc_read_in, nc_write_in};
 ghost use Rattle.cc_script.specs.ActionTable.{action_of, bytes_counted, dirty_lines};
 ghost use Rattle.cc_script.specs.declared.script.Action.TheVariants as action;
@@ -24,9 +24,9 @@ use crate::shim_action::{checkpoint, levels, lock, read, settle, unlock, update,
 use crate::verb::Verb;
 use std::alloc::Global;
 
-#[tactic(auto, unfolding(crate::specs::Actions::initialise_of))]
+#[tactic(auto, unfolding(crate::specs::Actions::parsed_initialise))]
 fn initialise(streams: &StreamLines, words: &mut Words) -> Option<Action>
-    ensures { result ≡ initialise_of streams.now words.old }
+    ensures { result ≡ parsed_initialise streams.now words.old }
 {
     let file = words.file(streams)?;
     let sizes = words.sizes()?;
@@ -44,18 +44,18 @@ fn initialise(streams: &StreamLines, words: &mut Words) -> Option<Action>
     }
 }
 
-#[tactic(auto, unfolding(crate::specs::Actions::uninitialise_of))]
+#[tactic(auto, unfolding(crate::specs::Actions::parsed_uninitialise))]
 fn uninitialise(streams: &StreamLines, words: &mut Words) -> Option<Action>
-    ensures { result ≡ uninitialise_of streams.now words.old }
+    ensures { result ≡ parsed_uninitialise streams.now words.old }
 {
     let file = words.file(streams)?;
     let truncate = words.optional_number()?;
     Some(Action::Uninitialise { file, truncate })
 }
 
-#[tactic(auto, unfolding(crate::specs::Actions::copy_read_of))]
+#[tactic(auto, unfolding(crate::specs::Actions::parsed_copy_read))]
 fn copy_read(streams: &StreamLines, words: &mut Words) -> Option<Action>
-    ensures { result ≡ copy_read_of streams.now words.old }
+    ensures { result ≡ parsed_copy_read streams.now words.old }
 {
     let file = words.file(streams)?;
     let at = words.number()?;
@@ -73,9 +73,9 @@ fn copy_read(streams: &StreamLines, words: &mut Words) -> Option<Action>
     }
 }
 
-#[tactic(auto, unfolding(crate::specs::Actions::copy_write_of))]
+#[tactic(auto, unfolding(crate::specs::Actions::parsed_copy_write))]
 fn copy_write(alloc: Global, streams: &StreamLines, words: &mut Words) -> Result<Action, LineFault>
-    ensures { Gives (copy_write_of streams.now words.old) result }
+    ensures { Gives (parsed_copy_write streams.now words.old) result }
 {
     let file = words.file(streams).ok_or(LineFault::Syntax)?;
     let at = words.number().ok_or(LineFault::Syntax)?;
@@ -87,9 +87,9 @@ fn copy_write(alloc: Global, streams: &StreamLines, words: &mut Words) -> Result
     }
 }
 
-#[tactic(auto, unfolding(crate::specs::Actions::zero_of))]
+#[tactic(auto, unfolding(crate::specs::Actions::parsed_zero))]
 fn zero(streams: &StreamLines, words: &mut Words) -> Option<Action>
-    ensures { result ≡ zero_of streams.now words.old }
+    ensures { result ≡ parsed_zero streams.now words.old }
 {
     let file = words.file(streams)?;
     let span = words.span()?;
@@ -100,9 +100,9 @@ fn zero(streams: &StreamLines, words: &mut Words) -> Option<Action>
     }
 }
 
-#[tactic(auto, unfolding(crate::specs::Actions::nc_read_of))]
+#[tactic(auto, unfolding(crate::specs::Actions::parsed_nc_read))]
 fn nc_read(streams: &StreamLines, words: &mut Words) -> Option<Action>
-    ensures { result ≡ nc_read_of streams.now words.old }
+    ensures { result ≡ parsed_nc_read streams.now words.old }
 {
     let file = words.file(streams)?;
     let at = words.number()?;
@@ -114,9 +114,9 @@ fn nc_read(streams: &StreamLines, words: &mut Words) -> Option<Action>
     }
 }
 
-#[tactic(auto, unfolding(crate::specs::Actions::nc_write_of))]
+#[tactic(auto, unfolding(crate::specs::Actions::parsed_nc_write))]
 fn nc_write(alloc: Global, streams: &StreamLines, words: &mut Words) -> Result<Action, LineFault>
-    ensures { Gives (nc_write_of streams.now words.old) result }
+    ensures { Gives (parsed_nc_write streams.now words.old) result }
 {
     let file = words.file(streams).ok_or(LineFault::Syntax)?;
     let at = words.number().ok_or(LineFault::Syntax)?;
@@ -153,9 +153,9 @@ fn nc_write_in(
     }
 }
 
-#[tactic(auto, unfolding(crate::specs::Actions::set_sizes_of))]
+#[tactic(auto, unfolding(crate::specs::Actions::parsed_set_sizes))]
 fn set_sizes(streams: &StreamLines, words: &mut Words) -> Option<Action>
-    ensures { result ≡ set_sizes_of streams.now words.old }
+    ensures { result ≡ parsed_set_sizes streams.now words.old }
 {
     let file = words.file(streams)?;
     let allocation = words.number()?;
@@ -171,9 +171,9 @@ fn set_sizes(streams: &StreamLines, words: &mut Words) -> Option<Action>
     }
 }
 
-#[tactic(auto, unfolding(crate::specs::Actions::state_of))]
+#[tactic(auto, unfolding(crate::specs::Actions::parsed_state))]
 fn state(streams: &StreamLines, words: &mut Words) -> Option<Action>
-    ensures { result ≡ state_of streams.now words.old }
+    ensures { result ≡ parsed_state streams.now words.old }
 {
     let file = words.file(streams)?;
     if words.is_empty() {
@@ -183,27 +183,27 @@ fn state(streams: &StreamLines, words: &mut Words) -> Option<Action>
     }
 }
 
-#[tactic(auto, unfolding(crate::specs::Actions::flush_of))]
+#[tactic(auto, unfolding(crate::specs::Actions::parsed_flush))]
 fn flush(streams: &StreamLines, words: &mut Words) -> Option<Action>
-    ensures { result ≡ flush_of streams.now words.old }
+    ensures { result ≡ parsed_flush streams.now words.old }
 {
     let file = words.file(streams)?;
     let span = words.optional_span()?;
     Some(Action::Flush { file, span })
 }
 
-#[tactic(auto, unfolding(crate::specs::Actions::purge_of))]
+#[tactic(auto, unfolding(crate::specs::Actions::parsed_purge))]
 fn purge(streams: &StreamLines, words: &mut Words) -> Option<Action>
-    ensures { result ≡ purge_of streams.now words.old }
+    ensures { result ≡ parsed_purge streams.now words.old }
 {
     let file = words.file(streams)?;
     let span = words.optional_span()?;
     Some(Action::Purge { file, span })
 }
 
-#[tactic(auto, unfolding(crate::specs::Actions::discard_of))]
+#[tactic(auto, unfolding(crate::specs::Actions::parsed_discard))]
 fn discard(streams: &StreamLines, words: &mut Words) -> Option<Action>
-    ensures { result ≡ discard_of streams.now words.old }
+    ensures { result ≡ parsed_discard streams.now words.old }
 {
     let file = words.file(streams)?;
     let span = words.optional_span()?;
@@ -220,9 +220,9 @@ fn is_dirty_data(words: &mut Words) -> Option<Action>
     }
 }
 
-#[tactic(auto, unfolding(crate::specs::Actions::set_log_of))]
+#[tactic(auto, unfolding(crate::specs::Actions::parsed_set_log))]
 fn set_log(streams: &StreamLines, words: &mut Words) -> Option<Action>
-    ensures { result ≡ set_log_of streams.now words.old }
+    ensures { result ≡ parsed_set_log streams.now words.old }
 {
     let file = words.file(streams)?;
     let handle = words.handle()?;
@@ -233,9 +233,9 @@ fn set_log(streams: &StreamLines, words: &mut Words) -> Option<Action>
     }
 }
 
-#[tactic(auto, unfolding(crate::specs::Actions::append_of))]
+#[tactic(auto, unfolding(crate::specs::Actions::parsed_append))]
 fn append(alloc: Global, words: &mut Words) -> Result<Action, LineFault>
-    ensures { Gives (append_of words.old) result }
+    ensures { Gives (parsed_append words.old) result }
 {
     let handle = words.handle().ok_or(LineFault::Syntax)?;
     let bytes = words.bytes(alloc)?;
@@ -246,9 +246,9 @@ fn append(alloc: Global, words: &mut Words) -> Result<Action, LineFault>
     }
 }
 
-#[tactic(auto, unfolding(crate::specs::Actions::log_flush_of))]
+#[tactic(auto, unfolding(crate::specs::Actions::parsed_log_flush))]
 fn log_flush(words: &mut Words) -> Option<Action>
-    ensures { result ≡ log_flush_of words.old }
+    ensures { result ≡ parsed_log_flush words.old }
 {
     let handle = words.handle()?;
     let lsn = words.lsn()?;
@@ -259,9 +259,9 @@ fn log_flush(words: &mut Words) -> Option<Action>
     }
 }
 
-#[tactic(auto, unfolding(crate::specs::Actions::dirty_pages_of))]
+#[tactic(auto, unfolding(crate::specs::Actions::parsed_dirty_pages))]
 fn dirty_pages(words: &mut Words) -> Option<Action>
-    ensures { result ≡ dirty_pages_of words.old }
+    ensures { result ≡ parsed_dirty_pages words.old }
 {
     let handle = words.handle()?;
     if words.is_empty() {
@@ -271,9 +271,9 @@ fn dirty_pages(words: &mut Words) -> Option<Action>
     }
 }
 
-#[tactic(auto, unfolding(crate::specs::Actions::lsn_for_file_of))]
+#[tactic(auto, unfolding(crate::specs::Actions::parsed_lsn_for_file))]
 fn lsn_for_file(streams: &StreamLines, words: &mut Words) -> Option<Action>
-    ensures { result ≡ lsn_for_file_of streams.now words.old }
+    ensures { result ≡ parsed_lsn_for_file streams.now words.old }
 {
     let file = words.file(streams)?;
     if words.is_empty() {

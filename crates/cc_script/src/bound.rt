@@ -2,7 +2,7 @@
 
 ghost use Rattle.std.specs.Prelude.{◌≡◌, ◌∷◌, ◌++◌, [], slice_get, OnOk};
 ghost use Rattle.cc_entry.specs.declared.hold.HoldKind.TheVariants as kind;
-ghost use Rattle.cc_script.specs.HoldWords.{meets, covers, is_open, has_range, may_use, fresh, as_pin, as_ended, changed, repinned, bound_after};
+ghost use Rattle.cc_script.specs.HoldWords.{meets, bound_covers, is_usable_word, bound_has_range, may_use, fresh, as_pin, as_ended, with_hold_changed, bound_repinned, bound_after};
 
 use crate::hold_word::HoldWord;
 use crate::script::Action;
@@ -62,13 +62,13 @@ impl Bound {
     }
 
     fn covers(&self, at: u64, len: u64) -> bool
-        ensures { result ≡ covers at len self.now }
+        ensures { result ≡ bound_covers at len self.now }
     {
         self.at <= at && at - self.at <= self.len && len <= self.len - (at - self.at)
     }
 
     fn is_open(&self, need: Need) -> bool
-        ensures { result ≡ is_open need (Some self.now) }
+        ensures { result ≡ is_usable_word need (Some self.now) }
     {
         !self.ended && need.is_met_by(self.kind)
     }
@@ -105,7 +105,7 @@ impl Bounds {
     }
 
     fn is_open(&self, word: HoldWord, need: Need) -> bool
-        ensures { result ≡ is_open need (slice_get self.now word) }
+        ensures { result ≡ is_usable_word need (slice_get self.now word) }
     {
         match self.get(word) {
             Some(bound) => bound.is_open(need),
@@ -114,7 +114,7 @@ impl Bounds {
     }
 
     fn has_range(&self, word: HoldWord, need: Need, at: u64, len: u64) -> bool
-        ensures { result ≡ has_range need at len (slice_get self.now word) }
+        ensures { result ≡ bound_has_range need at len (slice_get self.now word) }
     {
         match self.get(word) {
             Some(bound) => bound.is_open(need) && bound.covers(at, len),
@@ -159,7 +159,7 @@ impl Bounds {
 
     // The map of a word becomes a pin.
     fn pin(&mut self, word: HoldWord)
-        ensures { self.new ≡ changed as_pin (slice_get self.old word) self.old word }
+        ensures { self.new ≡ with_hold_changed as_pin (slice_get self.old word) self.old word }
     {
         if word.number() < self.items.len() {
             self.items[word.number()].kind = HoldKind::Pin;
@@ -167,7 +167,7 @@ impl Bounds {
     }
 
     fn end(&mut self, word: HoldWord)
-        ensures { self.new ≡ changed as_ended (slice_get self.old word) self.old word }
+        ensures { self.new ≡ with_hold_changed as_ended (slice_get self.old word) self.old word }
     {
         if word.number() < self.items.len() {
             self.items[word.number()].ended = true;
@@ -176,7 +176,7 @@ impl Bounds {
 
     // Binds a word to a repin of the pin of another.
     fn repin(&mut self, word: HoldWord) -> Result<(), NoMemory>
-        ensures { OnOk result (self.new ≡ self.old ++ repinned (slice_get self.old word)) }
+        ensures { OnOk result (self.new ≡ self.old ++ bound_repinned (slice_get self.old word)) }
     {
         match self.get(word) {
             Some(pin) => self.push(Bound::fresh(HoldKind::Repin, pin.file, pin.at, pin.len)),

@@ -3,7 +3,7 @@
 ghost use Rattle.std.specs.Prelude.{◌≡◌, ◌<◌};
 ghost use Rattle.cc_script.specs.Outcome.{Gives, Becomes};
 ghost use Rattle.cc_script.specs.Text.{parts};
-ghost use Rattle.cc_script.specs.Words.{hex_digit_of, pair_of, with_bytes, pair_onto, pairs_onto, run_onto, item_onto, items_onto, bytes_of};
+ghost use Rattle.cc_script.specs.Words.{parsed_hex_digit, parsed_pair, with_bytes, pair_onto, pairs_onto, run_onto, item_onto, items_onto, parsed_bytes};
 
 use crate::fault::LineFault;
 use crate::part::{first_byte, first_part};
@@ -15,7 +15,7 @@ use std::alloc::Global;
 pub(crate) const LONGEST: u64 = 2097152;
 
 fn hex_digit(c: u8) -> Option<u8>
-    ensures { result ≡ hex_digit_of c }
+    ensures { result ≡ parsed_hex_digit c }
 {
     match c {
         b'0'..=b'9' => Some(c - b'0'),
@@ -24,9 +24,9 @@ fn hex_digit(c: u8) -> Option<u8>
     }
 }
 
-#[tactic(auto, unfolding(crate::specs::Words::pair_of))]
+#[tactic(auto, unfolding(crate::specs::Words::parsed_pair))]
 fn pair(a: u8, b: u8) -> Option<u8>
-    ensures { result ≡ pair_of a b }
+    ensures { result ≡ parsed_pair a b }
 {
     let high = hex_digit(a)?;
     let low = hex_digit(b)?;
@@ -103,9 +103,9 @@ fn append_items(bytes: &mut Bytes, word: &[u8]) -> Result<(), LineFault>
 }
 
 /// The bytes that a word spells.
-#[tactic(auto, unfolding(crate::specs::Words::bytes_of))]
+#[tactic(auto, unfolding(crate::specs::Words::parsed_bytes))]
 pub(crate) fn bytes(alloc: Global, word: &[u8]) -> Result<Bytes, LineFault>
-    ensures { Gives (bytes_of word.now) result }
+    ensures { Gives (parsed_bytes word.now) result }
 {
     let mut bytes = Bytes::new(alloc);
     if word != b"-".as_slice() {

@@ -4,7 +4,7 @@
 ghost use Rattle.std.specs.Prelude.{◌≡◌};
 ghost use Rattle.cc_script.specs.Outcome.{Gives};
 ghost use Rattle.cc_script.specs.Actions.{ended};
-ghost use Rattle.cc_script.specs.EventActions.{fill_of, drop_of, write_begin_of, write_end_of, sync_of, nc_read_page_of, nc_store_page_of, nc_write_page_of, ask_ahead_of, async_read_of, can_write_of, defer_of, set_granularity_of, set_attributes_of, set_threshold_of};
+ghost use Rattle.cc_script.specs.EventActions.{parsed_fill, parsed_drop, parsed_write_begin, parsed_write_end, parsed_sync, parsed_nc_read_page, parsed_nc_store_page, parsed_nc_write_page, parsed_ask_ahead, parsed_async_read, parsed_can_write, parsed_defer, parsed_set_granularity, parsed_set_attributes, parsed_set_threshold};
 ghost use Rattle.cc_script.specs.declared.script.Action.TheVariants as action;
 
 use crate::fault::LineFault;
@@ -18,9 +18,9 @@ const MOST_OWN_PAGES: u64 = 4294967295;
 /// How many bytes a page has.
 const PAGE_BYTES: u64 = 4096;
 
-#[tactic(auto, unfolding(crate::specs::EventActions::fill_of))]
+#[tactic(auto, unfolding(crate::specs::EventActions::parsed_fill))]
 pub(crate) fn fill(streams: &StreamLines, words: &mut Words) -> Option<Action>
-    ensures { result ≡ fill_of streams.now words.old }
+    ensures { result ≡ parsed_fill streams.now words.old }
 {
     let page = words.page(streams)?;
     if words.is_empty() {
@@ -30,9 +30,9 @@ pub(crate) fn fill(streams: &StreamLines, words: &mut Words) -> Option<Action>
     }
 }
 
-#[tactic(auto, unfolding(crate::specs::EventActions::drop_of))]
+#[tactic(auto, unfolding(crate::specs::EventActions::parsed_drop))]
 pub(crate) fn drop(streams: &StreamLines, words: &mut Words) -> Option<Action>
-    ensures { result ≡ drop_of streams.now words.old }
+    ensures { result ≡ parsed_drop streams.now words.old }
 {
     let page = words.page(streams)?;
     if words.is_empty() {
@@ -42,9 +42,9 @@ pub(crate) fn drop(streams: &StreamLines, words: &mut Words) -> Option<Action>
     }
 }
 
-#[tactic(auto, unfolding(crate::specs::EventActions::write_begin_of))]
+#[tactic(auto, unfolding(crate::specs::EventActions::parsed_write_begin))]
 pub(crate) fn write_begin(streams: &StreamLines, words: &mut Words) -> Option<Action>
-    ensures { result ≡ write_begin_of streams.now words.old }
+    ensures { result ≡ parsed_write_begin streams.now words.old }
 {
     let page = words.page(streams)?;
     if words.is_empty() {
@@ -54,9 +54,9 @@ pub(crate) fn write_begin(streams: &StreamLines, words: &mut Words) -> Option<Ac
     }
 }
 
-#[tactic(auto, unfolding(crate::specs::EventActions::write_end_of))]
+#[tactic(auto, unfolding(crate::specs::EventActions::parsed_write_end))]
 pub(crate) fn write_end(streams: &StreamLines, words: &mut Words) -> Option<Action>
-    ensures { result ≡ write_end_of streams.now words.old }
+    ensures { result ≡ parsed_write_end streams.now words.old }
 {
     let page = words.page(streams)?;
     if words.is_empty() {
@@ -66,9 +66,9 @@ pub(crate) fn write_end(streams: &StreamLines, words: &mut Words) -> Option<Acti
     }
 }
 
-#[tactic(auto, unfolding(crate::specs::EventActions::sync_of))]
+#[tactic(auto, unfolding(crate::specs::EventActions::parsed_sync))]
 pub(crate) fn sync(streams: &StreamLines, words: &mut Words) -> Option<Action>
-    ensures { result ≡ sync_of streams.now words.old }
+    ensures { result ≡ parsed_sync streams.now words.old }
 {
     let stream = words.stream(streams)?;
     if words.is_empty() {
@@ -88,9 +88,9 @@ pub(crate) fn scan(words: &mut Words) -> Option<Action>
     }
 }
 
-#[tactic(auto, unfolding(crate::specs::EventActions::ask_ahead_of))]
+#[tactic(auto, unfolding(crate::specs::EventActions::parsed_ask_ahead))]
 pub(crate) fn ask_ahead(streams: &StreamLines, words: &mut Words) -> Option<Action>
-    ensures { result ≡ ask_ahead_of streams.now words.old }
+    ensures { result ≡ parsed_ask_ahead streams.now words.old }
 {
     let file = words.file(streams)?;
     let at = words.number()?;
@@ -112,9 +112,9 @@ pub(crate) fn ahead_step(words: &mut Words) -> Option<Action>
     }
 }
 
-#[tactic(auto, unfolding(crate::specs::EventActions::async_read_of))]
+#[tactic(auto, unfolding(crate::specs::EventActions::parsed_async_read))]
 pub(crate) fn async_read(streams: &StreamLines, words: &mut Words) -> Option<Action>
-    ensures { result ≡ async_read_of streams.now words.old }
+    ensures { result ≡ parsed_async_read streams.now words.old }
 {
     let file = words.file(streams)?;
     let at = words.number()?;
@@ -156,9 +156,9 @@ pub(crate) fn post(words: &mut Words) -> Option<Action>
     }
 }
 
-#[tactic(auto, unfolding(crate::specs::EventActions::nc_read_page_of))]
+#[tactic(auto, unfolding(crate::specs::EventActions::parsed_nc_read_page))]
 pub(crate) fn nc_read_page(streams: &StreamLines, words: &mut Words) -> Option<Action>
-    ensures { result ≡ nc_read_page_of streams.now words.old }
+    ensures { result ≡ parsed_nc_read_page streams.now words.old }
 {
     let file = words.file(streams)?;
     let page = words.page_number()?;
@@ -169,13 +169,13 @@ pub(crate) fn nc_read_page(streams: &StreamLines, words: &mut Words) -> Option<A
     }
 }
 
-#[tactic(auto, unfolding(crate::specs::EventActions::nc_store_page_of))]
+#[tactic(auto, unfolding(crate::specs::EventActions::parsed_nc_store_page))]
 pub(crate) fn nc_store_page(
     alloc: Global,
     streams: &StreamLines,
     words: &mut Words,
 ) -> Result<Action, LineFault>
-    ensures { Gives (nc_store_page_of streams.now words.old) result }
+    ensures { Gives (parsed_nc_store_page streams.now words.old) result }
 {
     let file = words.file(streams).ok_or(LineFault::Syntax)?;
     let page = words.page_number().ok_or(LineFault::Syntax)?;
@@ -187,9 +187,9 @@ pub(crate) fn nc_store_page(
     }
 }
 
-#[tactic(auto, unfolding(crate::specs::EventActions::nc_write_page_of))]
+#[tactic(auto, unfolding(crate::specs::EventActions::parsed_nc_write_page))]
 pub(crate) fn nc_write_page(streams: &StreamLines, words: &mut Words) -> Option<Action>
-    ensures { result ≡ nc_write_page_of streams.now words.old }
+    ensures { result ≡ parsed_nc_write_page streams.now words.old }
 {
     let file = words.file(streams)?;
     let page = words.page_number()?;
@@ -200,9 +200,9 @@ pub(crate) fn nc_write_page(streams: &StreamLines, words: &mut Words) -> Option<
     }
 }
 
-#[tactic(auto, unfolding(crate::specs::EventActions::can_write_of))]
+#[tactic(auto, unfolding(crate::specs::EventActions::parsed_can_write))]
 pub(crate) fn can_write(streams: &StreamLines, words: &mut Words) -> Option<Action>
-    ensures { result ≡ can_write_of streams.now words.old }
+    ensures { result ≡ parsed_can_write streams.now words.old }
 {
     let file = words.file(streams)?;
     let bytes = words.number()?;
@@ -213,9 +213,9 @@ pub(crate) fn can_write(streams: &StreamLines, words: &mut Words) -> Option<Acti
     }
 }
 
-#[tactic(auto, unfolding(crate::specs::EventActions::defer_of))]
+#[tactic(auto, unfolding(crate::specs::EventActions::parsed_defer))]
 pub(crate) fn defer(streams: &StreamLines, words: &mut Words) -> Option<Action>
-    ensures { result ≡ defer_of streams.now words.old }
+    ensures { result ≡ parsed_defer streams.now words.old }
 {
     let file = words.file(streams)?;
     let bytes = words.number()?;
@@ -231,9 +231,9 @@ pub(crate) fn defer(streams: &StreamLines, words: &mut Words) -> Option<Action>
     }
 }
 
-#[tactic(auto, unfolding(crate::specs::EventActions::set_granularity_of))]
+#[tactic(auto, unfolding(crate::specs::EventActions::parsed_set_granularity))]
 pub(crate) fn set_granularity(streams: &StreamLines, words: &mut Words) -> Option<Action>
-    ensures { result ≡ set_granularity_of streams.now words.old }
+    ensures { result ≡ parsed_set_granularity streams.now words.old }
 {
     let file = words.file(streams)?;
     let bytes = words.number()?;
@@ -244,9 +244,9 @@ pub(crate) fn set_granularity(streams: &StreamLines, words: &mut Words) -> Optio
     }
 }
 
-#[tactic(auto, unfolding(crate::specs::EventActions::set_attributes_of))]
+#[tactic(auto, unfolding(crate::specs::EventActions::parsed_set_attributes))]
 pub(crate) fn set_attributes(streams: &StreamLines, words: &mut Words) -> Option<Action>
-    ensures { result ≡ set_attributes_of streams.now words.old }
+    ensures { result ≡ parsed_set_attributes streams.now words.old }
 {
     let file = words.file(streams)?;
     let ahead = words.number_between(0, 1)?;
@@ -262,9 +262,9 @@ pub(crate) fn set_attributes(streams: &StreamLines, words: &mut Words) -> Option
     }
 }
 
-#[tactic(auto, unfolding(crate::specs::EventActions::set_threshold_of))]
+#[tactic(auto, unfolding(crate::specs::EventActions::parsed_set_threshold))]
 pub(crate) fn set_threshold(streams: &StreamLines, words: &mut Words) -> Option<Action>
-    ensures { result ≡ set_threshold_of streams.now words.old }
+    ensures { result ≡ parsed_set_threshold streams.now words.old }
 {
     let file = words.file(streams)?;
     let pages = words.number_between(0, MOST_OWN_PAGES)?;

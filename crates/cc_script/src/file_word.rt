@@ -1,7 +1,7 @@
 //! The word that names a file object of a stream.
 
 ghost use Rattle.std.specs.Prelude.{◌≡◌, ◌<◌};
-ghost use Rattle.cc_script.specs.Actions.{object_named, file_of};
+ghost use Rattle.cc_script.specs.Actions.{object_named, parsed_file};
 
 use crate::part::place_of;
 use crate::script::StreamLines;
@@ -20,9 +20,9 @@ fn object_named(streams: &StreamLines, name: &[u8], number: u8) -> Option<FileId
 }
 
 /// The name of a stream, which is its object 0, or the name, `:` and the number of an object.
-#[tactic(auto, unfolding(crate::specs::Actions::file_of, crate::specs::Actions::file_at))]
+#[tactic(auto, unfolding(crate::specs::Actions::parsed_file, crate::specs::Actions::file_at))]
 pub(crate) fn file(streams: &StreamLines, word: &[u8]) -> Option<FileId>
-    ensures { result ≡ file_of streams.now word.now }
+    ensures { result ≡ parsed_file streams.now word.now }
 {
     match place_of(word, b':') {
         Some(colon) => {

@@ -3,7 +3,7 @@
 ghost use Rattle.std.specs.Prelude.{◌≡◌, ◌<◌, ◌≤◌, false, IfOk, replicate};
 ghost use Rattle.cc_script.specs.declared.script.Mode.TheVariants as mode;
 ghost use Rattle.cc_script.specs.Modes.{IsOfMode};
-ghost use Rattle.cc_script.specs.Within.{IsWithin};
+ghost use Rattle.cc_script.specs.Within.{ScriptIsWithin};
 ghost use Rattle.cc_script.specs.Generator.{state_after, draw_of, byte_state, draws_of, drawn_page, drawn_action, drawn_caller, drawn_line, drawn_lines, drawn_streams, generated};
 
 use crate::name::Name;
@@ -26,7 +26,7 @@ const PAGE_BYTES: u64 = 4096;
 /// on, as one that was read.
 pub fn generate(alloc: Global, n: u64) -> Result<Script, NoMemory>
     ensures script { IfOk result (λ script. script ≡ generated n) }
-    ensures within { IfOk result IsWithin }
+    ensures within { IfOk result ScriptIsWithin }
     ensures of_mode { IfOk result (IsOfMode mode.Steps) }
 {
     Ok(Script {

@@ -2,7 +2,7 @@
 
 ghost use Rattle.std.specs.Prelude.{◌≡◌};
 ghost use Rattle.cc_script.specs.Outcome.{Gives, TakesIf};
-ghost use Rattle.cc_script.specs.HoldActions.{map_of, pin_read_of, pin_mapped_of, prepare_pin_of, held_read_of, pinned_write_of, stamp_of, set_dirty_of, unpin_of, repin_of, unpin_repinned_of, mdl_read_of, mdl_write_of, mdl_bytes_of, mdl_store_of, mdl_done_of, mdl_abort_of};
+ghost use Rattle.cc_script.specs.HoldActions.{parsed_map, parsed_pin_read, parsed_pin_mapped, parsed_prepare_pin, parsed_held_read, parsed_pinned_write, parsed_stamp, parsed_set_dirty, parsed_unpin, parsed_repin, parsed_unpin_repinned, parsed_mdl_read, parsed_mdl_write, parsed_mdl_bytes, parsed_mdl_store, parsed_mdl_done, parsed_mdl_abort};
 
 use crate::fault::LineFault;
 use crate::hold_word::HoldNames;
@@ -11,14 +11,14 @@ use crate::script::{Action, Mode, StreamLines};
 use cc_entry::Lsn;
 use std::alloc::Global;
 
-#[tactic(auto, unfolding(crate::specs::HoldActions::map_of))]
+#[tactic(auto, unfolding(crate::specs::HoldActions::parsed_map))]
 pub(crate) fn map(
     alloc: Global,
     streams: &StreamLines,
     names: &mut HoldNames,
     words: &mut Words,
 ) -> Result<Action, LineFault>
-    ensures { TakesIf (map_of streams.now names.old words.old) result names.new }
+    ensures { TakesIf (parsed_map streams.now names.old words.old) result names.new }
 {
     let on = words.stretch(alloc, streams, names)?;
     if words.is_empty() {
@@ -33,14 +33,14 @@ pub(crate) fn map(
     }
 }
 
-#[tactic(auto, unfolding(crate::specs::HoldActions::pin_read_of))]
+#[tactic(auto, unfolding(crate::specs::HoldActions::parsed_pin_read))]
 pub(crate) fn pin_read(
     alloc: Global,
     streams: &StreamLines,
     names: &mut HoldNames,
     words: &mut Words,
 ) -> Result<Action, LineFault>
-    ensures { TakesIf (pin_read_of streams.now names.old words.old) result names.new }
+    ensures { TakesIf (parsed_pin_read streams.now names.old words.old) result names.new }
 {
     let on = words.stretch(alloc, streams, names)?;
     let exclusive = words.flag(b"excl");
@@ -57,9 +57,9 @@ pub(crate) fn pin_read(
     }
 }
 
-#[tactic(auto, unfolding(crate::specs::HoldActions::pin_mapped_of))]
+#[tactic(auto, unfolding(crate::specs::HoldActions::parsed_pin_mapped))]
 pub(crate) fn pin_mapped(names: &HoldNames, words: &mut Words) -> Option<Action>
-    ensures { result ≡ pin_mapped_of names.now words.old }
+    ensures { result ≡ parsed_pin_mapped names.now words.old }
 {
     let word = words.word(names)?;
     let exclusive = words.flag(b"excl");
@@ -70,14 +70,14 @@ pub(crate) fn pin_mapped(names: &HoldNames, words: &mut Words) -> Option<Action>
     }
 }
 
-#[tactic(auto, unfolding(crate::specs::HoldActions::prepare_pin_of))]
+#[tactic(auto, unfolding(crate::specs::HoldActions::parsed_prepare_pin))]
 pub(crate) fn prepare_pin(
     alloc: Global,
     streams: &StreamLines,
     names: &mut HoldNames,
     words: &mut Words,
 ) -> Result<Action, LineFault>
-    ensures { TakesIf (prepare_pin_of streams.now names.old words.old) result names.new }
+    ensures { TakesIf (parsed_prepare_pin streams.now names.old words.old) result names.new }
 {
     let on = words.stretch(alloc, streams, names)?;
     let zero = words.flag(b"zero");
@@ -96,9 +96,9 @@ pub(crate) fn prepare_pin(
     }
 }
 
-#[tactic(auto, unfolding(crate::specs::HoldActions::held_read_of))]
+#[tactic(auto, unfolding(crate::specs::HoldActions::parsed_held_read))]
 pub(crate) fn held_read(names: &HoldNames, words: &mut Words) -> Option<Action>
-    ensures { result ≡ held_read_of names.now words.old }
+    ensures { result ≡ parsed_held_read names.now words.old }
 {
     let word = words.word(names)?;
     let at = words.number()?;
@@ -110,13 +110,13 @@ pub(crate) fn held_read(names: &HoldNames, words: &mut Words) -> Option<Action>
     }
 }
 
-#[tactic(auto, unfolding(crate::specs::HoldActions::pinned_write_of))]
+#[tactic(auto, unfolding(crate::specs::HoldActions::parsed_pinned_write))]
 pub(crate) fn pinned_write(
     alloc: Global,
     names: &HoldNames,
     words: &mut Words,
 ) -> Result<Action, LineFault>
-    ensures { Gives (pinned_write_of names.now words.old) result }
+    ensures { Gives (parsed_pinned_write names.now words.old) result }
 {
     let word = words.word(names).ok_or(LineFault::Syntax)?;
     let at = words.number().ok_or(LineFault::Syntax)?;
@@ -129,9 +129,9 @@ pub(crate) fn pinned_write(
 }
 
 // The stamp of a set-dirty, none where the words don't say it.
-#[tactic(auto, unfolding(crate::specs::HoldActions::stamp_of))]
+#[tactic(auto, unfolding(crate::specs::HoldActions::parsed_stamp))]
 fn stamp(words: &mut Words) -> Option<Option<Lsn>>
-    ensures { result ≡ stamp_of words.old }
+    ensures { result ≡ parsed_stamp words.old }
 {
     if words.is_empty() {
         return Some(None);
@@ -144,18 +144,18 @@ fn stamp(words: &mut Words) -> Option<Option<Lsn>>
     }
 }
 
-#[tactic(auto, unfolding(crate::specs::HoldActions::set_dirty_of))]
+#[tactic(auto, unfolding(crate::specs::HoldActions::parsed_set_dirty))]
 pub(crate) fn set_dirty(names: &HoldNames, words: &mut Words) -> Option<Action>
-    ensures { result ≡ set_dirty_of names.now words.old }
+    ensures { result ≡ parsed_set_dirty names.now words.old }
 {
     let word = words.word(names)?;
     let lsn = stamp(words)?;
     Some(Action::SetDirty { word, lsn })
 }
 
-#[tactic(auto, unfolding(crate::specs::HoldActions::unpin_of))]
+#[tactic(auto, unfolding(crate::specs::HoldActions::parsed_unpin))]
 pub(crate) fn unpin(names: &HoldNames, words: &mut Words) -> Option<Action>
-    ensures { result ≡ unpin_of names.now words.old }
+    ensures { result ≡ parsed_unpin names.now words.old }
 {
     let word = words.word(names)?;
     if words.is_empty() {
@@ -165,13 +165,13 @@ pub(crate) fn unpin(names: &HoldNames, words: &mut Words) -> Option<Action>
     }
 }
 
-#[tactic(auto, unfolding(crate::specs::HoldActions::repin_of))]
+#[tactic(auto, unfolding(crate::specs::HoldActions::parsed_repin))]
 pub(crate) fn repin(
     alloc: Global,
     names: &mut HoldNames,
     words: &mut Words,
 ) -> Result<Action, LineFault>
-    ensures { TakesIf (repin_of names.old words.old) result names.new }
+    ensures { TakesIf (parsed_repin names.old words.old) result names.new }
 {
     let word = words.word(names).ok_or(LineFault::Syntax)?;
     let name = words.name(alloc)?;
@@ -183,9 +183,9 @@ pub(crate) fn repin(
     }
 }
 
-#[tactic(auto, unfolding(crate::specs::HoldActions::unpin_repinned_of))]
+#[tactic(auto, unfolding(crate::specs::HoldActions::parsed_unpin_repinned))]
 pub(crate) fn unpin_repinned(mode: Mode, names: &HoldNames, words: &mut Words) -> Option<Action>
-    ensures { result ≡ unpin_repinned_of mode names.now words.old }
+    ensures { result ≡ parsed_unpin_repinned mode names.now words.old }
 {
     let word = words.word(names)?;
     let through = match mode {
@@ -199,14 +199,14 @@ pub(crate) fn unpin_repinned(mode: Mode, names: &HoldNames, words: &mut Words) -
     }
 }
 
-#[tactic(auto, unfolding(crate::specs::HoldActions::mdl_read_of))]
+#[tactic(auto, unfolding(crate::specs::HoldActions::parsed_mdl_read))]
 pub(crate) fn mdl_read(
     alloc: Global,
     streams: &StreamLines,
     names: &mut HoldNames,
     words: &mut Words,
 ) -> Result<Action, LineFault>
-    ensures { TakesIf (mdl_read_of streams.now names.old words.old) result names.new }
+    ensures { TakesIf (parsed_mdl_read streams.now names.old words.old) result names.new }
 {
     let on = words.stretch(alloc, streams, names)?;
     if words.is_empty() {
@@ -221,14 +221,14 @@ pub(crate) fn mdl_read(
     }
 }
 
-#[tactic(auto, unfolding(crate::specs::HoldActions::mdl_write_of))]
+#[tactic(auto, unfolding(crate::specs::HoldActions::parsed_mdl_write))]
 pub(crate) fn mdl_write(
     alloc: Global,
     streams: &StreamLines,
     names: &mut HoldNames,
     words: &mut Words,
 ) -> Result<Action, LineFault>
-    ensures { TakesIf (mdl_write_of streams.now names.old words.old) result names.new }
+    ensures { TakesIf (parsed_mdl_write streams.now names.old words.old) result names.new }
 {
     let on = words.stretch(alloc, streams, names)?;
     if words.is_empty() {
@@ -243,9 +243,9 @@ pub(crate) fn mdl_write(
     }
 }
 
-#[tactic(auto, unfolding(crate::specs::HoldActions::mdl_bytes_of))]
+#[tactic(auto, unfolding(crate::specs::HoldActions::parsed_mdl_bytes))]
 pub(crate) fn mdl_bytes(names: &HoldNames, words: &mut Words) -> Option<Action>
-    ensures { result ≡ mdl_bytes_of names.now words.old }
+    ensures { result ≡ parsed_mdl_bytes names.now words.old }
 {
     let word = words.word(names)?;
     let at = words.number()?;
@@ -257,13 +257,13 @@ pub(crate) fn mdl_bytes(names: &HoldNames, words: &mut Words) -> Option<Action>
     }
 }
 
-#[tactic(auto, unfolding(crate::specs::HoldActions::mdl_store_of))]
+#[tactic(auto, unfolding(crate::specs::HoldActions::parsed_mdl_store))]
 pub(crate) fn mdl_store(
     alloc: Global,
     names: &HoldNames,
     words: &mut Words,
 ) -> Result<Action, LineFault>
-    ensures { Gives (mdl_store_of names.now words.old) result }
+    ensures { Gives (parsed_mdl_store names.now words.old) result }
 {
     let word = words.word(names).ok_or(LineFault::Syntax)?;
     let at = words.number().ok_or(LineFault::Syntax)?;
@@ -275,9 +275,9 @@ pub(crate) fn mdl_store(
     }
 }
 
-#[tactic(auto, unfolding(crate::specs::HoldActions::mdl_done_of))]
+#[tactic(auto, unfolding(crate::specs::HoldActions::parsed_mdl_done))]
 pub(crate) fn mdl_done(names: &HoldNames, words: &mut Words) -> Option<Action>
-    ensures { result ≡ mdl_done_of names.now words.old }
+    ensures { result ≡ parsed_mdl_done names.now words.old }
 {
     let word = words.word(names)?;
     if words.is_empty() {
@@ -287,9 +287,9 @@ pub(crate) fn mdl_done(names: &HoldNames, words: &mut Words) -> Option<Action>
     }
 }
 
-#[tactic(auto, unfolding(crate::specs::HoldActions::mdl_abort_of))]
+#[tactic(auto, unfolding(crate::specs::HoldActions::parsed_mdl_abort))]
 pub(crate) fn mdl_abort(names: &HoldNames, words: &mut Words) -> Option<Action>
-    ensures { result ≡ mdl_abort_of names.now words.old }
+    ensures { result ≡ parsed_mdl_abort names.now words.old }
 {
     let word = words.word(names)?;
     if words.is_empty() {

@@ -53,11 +53,11 @@ pub(crate) struct HoldNames {
 
 impl Model for HoldNames {
     ghost use Rattle.std.specs.Prelude.{List, ℕ};
-    ghost use Rattle.cc_script.specs.HoldNames.{spelled};
+    ghost use Rattle.cc_script.specs.HoldNames.{words_as_bytes};
 
     ghost Value = { List (List ℕ) };
 
-    ghost view = { λ n. spelled n.words.keys };
+    ghost view = { λ n. words_as_bytes n.words.keys };
 }
 
 impl HoldNames {

@@ -3,7 +3,7 @@
 ghost use Rattle.std.specs.Prelude.{◌≡◌, false, IfOk, string_bytes};
 ghost use Rattle.std.specs.List.{list_all};
 ghost use Rattle.cc_script.specs.Outcome.{Gives};
-ghost use Rattle.cc_script.specs.Words.{name_of, is_name_byte};
+ghost use Rattle.cc_script.specs.Words.{name_of_word, is_name_byte};
 ghost use Rattle.cc_script.specs.declared.fault.LineFault.TheVariants as faults;
 
 use crate::fault::LineFault;
@@ -26,9 +26,9 @@ impl Model for Name {
 }
 
 impl Name {
-    #[tactic(auto, unfolding(crate::specs::Words::name_of))]
+    #[tactic(auto, unfolding(crate::specs::Words::name_of_word))]
     pub(crate) fn of(alloc: Global, word: &[u8]) -> Result<Name, LineFault>
-        ensures { Gives (name_of word.now) result }
+        ensures { Gives (name_of_word word.now) result }
     {
         if !is_name(word) {
             return Err(LineFault::Syntax);

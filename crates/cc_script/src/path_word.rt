@@ -1,7 +1,7 @@
 //! The word that names the path of a read.
 
 ghost use Rattle.std.specs.Prelude.{◌≡◌};
-ghost use Rattle.cc_script.specs.ShimActions.{path_text, path_of};
+ghost use Rattle.cc_script.specs.ShimActions.{path_text, parsed_path};
 
 use crate::script::ReadPath;
 
@@ -26,9 +26,9 @@ fn text(path: ReadPath) -> &'static [u8]
 }
 
 /// The path that a word names.
-#[tactic(auto, unfolding(crate::specs::ShimActions::path_of))]
+#[tactic(auto, unfolding(crate::specs::ShimActions::parsed_path))]
 pub(crate) fn path(word: &[u8]) -> Option<ReadPath>
-    ensures { result ≡ path_of word.now }
+    ensures { result ≡ parsed_path word.now }
 {
     PATHS.iter().copied().find(|p| text(*p) == word)
 }

@@ -4,8 +4,8 @@ ghost use Rattle.std.specs.Prelude.{◌≡◌, ◌≤◌, IfOk};
 ghost use Rattle.std.specs.List.{list_all};
 ghost use Rattle.std.specs.Str.Lines.{strip_carriage_return};
 ghost use Rattle.cc_script.specs.Outcome.{Becomes};
-ghost use Rattle.cc_script.specs.Answers.{Reads};
-ghost use Rattle.cc_script.specs.Within.{IsWithin};
+ghost use Rattle.cc_script.specs.Answers.{ReadsScript};
+ghost use Rattle.cc_script.specs.Within.{ScriptIsWithin};
 ghost use Rattle.cc_script.specs.Modes.{IsOfMode};
 ghost use Rattle.cc_script.specs.Grammar.{is_printable, called_line, uncalled_line, words_line, text_line, line_of, script_of};
 
@@ -24,8 +24,8 @@ const MOST_LINES: u32 = 65536;
 ///
 /// `ScriptFault::Syntax` with the number of that line, counted from 1; `ScriptFault::NoMemory`.
 pub fn read_script(alloc: Global, bytes: &[u8], mode: Mode) -> Result<Script, ScriptFault>
-    ensures read { Reads (script_of mode bytes.now) result }
-    ensures within { IfOk result IsWithin }
+    ensures read { ReadsScript (script_of mode bytes.now) result }
+    ensures within { IfOk result ScriptIsWithin }
     ensures of_mode { IfOk result (IsOfMode mode) }
 {
     read_lines(alloc, bytes, mode)
@@ -33,7 +33,7 @@ pub fn read_script(alloc: Global, bytes: &[u8], mode: Mode) -> Result<Script, Sc
 
 #[tactic(auto, using(crate::proofs::Parts::lines_none), unfolding(crate::specs::Grammar::script_of, crate::specs::Grammar::lines_of))]
 fn read_lines(alloc: Global, bytes: &[u8], mode: Mode) -> Result<Script, ScriptFault>
-    ensures { Reads (script_of mode bytes.now) result }
+    ensures { ReadsScript (script_of mode bytes.now) result }
 {
     let Ok(mut reading) = Reading::new(alloc) else {
         return Err(ScriptFault::NoMemory);

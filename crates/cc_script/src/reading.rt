@@ -4,7 +4,7 @@ ghost use Rattle.std.specs.Prelude.{◌≡◌, ◌<◌, ◌≤◌, ◌+◌, ◌^
 ghost use Rattle.std.specs.Bool.{OnTrue};
 ghost use Rattle.cc_script.specs.Outcome.{Gives, Becomes};
 ghost use Rattle.cc_script.specs.ActionTable.{bytes_counted, dirty_lines};
-ghost use Rattle.cc_script.specs.Grammar.{nothing_read, may_add, with_stream, stream_of, setting_of, with_journal, with_threshold, workers_of, with_workers, restart_of, with_restart, with_phase, keeps_totals, keeps_apart, with_action, action_line, caller_line, verb_line};
+ghost use Rattle.cc_script.specs.Grammar.{nothing_read, may_add, with_stream_line, parsed_stream, parsed_setting, with_journal_line, with_threshold, parsed_workers, with_workers, parsed_restart, with_restart, with_phase, keeps_totals, keeps_apart, with_action, action_line, caller_line, verb_line};
 
 use crate::action::{action, bytes_counted, dirty_lines};
 use crate::caller_words::{AllWords, CallerWords};
@@ -94,9 +94,9 @@ impl Reading {
             && self.script.streams.find(stream.name.as_bytes()).is_none()
     }
 
-    #[tactic(auto, unfolding(crate::specs::Grammar::with_stream))]
+    #[tactic(auto, unfolding(crate::specs::Grammar::with_stream_line))]
     fn add_stream(&mut self, stream: StreamLine) -> Result<(), LineFault>
-        ensures { Becomes (with_stream stream self.old) result self.new }
+        ensures { Becomes (with_stream_line stream self.old) result self.new }
     {
         if !self.may_add(&stream) {
             return Err(LineFault::Syntax);
@@ -105,9 +105,9 @@ impl Reading {
         Ok(())
     }
 
-    #[tactic(auto, unfolding(crate::specs::Grammar::with_journal))]
+    #[tactic(auto, unfolding(crate::specs::Grammar::with_journal_line))]
     fn set_journal(&mut self, capacity: u32) -> Result<(), LineFault>
-        ensures { Becomes (with_journal capacity self.old) result self.new }
+        ensures { Becomes (with_journal_line capacity self.old) result self.new }
     {
         if !self.script.lines.is_empty() || self.has_journal {
             return Err(LineFault::Syntax);
@@ -311,14 +311,14 @@ impl Reading {
     }
 }
 
-#[tactic(auto, unfolding(crate::specs::Grammar::stream_of))]
+#[tactic(auto, unfolding(crate::specs::Grammar::parsed_stream))]
 fn stream(
     alloc: Global,
     mode: Mode,
     number: u32,
     words: &mut Words,
 ) -> Result<StreamLine, LineFault>
-    ensures { Gives (stream_of mode number words.old) result }
+    ensures { Gives (parsed_stream mode number words.old) result }
 {
     let name = words.name(alloc)?;
     let size = words.number().ok_or(LineFault::Syntax)?;
@@ -342,10 +342,10 @@ fn stream(
     })
 }
 
-#[tactic(auto, unfolding(crate::specs::Grammar::setting_of))]
+#[tactic(auto, unfolding(crate::specs::Grammar::parsed_setting))]
 fn setting(low: u64, high: u64, words: &mut Words) -> Option<u32>
     requires { high < 2 ^ 32 }
-    ensures { result ≡ setting_of low high words.old }
+    ensures { result ≡ parsed_setting low high words.old }
 {
     let number = words.number_between(low, high)?;
     if words.is_empty() {
@@ -355,9 +355,9 @@ fn setting(low: u64, high: u64, words: &mut Words) -> Option<u32>
     }
 }
 
-#[tactic(auto, unfolding(crate::specs::Grammar::workers_of))]
+#[tactic(auto, unfolding(crate::specs::Grammar::parsed_workers))]
 fn worker_counts(words: &mut Words) -> Option<Workers>
-    ensures { result ≡ workers_of words.old }
+    ensures { result ≡ parsed_workers words.old }
 {
     let ticks = words.number_between(0, MOST_TICKS)?;
     let aheads = words.number_between(0, MOST_AHEADS)?;
@@ -371,9 +371,9 @@ fn worker_counts(words: &mut Words) -> Option<Workers>
     }
 }
 
-#[tactic(auto, unfolding(crate::specs::Grammar::restart_of))]
+#[tactic(auto, unfolding(crate::specs::Grammar::parsed_restart))]
 fn restart(number: u32, words: &mut Words) -> Option<RestartLine>
-    ensures { result ≡ restart_of number words.old }
+    ensures { result ≡ parsed_restart number words.old }
 {
     let handle = words.handle()?;
     if words.is_empty() {

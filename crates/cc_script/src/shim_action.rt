@@ -3,16 +3,16 @@
 
 ghost use Rattle.std.specs.Prelude.{◌≡◌};
 ghost use Rattle.cc_script.specs.Outcome.{Gives};
-ghost use Rattle.cc_script.specs.ShimActions.{read_of, write_of, update_of, levels_of, settle_of, checkpoint_of, lock_of, unlock_of};
+ghost use Rattle.cc_script.specs.ShimActions.{parsed_read, parsed_write, parsed_update, parsed_levels, parsed_settle, parsed_checkpoint, parsed_lock, parsed_unlock};
 
 use crate::fault::LineFault;
 use crate::part::Words;
 use crate::script::{Action, StreamLines};
 use std::alloc::Global;
 
-#[tactic(auto, unfolding(crate::specs::ShimActions::read_of))]
+#[tactic(auto, unfolding(crate::specs::ShimActions::parsed_read))]
 pub(crate) fn read(streams: &StreamLines, words: &mut Words) -> Option<Action>
-    ensures { result ≡ read_of streams.now words.old }
+    ensures { result ≡ parsed_read streams.now words.old }
 {
     let file = words.file(streams)?;
     let path = words.path()?;
@@ -30,13 +30,13 @@ pub(crate) fn read(streams: &StreamLines, words: &mut Words) -> Option<Action>
     }
 }
 
-#[tactic(auto, unfolding(crate::specs::ShimActions::write_of))]
+#[tactic(auto, unfolding(crate::specs::ShimActions::parsed_write))]
 pub(crate) fn write(
     alloc: Global,
     streams: &StreamLines,
     words: &mut Words,
 ) -> Result<Action, LineFault>
-    ensures { Gives (write_of streams.now words.old) result }
+    ensures { Gives (parsed_write streams.now words.old) result }
 {
     let file = words.file(streams).ok_or(LineFault::Syntax)?;
     let at = words.number().ok_or(LineFault::Syntax)?;
@@ -48,13 +48,13 @@ pub(crate) fn write(
     }
 }
 
-#[tactic(auto, unfolding(crate::specs::ShimActions::update_of))]
+#[tactic(auto, unfolding(crate::specs::ShimActions::parsed_update))]
 pub(crate) fn update(
     alloc: Global,
     streams: &StreamLines,
     words: &mut Words,
 ) -> Result<Action, LineFault>
-    ensures { Gives (update_of streams.now words.old) result }
+    ensures { Gives (parsed_update streams.now words.old) result }
 {
     let file = words.file(streams).ok_or(LineFault::Syntax)?;
     let at = words.number().ok_or(LineFault::Syntax)?;
@@ -66,9 +66,9 @@ pub(crate) fn update(
     }
 }
 
-#[tactic(auto, unfolding(crate::specs::ShimActions::lock_of))]
+#[tactic(auto, unfolding(crate::specs::ShimActions::parsed_lock))]
 pub(crate) fn lock(streams: &StreamLines, words: &mut Words) -> Option<Action>
-    ensures { result ≡ lock_of streams.now words.old }
+    ensures { result ≡ parsed_lock streams.now words.old }
 {
     let file = words.file(streams)?;
     let span = words.span()?;
@@ -84,9 +84,9 @@ pub(crate) fn lock(streams: &StreamLines, words: &mut Words) -> Option<Action>
     }
 }
 
-#[tactic(auto, unfolding(crate::specs::ShimActions::unlock_of))]
+#[tactic(auto, unfolding(crate::specs::ShimActions::parsed_unlock))]
 pub(crate) fn unlock(streams: &StreamLines, words: &mut Words) -> Option<Action>
-    ensures { result ≡ unlock_of streams.now words.old }
+    ensures { result ≡ parsed_unlock streams.now words.old }
 {
     let file = words.file(streams)?;
     let id = words.number()?;
@@ -97,9 +97,9 @@ pub(crate) fn unlock(streams: &StreamLines, words: &mut Words) -> Option<Action>
     }
 }
 
-#[tactic(auto, unfolding(crate::specs::ShimActions::levels_of))]
+#[tactic(auto, unfolding(crate::specs::ShimActions::parsed_levels))]
 pub(crate) fn levels(streams: &StreamLines, words: &mut Words) -> Option<Action>
-    ensures { result ≡ levels_of streams.now words.old }
+    ensures { result ≡ parsed_levels streams.now words.old }
 {
     let file = words.file(streams)?;
     if words.is_empty() {
@@ -109,9 +109,9 @@ pub(crate) fn levels(streams: &StreamLines, words: &mut Words) -> Option<Action>
     }
 }
 
-#[tactic(auto, unfolding(crate::specs::ShimActions::settle_of))]
+#[tactic(auto, unfolding(crate::specs::ShimActions::parsed_settle))]
 pub(crate) fn settle(streams: &StreamLines, words: &mut Words) -> Option<Action>
-    ensures { result ≡ settle_of streams.now words.old }
+    ensures { result ≡ parsed_settle streams.now words.old }
 {
     let file = words.file(streams)?;
     if words.is_empty() {
@@ -121,9 +121,9 @@ pub(crate) fn settle(streams: &StreamLines, words: &mut Words) -> Option<Action>
     }
 }
 
-#[tactic(auto, unfolding(crate::specs::ShimActions::checkpoint_of))]
+#[tactic(auto, unfolding(crate::specs::ShimActions::parsed_checkpoint))]
 pub(crate) fn checkpoint(streams: &StreamLines, words: &mut Words) -> Option<Action>
-    ensures { result ≡ checkpoint_of streams.now words.old }
+    ensures { result ≡ parsed_checkpoint streams.now words.old }
 {
     let handle = words.handle()?;
     if words.is_empty() {

@@ -1,15 +1,15 @@
 //! The words behind a verb, taken one after another in the form that the verb asks.
 
 ghost use Rattle.std.specs.Prelude.{◌≡◌, ◌≤◌, ◌<◌, ◌^◌, IfSome};
-ghost use Rattle.cc_script.specs.Outcome.{Takes, TakesIf, TakesBound};
-ghost use Rattle.cc_script.specs.Words.{number_of, number_between, name_of, bytes_of};
+ghost use Rattle.cc_script.specs.Outcome.{ReadsValue, TakesIf, TakesBound};
+ghost use Rattle.cc_script.specs.Words.{parsed_number, number_between, name_of_word, parsed_bytes};
 ghost use Rattle.cc_script.specs.Verbs.{verb_in};
-ghost use Rattle.cc_script.specs.Actions.{next, flag, stream_named, file_of, span_of, optional_span_of, optional_number_of, quota_of, sizes_of};
-ghost use Rattle.cc_script.specs.EventActions.{page_number, page_of};
-ghost use Rattle.cc_script.specs.ShimActions.{path_of};
+ghost use Rattle.cc_script.specs.Actions.{next, flag, stream_named, parsed_file, parsed_span, parsed_optional_span, parsed_optional_number, parsed_quota, parsed_sizes};
+ghost use Rattle.cc_script.specs.EventActions.{page_number, parsed_page};
+ghost use Rattle.cc_script.specs.ShimActions.{parsed_path};
 ghost use Rattle.cc_script.specs.HoldNames.{word_of};
-ghost use Rattle.cc_script.specs.HoldActions.{stretch_of};
-ghost use Rattle.cc_script.specs.Grammar.{log_of, stored_of};
+ghost use Rattle.cc_script.specs.HoldActions.{parsed_stretch};
+ghost use Rattle.cc_script.specs.Grammar.{parsed_log, parsed_stored};
 
 use crate::byte_word::LONGEST;
 use crate::fault::LineFault;
@@ -34,13 +34,13 @@ const MOST_LSN: u64 = 4611686018427387904;
 
 impl Words<'_> {
     pub(crate) fn number(&mut self) -> Option<u64>
-        ensures { Takes (next number_of self.old) result self.new }
+        ensures { ReadsValue (next parsed_number self.old) result self.new }
     {
         word::number(self.next()?)
     }
 
     pub(crate) fn number_between(&mut self, low: u64, high: u64) -> Option<u64>
-        ensures value { Takes (next (number_between low high) self.old) result self.new }
+        ensures value { ReadsValue (next (number_between low high) self.old) result self.new }
         ensures in_range { IfSome result (λ n. (low ≤ n) × (n ≤ high)) }
     {
         word::number_between(low, high, self.next()?)
@@ -48,15 +48,15 @@ impl Words<'_> {
 
     /// How many bytes are read.
     pub(crate) fn read_length(&mut self) -> Option<u64>
-        ensures { Takes (next (number_between 0 2097152) self.old) result self.new }
+        ensures { ReadsValue (next (number_between 0 2097152) self.old) result self.new }
     {
         self.number_between(0, LONGEST)
     }
 
     /// The number at the end of a line, if one stands there.
-    #[tactic(auto, unfolding(crate::specs::Actions::optional_number_of))]
+    #[tactic(auto, unfolding(crate::specs::Actions::parsed_optional_number))]
     pub(crate) fn optional_number(&mut self) -> Option<Option<u64>>
-        ensures { result ≡ optional_number_of self.old }
+        ensures { result ≡ parsed_optional_number self.old }
     {
         if self.is_empty() {
             return Some(None);
@@ -70,7 +70,7 @@ impl Words<'_> {
     }
 
     pub(crate) fn verb(&mut self, mode: Mode) -> Option<Verb>
-        ensures { Takes (next (verb_in mode) self.old) result self.new }
+        ensures { ReadsValue (next (verb_in mode) self.old) result self.new }
     {
         Verb::in_mode(mode, self.next()?)
     }
@@ -90,9 +90,9 @@ impl Words<'_> {
     }
 
     /// The quota of a stream, 16 view blocks where the words don't say it.
-    #[tactic(auto, unfolding(crate::specs::Actions::quota_of))]
+    #[tactic(auto, unfolding(crate::specs::Actions::parsed_quota))]
     pub(crate) fn quota(&mut self) -> Option<Quota>
-        ensures { Takes (quota_of self.old) result self.new }
+        ensures { ReadsValue (parsed_quota self.old) result self.new }
     {
         if self.flag(b"quota") {
             let blocks = self.number_between(8, 64)?;
@@ -104,16 +104,16 @@ impl Words<'_> {
 
     /// The number of a log.
     pub(crate) fn handle(&mut self) -> Option<u8>
-        ensures { Takes (next (number_between 0 3) self.old) result self.new }
+        ensures { ReadsValue (next (number_between 0 3) self.old) result self.new }
     {
         let handle = self.number_between(0, MOST_HANDLE)?;
         Some(handle as u8)
     }
 
     /// The log of a stream, none where the words don't say it.
-    #[tactic(auto, unfolding(crate::specs::Grammar::log_of))]
+    #[tactic(auto, unfolding(crate::specs::Grammar::parsed_log))]
     pub(crate) fn log(&mut self) -> Option<Option<u8>>
-        ensures { Takes (log_of self.old) result self.new }
+        ensures { ReadsValue (parsed_log self.old) result self.new }
     {
         if self.flag(b"log") {
             let handle = self.handle()?;
@@ -124,9 +124,9 @@ impl Words<'_> {
     }
 
     /// Whether a stream is opened with the sizes of its record, which only a run asks.
-    #[tactic(auto, unfolding(crate::specs::Grammar::stored_of))]
+    #[tactic(auto, unfolding(crate::specs::Grammar::parsed_stored))]
     pub(crate) fn stored(&mut self, mode: Mode) -> bool
-        ensures { stored_of mode self.old ≡ (result, self.new) }
+        ensures { parsed_stored mode self.old ≡ (result, self.new) }
     {
         match mode {
             Mode::Run => self.flag(b"stored"),
@@ -135,15 +135,15 @@ impl Words<'_> {
     }
 
     pub(crate) fn lsn(&mut self) -> Option<Lsn>
-        ensures { Takes (next (number_between 1 4611686018427387904) self.old) result self.new }
+        ensures { ReadsValue (next (number_between 1 4611686018427387904) self.old) result self.new }
     {
         let lsn = self.number_between(1, MOST_LSN)?;
         Lsn::new(lsn)
     }
 
-    #[tactic(auto, unfolding(crate::specs::Actions::span_of))]
+    #[tactic(auto, unfolding(crate::specs::Actions::parsed_span))]
     pub(crate) fn span(&mut self) -> Option<Span>
-        ensures { Takes (span_of self.old) result self.new }
+        ensures { ReadsValue (parsed_span self.old) result self.new }
     {
         let from = self.number()?;
         let to = self.number()?;
@@ -151,9 +151,9 @@ impl Words<'_> {
     }
 
     /// The range at the end of a line, none where the line is of a whole stream.
-    #[tactic(auto, unfolding(crate::specs::Actions::optional_span_of))]
+    #[tactic(auto, unfolding(crate::specs::Actions::parsed_optional_span))]
     pub(crate) fn optional_span(&mut self) -> Option<Option<Span>>
-        ensures { result ≡ optional_span_of self.old }
+        ensures { result ≡ parsed_optional_span self.old }
     {
         if self.is_empty() {
             return Some(None);
@@ -167,9 +167,9 @@ impl Words<'_> {
     }
 
     /// The sizes of a file that is opened, any three numbers.
-    #[tactic(auto, unfolding(crate::specs::Actions::sizes_of))]
+    #[tactic(auto, unfolding(crate::specs::Actions::parsed_sizes))]
     pub(crate) fn sizes(&mut self) -> Option<FileSizes>
-        ensures { Takes (sizes_of self.old) result self.new }
+        ensures { ReadsValue (parsed_sizes self.old) result self.new }
     {
         let allocation = self.number()?;
         let size = self.number()?;
@@ -182,36 +182,36 @@ impl Words<'_> {
     }
 
     pub(crate) fn file(&mut self, streams: &StreamLines) -> Option<FileId>
-        ensures { Takes (next (file_of streams.now) self.old) result self.new }
+        ensures { ReadsValue (next (parsed_file streams.now) self.old) result self.new }
     {
         file_word::file(streams, self.next()?)
     }
 
     pub(crate) fn stream(&mut self, streams: &StreamLines) -> Option<StreamId>
-        ensures { Takes (next (stream_named streams.now) self.old) result self.new }
+        ensures { ReadsValue (next (stream_named streams.now) self.old) result self.new }
     {
         streams.find(self.next()?)
     }
 
     /// The path of a read.
     pub(crate) fn path(&mut self) -> Option<ReadPath>
-        ensures { Takes (next path_of self.old) result self.new }
+        ensures { ReadsValue (next parsed_path self.old) result self.new }
     {
         path_word::path(self.next()?)
     }
 
     /// The number of a page.
     pub(crate) fn page_number(&mut self) -> Option<u64>
-        ensures value { Takes (next page_number self.old) result self.new }
+        ensures value { ReadsValue (next page_number self.old) result self.new }
         ensures in_range { IfSome result (λ page. page < 2 ^ 51) }
     {
         self.number_between(0, MOST_PAGE)
     }
 
     /// A page of a stream.
-    #[tactic(auto, unfolding(crate::specs::EventActions::page_of))]
+    #[tactic(auto, unfolding(crate::specs::EventActions::parsed_page))]
     pub(crate) fn page(&mut self, streams: &StreamLines) -> Option<PageId>
-        ensures { Takes (page_of streams.now self.old) result self.new }
+        ensures { ReadsValue (parsed_page streams.now self.old) result self.new }
     {
         let stream = self.stream(streams)?;
         let page = self.page_number()?;
@@ -219,14 +219,14 @@ impl Words<'_> {
     }
 
     /// A file, so many bytes of it from a place on, and a word that is bound to a hold on them.
-    #[tactic(auto, unfolding(crate::specs::HoldActions::stretch_of))]
+    #[tactic(auto, unfolding(crate::specs::HoldActions::parsed_stretch))]
     pub(crate) fn stretch(
         &mut self,
         alloc: Global,
         streams: &StreamLines,
         names: &mut HoldNames,
     ) -> Result<Stretch, LineFault>
-        ensures { TakesBound (stretch_of streams.now names.old self.old) result names.new self.new }
+        ensures { TakesBound (parsed_stretch streams.now names.old self.old) result names.new self.new }
     {
         let file = self.file(streams).ok_or(LineFault::Syntax)?;
         let at = self.number().ok_or(LineFault::Syntax)?;
@@ -243,20 +243,20 @@ impl Words<'_> {
 
     /// A word that was bound.
     pub(crate) fn word(&mut self, names: &HoldNames) -> Option<HoldWord>
-        ensures { Takes (next (word_of names.now) self.old) result self.new }
+        ensures { ReadsValue (next (word_of names.now) self.old) result self.new }
     {
         names.find(self.next()?)
     }
 
     pub(crate) fn name(&mut self, alloc: Global) -> Result<Name, LineFault>
-        ensures { TakesIf (next name_of self.old) result self.new }
+        ensures { TakesIf (next name_of_word self.old) result self.new }
     {
         let word = self.next().ok_or(LineFault::Syntax)?;
         Name::of(alloc, word)
     }
 
     pub(crate) fn bytes(&mut self, alloc: Global) -> Result<Bytes, LineFault>
-        ensures { TakesIf (next bytes_of self.old) result self.new }
+        ensures { TakesIf (next parsed_bytes self.old) result self.new }
     {
         let word = self.next().ok_or(LineFault::Syntax)?;
         byte_word::bytes(alloc, word)

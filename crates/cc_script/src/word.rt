@@ -2,15 +2,15 @@
 
 ghost use Rattle.std.specs.Prelude.{◌≡◌, ◌≤◌, true, IfSome};
 ghost use Rattle.std.specs.Bool.{OnTrue};
-ghost use Rattle.cc_script.specs.Words.{number_of, number_onto, number_between, is_name, is_name_byte, caller_of};
+ghost use Rattle.cc_script.specs.Words.{parsed_number, number_onto, number_between, is_name, is_name_byte, parsed_caller};
 ghost use Rattle.std.specs.List.{list_all};
 
 use crate::part::first_byte;
 
 /// A decimal number below 2^64, without a leading zero.
-#[tactic(auto, unfolding(crate::specs::Words::number_of))]
+#[tactic(auto, unfolding(crate::specs::Words::parsed_number))]
 pub(crate) fn number(word: &[u8]) -> Option<u64>
-    ensures { result ≡ number_of word.now }
+    ensures { result ≡ parsed_number word.now }
 {
     let (first, rest) = first_byte(word)?;
     if first == b'0' && !rest.is_empty() {
@@ -67,9 +67,9 @@ pub(crate) fn is_name_byte(c: u8) -> bool
 }
 
 /// The caller that a word `t1` to `t16` names.
-#[tactic(auto, unfolding(crate::specs::Words::caller_of))]
+#[tactic(auto, unfolding(crate::specs::Words::parsed_caller))]
 pub(crate) fn caller(word: &[u8]) -> Option<u32>
-    ensures value { result ≡ caller_of word.now }
+    ensures value { result ≡ parsed_caller word.now }
     ensures in_range { IfSome result (λ caller. caller ≤ 16) }
 {
     let (first, number) = first_byte(word)?;

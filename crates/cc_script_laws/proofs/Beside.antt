@@ -29,7 +29,7 @@ use Rattle.cc_model.specs.Objects.{had_map, objects}
 use Rattle.cc_model.specs.Passes.{is_mine}
 use Rattle.cc_model.specs.Settings.{log_after}
 use Rattle.cc_own.proofs.CallsKeep.{filed-stream}
-use Rattle.cc_restart_laws.specs.Updates.{IsUpdated, IsUpdatedBy, MayAct, MayDo}
+use Rattle.cc_restart_laws.specs.Updates.{IsUpdated, IsUpdatedBy, MayActByUpdate, MayDoByUpdate}
 use Rattle.cc_update_laws.specs.Keeping.{HasNoneOpen}
 use Rattle.cc_update_laws.proofs.Keeping.{KeepsAll, OpensNone, StaysOpen, is_write, one-pass, open-entry, stays-on, stays-open}
 use Rattle.cc_script_laws.proofs.LineWalks.{is_plain, same-pass}
@@ -205,8 +205,8 @@ module _ (s log me nth : ℕ) (past : List Entry) where
     now : history (done_entry ∷ past) s ≡ Did me it reply ∷ history past s
     now = history-effect done_entry past s (Some (Did me it reply)) (same-effect s me nth it reply)
 
-    may : (a : Act) → act_of it ≡ a → MayAct s log past me it a → (t : ℕ) → t ≡ s → MayDo s log past me it
-    may a is acts t same = record { acts = subst (MayAct s log past me it) (sym is) acts; keeps_log = log-kept it file_is sets }
+    may : (a : Act) → act_of it ≡ a → MayActByUpdate s log past me it a → (t : ℕ) → t ≡ s → MayDoByUpdate s log past me it
+    may a is acts t same = record { acts = subst (MayActByUpdate s log past me it) (sym is) acts; keeps_log = log-kept it file_is sets }
 
     -- object 0 stays open, where it was and the call leaves the objects alone
     stays-alone : (objects (Did me it reply ∷ history past s) ≡ objects (history past s)) → (had_map (Did me it reply ∷ history past s) ≡ had_map (history past s)) → IsUpdated s log past → StaysOpen s (done_entry ∷ past)

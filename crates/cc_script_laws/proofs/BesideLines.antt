@@ -26,7 +26,7 @@ use Rattle.cc_records.specs.Left.{SettleLeft}
 use Rattle.cc_redo.specs.Reading.{said_by}
 use Rattle.cc_redo.specs.declared.record.LogRecord.{LogRecord}
 use Rattle.cc_redo.specs.declared.record.LogRecord.TheVariants.{Update, Checkpoint}
-use Rattle.cc_restart_laws.specs.Updates.{IsUpdatedBy, MayLog}
+use Rattle.cc_restart_laws.specs.Updates.{IsUpdatedBy, MayLogRecord}
 use Rattle.cc_update_laws.proofs.Keeping.{KeepsAll, all-idle, all-then}
 use Rattle.cc_update_laws.proofs.Said.{said-update}
 use Rattle.cc_update_laws.proofs.Updates.{all-update}
@@ -77,7 +77,7 @@ seen-update u me file at bytes answered old new left =
 
 -- ---- what a record says that is none of an update of the stream, and no checkpoint
 
-log-neither : (s log me : ℕ) (told : Option LogRecord) (past : List Entry) → says_neither s told ≡ true → MayLog s log me told past
+log-neither : (s log me : ℕ) (told : Option LogRecord) (past : List Entry) → says_neither s told ≡ true → MayLogRecord s log me told past
 log-neither s log me None past says = tt
 log-neither s log me (Some (Update stream at bytes)) past says = λ same. absurd (clash (eq-eqb stream s same) (not-false (stream == s) says))
 log-neither s log me (Some (Checkpoint rows)) past says = absurd (cc says)

@@ -41,19 +41,19 @@ use Rattle.cc_effects.specs.Asked.{Calls, Work, Writes}
 use Rattle.cc_effects.specs.Calls.{CallLeft, IsOvertaken, IsPlaced, IsRefused}
 use Rattle.cc_effects.specs.LogCalls.{AppendRefused, FlushRefused, LogFlushLeft, WasFlushed}
 use Rattle.cc_effects.specs.Moments.{EachOwn, IsIdle, Others, PlacedOnly}
-use Rattle.cc_effects.specs.Noncached.{AlignedReadLeft, AlignedWriteLeft, IsPageWritten, IsTransferred, IsUntold, MisshapenLeft, NcReadLeft, PageReadsRefused, PageRefused, PagesRead, PagesWritten, ShapedReadLeft, ShapedWriteLeft, TakesOut, TransferRefused, pages_from, shape_refusal}
+use Rattle.cc_effects.specs.Noncached.{AlignedReadLeft, AlignedWriteLeft, IsPageWritten, StoreIsTransferred, IsUntold, MisshapenLeft, NcReadLeft, PageReadsRefused, PageRefused, PagesRead, PagesWritten, ShapedReadLeft, ShapedWriteLeft, TakesOut, TransferRefused, pages_from, shape_refusal}
 use Rattle.cc_effects.specs.PageWrites.{HasScanned, TickCutOff}
 use Rattle.cc_effects.specs.Places.{MayPlace, Works}
 use Rattle.cc_effects.specs.Repins.{UnpinLeft}
 use Rattle.cc_effects.specs.Throttle.{PostLeft}
-use Rattle.cc_records.specs.Left.{HasFlushed, RecordStopped, SettleLeft, SyncedRecord, SyncedSome, WroteRecord, WroteSome}
+use Rattle.cc_records.specs.Left.{StreamHasFlushed, RecordStopped, SettleLeft, SyncedRecord, SyncedSome, WroteRecord, WroteSome}
 use Rattle.cc_pieces.specs.Answered.{AheadAnswered, AppendAnswered, CallAnswered, CompletionAnswered, DeferAnswered, LevelsAnswered, LogFlushAnswered, NcReadAnswered, NcWriteAnswered, PostsAnswered, PostsLeft, PostsRefused, SettleAnswered, StartAnswered, TickAnswered, bytes_outcome}
 use Rattle.cc_pieces.specs.Bindings.{Binding, OnHold, hold_named}
 use Rattle.cc_pieces.specs.Checkpoints.{AskingStopped, CheckpointAnswered, CheckpointLeft, RecordFlushed, RecordLogged, RowsLogged, StateAsked, StateRefused, StatesAsked, SyncedLogged, first_object, record_of_rows, sync_call}
 use Rattle.cc_pieces.specs.HoldLines.{HeldReadBy, HoldLine, UnpinAnswered, UnrepinLine}
 use Rattle.cc_pieces.specs.Locks.{FoundLeft, LockAnswered, LockedLeft, LockedReadAnswered, LockedUpdateAnswered, LockedWriteAnswered, TestLeft, UnlockAnswered, read_refused, tested_range, update_refused, write_refused}
 use Rattle.cc_pieces.specs.Served.{Served}
-use Rattle.cc_pieces.specs.Shim.{CallsLeft, HeldPartsLeft, HoldPath, PartRead, PartRefused, PartsLeft, LoggedLeft, PathReadLeft, PinnedUpdateLeft, ReadTested, RecordedLeft, ToldUpdateLeft, ToldWriteLeft, UpdateLeft, WriteTested, descriptor_path, extensions, mapped_path, misaligned_for, parts_of, pinned_path, too_long_for, update_record, whole_part, write_calls, zeroings}
+use Rattle.cc_pieces.specs.Shim.{CallsLeft, HeldPartsLeft, HoldPath, PartRead, PartRefused, PartsLeft, LoggedLeft, PathReadLeft, PinnedUpdateLeft, ReadTested, RecordedLeft, ToldUpdateLeft, ToldWriteLeft, UpdateLeft, WriteTested, descriptor_path, extensions, mapped_path, misaligned_for, parts_of, pinned_path, too_long_for, update_record_of_file, whole_part, write_calls, zeroings}
 use Rattle.cc_script_laws.specs.Lines.{is_one_call, was_refused}
 
 pub same-pass : (me : ℕ) → (me == me) ≡ true
@@ -449,7 +449,7 @@ module _ (u : Setup) (me : ℕ) (Makes : Call → Type 0) (W : List Entry → Li
     follow-nc-read at len other old new left = absurd left
 
   module _ (file : File) (writes : (it : Call) → IsNcWriteOf file it → Makes it) where
-    follow-transferred : (page : ℕ) (bytes : List ℕ) (end : End) (old new : List Entry) → IsTransferred me file page bytes end old new → W old new
+    follow-transferred : (page : ℕ) (bytes : List ℕ) (end : End) (old new : List Entry) → StoreIsTransferred me file page bytes end old new → W old new
     follow-transferred page bytes end old new is =
         let place : Page = record { stream = file.stream; page = page } in
         let store : Call = call.NcStore file page bytes in
@@ -663,7 +663,7 @@ module _ (u : Setup) (me : ℕ) (Makes : Call → Type 0) (W : List Entry → Li
   -- ---- the parts of an update, of a settle and of a checkpoint
 
   module _ (file : File) (at : ℕ) (bytes : List ℕ) (updates : (it : Call) → IsUpdateOf file it → Makes it)
-      (appended : (handle lsn : ℕ) (past : List Entry) → W past (entry.Append me handle lsn (update_record file at bytes) ∷ past)) where
+      (appended : (handle lsn : ℕ) (past : List Entry) → W past (entry.Append me handle lsn (update_record_of_file file at bytes) ∷ past)) where
     follow-recorded-update : (id lsn : ℕ) (answered : Result ℕ CcError) (old new : List Entry) → RecordedLeft u me id at bytes lsn answered old new → W old new
     follow-recorded-update id lsn (Ok told) old new left =
         follow-calls (call.PinnedWrite id at bytes ∷ call.SetDirty id (Some lsn) ∷ []) (Ok tt) old new
@@ -673,9 +673,9 @@ module _ (u : Setup) (me : ℕ) (Makes : Call → Type 0) (W : List Entry → Li
         (updates (call.PinnedWrite id at bytes) tt, (updates (call.SetDirty id (Some lsn)) tt, tt)) left.1
 
     follow-logged-update : (id handle : ℕ) (answered : Result ℕ CcError) (old new : List Entry) → LoggedLeft u me file id at bytes handle answered old new → W old new
-    follow-logged-update id handle answered old new (inl left) = follow-append handle (update_record file at bytes) (answer.Refused left.0) old new (appended handle) left.2
+    follow-logged-update id handle answered old new (inl left) = follow-append handle (update_record_of_file file at bytes) (answer.Refused left.0) old new (appended handle) left.2
     follow-logged-update id handle answered old new (inr left) =
-        f.joins old left.0 new (follow-append handle (update_record file at bytes) (answer.NewLsn left.1) old left.0 (appended handle) left.2)
+        f.joins old left.0 new (follow-append handle (update_record_of_file file at bytes) (answer.NewLsn left.1) old left.0 (appended handle) left.2)
         (follow-recorded-update id left.1 answered left.0 new left.3)
 
     follow-told-update : (id : ℕ) (log : Option ℕ) (valid : ℕ) (answered : Result ℕ CcError) (old new : List Entry) → ToldUpdateLeft u me file id at bytes log valid answered old new → W old new
@@ -700,14 +700,14 @@ module _ (u : Setup) (me : ℕ) (Makes : Call → Type 0) (W : List Entry → Li
 
   -- a settle: the state of the stream, a flush of it, a write of its record and a sync
   module _ (file : File) (asks : Makes (call.State file)) (flushes : Makes (call.Flush file None))
-      (wrote : (told : FileState) (begun old flushed front : List Entry) (size valid : ℕ) (end : End) → HasFlushed u me file told begun old flushed → IsIdle me flushed front →
+      (wrote : (told : FileState) (begun old flushed front : List Entry) (size valid : ℕ) (end : End) → StreamHasFlushed u me file told begun old flushed → IsIdle me flushed front →
       valid ≡ min (valid_of (history begun file.stream)) (valid_of (history front file.stream)) → W front (entry.Record me file.stream size valid end ∷ front)) where
-    follow-has-flushed : (told : FileState) (begun old new : List Entry) → HasFlushed u me file told begun old new → W old new
+    follow-has-flushed : (told : FileState) (begun old new : List Entry) → StreamHasFlushed u me file told begun old new → W old new
     follow-has-flushed told begun old new is =
         f.joins old is.stated new (follow-call (call.State file) (outcome.Done (reply.State told)) old is.stated asks is.state)
         (f.joins is.stated begun new (f.idle is.stated begun is.idle) (follow-call (call.Flush file None) (outcome.Done reply.Unit) begun new flushes is.flush))
 
-    module _ (told : FileState) (begun old flushed : List Entry) (has : HasFlushed u me file told begun old flushed) where
+    module _ (told : FileState) (begun old flushed : List Entry) (has : StreamHasFlushed u me file told begun old flushed) where
       follow-wrote : (size valid : ℕ) (end : End) (new : List Entry) → WroteRecord me file.stream (valid_of (history begun file.stream)) size valid end flushed new → W flushed new
       follow-wrote size valid end new is =
           f.joins flushed is.front new (f.idle flushed is.front is.before)

@@ -26,7 +26,7 @@ use Rattle.cc_format.specs.declared.record.StreamRecord.{StreamRecord}
 use Rattle.cc_format.specs.declared.record.StreamRecord.TheVariants.{V1, V2}
 use Rattle.cc_script.specs.declared.script.RestartLine.{RestartLine}
 use Rattle.cc_script.specs.declared.script.StreamLine.{StreamLine}
-use Rattle.cc_restarts.specs.Given.{AreSizes, size_said, valid_said}
+use Rattle.cc_restarts.specs.Given.{AreRestartSizes, size_said, valid_said}
 use Rattle.cc_laws.proofs.HistorySteps.{history-effect}
 use Rattle.cc_laws.proofs.ObjectSteps.{had_map-opens}
 use Rattle.cc_laws.proofs.SoundFacts.{size_of-good, valid_of-good}
@@ -47,11 +47,11 @@ use Rattle.cc_restart_laws.specs.Updates.{IsUpdated}
 use Rattle.cc_pieces.proofs.Grown.{grew-call, grew-then}
 use Rattle.cc_pieces.proofs.Unrecorded.{lines-unrecorded, restarts-unrecorded}
 use Rattle.cc_pieces.specs.Answered.{CallAnswered}
-use Rattle.cc_pieces.specs.Explained.{Answered, Given, IsExplained}
+use Rattle.cc_pieces.specs.Explained.{Answered, GivenToRun, IsExplained}
 use Rattle.cc_pieces.specs.Openings.{LoggedOpening, Opened, OpeningBehind, RecordedOpening, StreamOpening, first_object_of, is_record_of, opening_sizes, opening_with}
 use Rattle.cc_pieces.specs.Phases.{Plan}
-use Rattle.cc_pieces.specs.Restarts.{Restarted, refused_for}
-use Rattle.cc_stop_laws.specs.Redoable.{IsNumbered, RecordsTell}
+use Rattle.cc_pieces.specs.Restarts.{RestartsInOrder, refused_for}
+use Rattle.cc_stop_laws.specs.Redoable.{StreamIsNumbered, RecordsTell}
 use Rattle.cc_script_laws.specs.Told.{TellsLesser, initialises}
 use Rattle.cc_script_laws.proofs.Growing.{good-seen, had-seen, seen-entry, seen-idle, seen-none}
 use Rattle.cc_script_laws.proofs.LineWalks.{Follows, follow-settle-left}
@@ -122,7 +122,7 @@ module _ (u : Setup) where
       grew-then old opened.0 new (seen-behind t stream (refused_for stream.log restarts ended) reply.answer old opened.0 opened.1.opened)
       (seen-opened restarts ended (suc t) streams replies opened.0 new opened.2)
 
-  seen-restarts : (restarts : List RestartLine) (ended : List LineReply) (old new : List Entry) → Restarted u restarts ended old new → HasSeen old new
+  seen-restarts : (restarts : List RestartLine) (ended : List LineReply) (old new : List Entry) → RestartsInOrder u restarts ended old new → HasSeen old new
   seen-restarts restarts ended old new done = follow-restarts u Any HasSeen seen-follows restarts ended old new done
 
 -- ---- the line of a stream that was done
@@ -331,7 +331,7 @@ get-within (y ∷ xs) zero x is = omega arith
 get-within (y ∷ xs) (suc n) x is = let rest = get-within xs n x is in omega (arith, rest)
 
 -- the reply of a stream's line
-module _ (u : Setup) (given : Given) (told : Answered) (taken : List Request) (past : List Entry) (is : IsExplained u given told taken past) where
+module _ (u : Setup) (given : GivenToRun) (told : Answered) (taken : List Request) (past : List Entry) (is : IsExplained u given told taken past) where
   pub ended-long : length is.ended ≡ length given.restarts
   ended-long = sym (length-map is.ended (λ r. r.line)) ∙ (ap length is.restart_lines ∙ length-map given.restarts (λ l. l.line))
 
@@ -355,7 +355,7 @@ said-size : (stream : StreamLine) (read : Option StreamRecord) → (opening_size
 said-size stream None = refl
 said-size stream (Some told) = refl
 
-module _ (u : Setup) (given : Given) (told : Answered) (taken : List Request) (past : List Entry) (is : IsExplained u given told taken past) (good : IsGoodSoFar u past) (s log : ℕ) (updated : IsUpdated s log past) (stream : StreamLine) (line : LineReply)
+module _ (u : Setup) (given : GivenToRun) (told : Answered) (taken : List Request) (past : List Entry) (is : IsExplained u given told taken past) (good : IsGoodSoFar u past) (s log : ℕ) (updated : IsUpdated s log past) (stream : StreamLine) (line : LineReply)
     (at : slice_get given.streams s ≡ Some stream) (answered : slice_get told.replies (length given.restarts + s) ≡ Some line) (read : Option StreamRecord) (pages : ℕ → List ℕ) (tells : u.opening s ≡ Some pages) (reads : IsReadAs (pages (2 ^ 51)) read)
     (known : (stream.stored ≡ true) ⊎ (read ≡ None)) where
   abbrev sizes : FileSizes
@@ -437,10 +437,10 @@ module _ (u : Setup) (given : Given) (told : Answered) (taken : List Request) (p
             let lesser = k.lesser in
             omega (arith, is_valid, low, lesser, same_first, raised)
 
-    numbered-by : AreSizes stream read → IsNumbered s stream read past
+    numbered-by : AreRestartSizes stream read → StreamIsNumbered s stream read past
     numbered-by are = record { sizes = are; opened = valid-is; size = size-is; records = records-tell }
 
-    sizes-had : had_map (history past s) ≡ true → AreSizes stream read
+    sizes-had : had_map (history past s) ≡ true → AreRestartSizes stream read
     sizes-had had =
         let valid = valid-is had in
         let size = size-is had in
@@ -450,7 +450,7 @@ module _ (u : Setup) (given : Given) (told : Answered) (taken : List Request) (p
         record { within = omega (arith, valid, size, low, within); in_range = omega (arith, size, fits) }
 
   -- where the line was done
-  pub numbered-done : line.answer ≡ answer.Given reply.Unit → IsNumbered s stream read past
+  pub numbered-done : line.answer ≡ answer.Given reply.Unit → StreamIsNumbered s stream read past
   numbered-done done = numbered-by numbers (sizes-had numbers had)
     where
       had_begun : had_map (history is.begun s) ≡ true
@@ -470,7 +470,7 @@ module _ (u : Setup) (given : Given) (told : Answered) (taken : List Request) (p
           (all-stand (OpensWith s sizes) (unpassed-opens s sizes) [] is.begun begun-each tt) had_begun))
 
   -- where no line of a caller initialises the stream
-  pub numbered-kept : AllByRecursion (λ each. initialises s each.action ≡ false) given.lines → AreSizes stream read → IsNumbered s stream read past
+  pub numbered-kept : AllByRecursion (λ each. initialises s each.action ≡ false) given.lines → AreRestartSizes stream read → StreamIsNumbered s stream read past
   numbered-kept none are = numbered-by numbers are
     where
       each : (me : ℕ) → Walked (OpensWith s sizes) me [] past

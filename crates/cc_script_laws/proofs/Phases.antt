@@ -27,7 +27,7 @@ use Rattle.cc_update_laws.proofs.Recorded.{RecordsNone, none-idle, none-then, st
 use Rattle.cc_update_laws.specs.Keeping.{AreStamped, HasNoneOpen, OthersRecordNone, RowsFit}
 use Rattle.cc_pieces.proofs.Grown.{grew-then}
 use Rattle.cc_pieces.specs.Bindings.{Binding}
-use Rattle.cc_pieces.specs.Explained.{Answered, Given, IsExplained}
+use Rattle.cc_pieces.specs.Explained.{Answered, GivenToRun, IsExplained}
 use Rattle.cc_pieces.specs.Phases.{PhaseRan, PhasesRan, Plan, is_of_phase, lazy_writer, limit_in, lines_before, lines_in, read_ahead_worker}
 use Rattle.cc_pieces.specs.Runs.{Ran, asked_of, bindings_of}
 use Rattle.cc_pieces.specs.Served.{bindings_after}
@@ -182,7 +182,7 @@ pub record RanLines (u : Setup) (s log : ℕ) (Line : Action → Answer → Type
 abbrev pub LinesOf : Setup → ℕ → ℕ → (Action → Answer → Type 0) → ℕ → List Entry → List Entry → Type 0
 LinesOf u s log Line me old new = RecordsNone s log me old new ⊎ RanLines u s log Line me old new
 
-module _ (u : Setup) (given : Given) (told : Answered) (taken : List Request) (past : List Entry) (is : IsExplained u given told taken past) (good : IsGoodSoFar u past) (s log : ℕ) (opened : Type 0) (has_opened : opened → had_map (history is.begun s) ≡ true)
+module _ (u : Setup) (given : GivenToRun) (told : Answered) (taken : List Request) (past : List Entry) (is : IsExplained u given told taken past) (good : IsGoodSoFar u past) (s log : ℕ) (opened : Type 0) (has_opened : opened → had_map (history is.begun s) ≡ true)
     (has_log : (log_of (history is.begun s) ≡ Some log) ⊎ (had_map (history past s) ≡ false)) (begun_keeps : (me : ℕ) → KeepsAll s log me [] is.begun)
     (opens : AllByRecursion (λ (each : ActionLine). opened ⊎ (initialises s each.action ≡ false)) given.lines)
     (leaves : AllByRecursion (λ (each : Action × Answer). left_to_updates s log each.0 each.1 ≡ true) (asked_of (λ line. true) given.lines is.answers)) (apart : CheckpointsStandApart given.lines)
@@ -368,7 +368,7 @@ module _ (u : Setup) (given : Given) (told : Answered) (taken : List Request) (p
 
 -- ---- where no update is refused for want
 
-module _ (u : Setup) (given : Given) (told : Answered) (taken : List Request) (past : List Entry) (is : IsExplained u given told taken past) (good : IsGoodSoFar u past) (s log : ℕ) where
+module _ (u : Setup) (given : GivenToRun) (told : Answered) (taken : List Request) (past : List Entry) (is : IsExplained u given told taken past) (good : IsGoodSoFar u past) (s log : ℕ) where
   -- no update has a record before the phases
   begun-stamped : AreStamped s log is.begun
   begun-stamped = stamped-over s log 0 [] [] is.begun first (others-none s log 0 [] is.begun (λ me other. none-idle s log me [] is.begun (is.alone me other))) [] refl none-yet
@@ -406,7 +406,7 @@ dropped [] ys (suc n) is = absurd (cc is)
 dropped (x ∷ xs) ys zero is = absurd (cc is)
 dropped (x ∷ xs) ys (suc n) is = dropped xs ys n (omega (arith, is))
 
-pub answers-are : (u : Setup) (given : Given) (told : Answered) (taken : List Request) (past : List Entry) (is : IsExplained u given told taken past) → drop (length given.streams) (drop (length given.restarts) told.replies) ≡ is.answers
+pub answers-are : (u : Setup) (given : GivenToRun) (told : Answered) (taken : List Request) (past : List Entry) (is : IsExplained u given told taken past) → drop (length given.streams) (drop (length given.restarts) told.replies) ≡ is.answers
 answers-are u given told taken past is =
     ap (λ (l : List LineReply). drop (length given.streams) (drop (length given.restarts) l)) is.replies_are
     ∙ (ap (λ (l : List LineReply). drop (length given.streams) l) (dropped is.ended (is.setup ++ is.answers) (length given.restarts) (ended-long u given told taken past is))

@@ -38,7 +38,7 @@ use Rattle.cc_pieces.specs.Checkpoints.{CheckpointLeft, oldest_row, record_of_ro
 use Rattle.cc_pieces.specs.Openings.{Opened, first_object_of}
 use Rattle.cc_pieces.specs.Phases.{lazy_writer, read_ahead_worker}
 use Rattle.cc_pieces.specs.Restarts.{refused_for}
-use Rattle.cc_pieces.specs.Shim.{UpdateLeft, update_record}
+use Rattle.cc_pieces.specs.Shim.{UpdateLeft, update_record_of_file}
 use Rattle.cc_script_laws.specs.Lines.{says_neither}
 use Rattle.cc_script_laws.proofs.LineWalks.{Follows, follow-ahead, follow-checkpoint-left, follow-settle-left, follow-tick, follow-update-left, is_plain}
 use Rattle.cc_script_laws.proofs.RunWalks.{follow-behind}
@@ -83,8 +83,8 @@ rows-none : (s log me handle lsn : ℕ) (rows : List DirtyRow) → records_updat
 rows-none s log me handle lsn rows = and-false (handle == log) (is_update_of s (said_by (record_of_rows rows))) (checkpoint-says s (map oldest_row rows))
 
 -- nor does that of an update of another stream
-other-none : (s log me handle lsn : ℕ) (file : File) (at : ℕ) (bytes : List ℕ) → said_by (update_record file at bytes) ≡ Some (Update file.stream at bytes) → (file.stream == s) ≡ false → records_update s log (entry.Append me handle lsn (update_record file at bytes)) ≡ false
-other-none s log me handle lsn file at bytes says apart = and-false (handle == log) (is_update_of s (said_by (update_record file at bytes))) (ap (is_update_of s) says ∙ apart)
+other-none : (s log me handle lsn : ℕ) (file : File) (at : ℕ) (bytes : List ℕ) → said_by (update_record_of_file file at bytes) ≡ Some (Update file.stream at bytes) → (file.stream == s) ≡ false → records_update s log (entry.Append me handle lsn (update_record_of_file file at bytes)) ≡ false
+other-none s log me handle lsn file at bytes says apart = and-false (handle == log) (is_update_of s (said_by (update_record_of_file file at bytes))) (ap (is_update_of s) says ∙ apart)
 
 pub plain-none : (s log : ℕ) (e : Entry) → is_plain e ≡ true → records_update s log e ≡ false
 plain-none s log (entry.Append pass handle lsn bytes) plain = absurd (cc plain)
@@ -120,10 +120,10 @@ module _ (u : Setup) (s log : ℕ) where
       follow-checkpoint-left u me Any (RecordsNone s log me) (none-follows me) streams handle (λ it is. tt)
       (λ rows lsn past. none-entry s log me (entry.Append me handle lsn (record_of_rows rows)) past (rows-none s log me handle lsn rows)) answered old new left
 
-  pub none-other : (me : ℕ) (file : File) (at : ℕ) (bytes : List ℕ) → said_by (update_record file at bytes) ≡ Some (Update file.stream at bytes) → (file.stream == s) ≡ false → (answered : Result ℕ CcError) (old new : List Entry) → UpdateLeft u me file at bytes answered old new → RecordsNone s log me old new
+  pub none-other : (me : ℕ) (file : File) (at : ℕ) (bytes : List ℕ) → said_by (update_record_of_file file at bytes) ≡ Some (Update file.stream at bytes) → (file.stream == s) ≡ false → (answered : Result ℕ CcError) (old new : List Entry) → UpdateLeft u me file at bytes answered old new → RecordsNone s log me old new
   none-other me file at bytes says apart answered old new left =
       follow-update-left u me Any (RecordsNone s log me) (none-follows me) file at bytes (λ it is. tt)
-      (λ handle lsn past. none-entry s log me (entry.Append me handle lsn (update_record file at bytes)) past (other-none s log me handle lsn file at bytes says apart)) answered old new left
+      (λ handle lsn past. none-entry s log me (entry.Append me handle lsn (update_record_of_file file at bytes)) past (other-none s log me handle lsn file at bytes says apart)) answered old new left
 
   pub none-tick : (told : Answer) (old new : List Entry) → TickAnswered lazy_writer told old new → RecordsNone s log lazy_writer old new
   none-tick told old new left = follow-tick u lazy_writer Any (RecordsNone s log lazy_writer) (none-follows lazy_writer) told old new left

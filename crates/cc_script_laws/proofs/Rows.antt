@@ -7,7 +7,7 @@ use Rattle.std.specs.declared.option.Option.TheVariants.{Some, None}
 use Rattle.std.proofs.Common.{ap, sym, subst, ◌∙◌, arith, append_assoc, length-append}
 use Rattle.std.proofs.lemmas.Bool.{and_parts, ltb-false, ltb-true}
 use Rattle.std.proofs.lemmas.List.Sums.{sum_by-cons}
-use Rattle.cc_entry.specs.Lsns.{alone, joined}
+use Rattle.cc_entry.specs.Lsns.{lsn_alone, joined}
 use Rattle.cc_entry.specs.Pages.{has_page}
 use Rattle.cc_entry.specs.Place.{Range}
 use Rattle.cc_entry.specs.declared.call.Call.{Call}
@@ -33,7 +33,7 @@ use Rattle.cc_model.specs.Ranges.{span_has}
 use Rattle.cc_model.specs.Settings.{log_of}
 use Rattle.cc_model.specs.Setup.{Setup}
 use Rattle.cc_model.specs.Sizes.{Touch, cut_if, dropped_if, ended_ok, hold_has, stored_range, touched_if}
-use Rattle.cc_model.specs.Stamps.{dirty_table, is_log, lsns_among, row_of, rows_of}
+use Rattle.cc_model.specs.Stamps.{dirty_table, is_log, lsns_among, dirty_row_of, dirty_rows_of}
 use Rattle.cc_model.specs.Touches.{dirty_pages, size_of, touches, unwritten}
 use Rattle.cc_redo.specs.Reading.{FitsRow}
 use Rattle.cc_restart_laws.proofs.Records.{good-rest'}
@@ -208,7 +208,7 @@ abbrev FitsLsns : ℕ → Option (ℕ × ℕ) → Type 0
 FitsLsns p None = Unit {0}
 FitsLsns p (Some lsns) = (lsns.0 < 2 ^ 64) × (4096 * p < 2 ^ 63)
 
-fits-joined : (p : ℕ) (lsn : Option ℕ) (o : Option (ℕ × ℕ)) → FitsLsn lsn → 4096 * p < 2 ^ 63 → FitsLsns p o → FitsLsns p (joined (alone lsn) o)
+fits-joined : (p : ℕ) (lsn : Option ℕ) (o : Option (ℕ × ℕ)) → FitsLsn lsn → 4096 * p < 2 ^ 63 → FitsLsns p o → FitsLsns p (joined (lsn_alone lsn) o)
 fits-joined p None o fits page rest = rest
 fits-joined p (Some lsn) None fits page rest = (fits, page)
 fits-joined p (Some lsn) (Some lsns) fits page rest = (least lsn lsns.0 (2 ^ 64) fits, page)
@@ -234,14 +234,14 @@ rows-option s p (Some lsns) rows below fits rest = (record { stream_fits = strea
     page : (n : ℕ) → 4096 * n < 2 ^ 63 → n < 2 ^ 64
     page n lt = omega arith
 
-rows-filtered : (s : ℕ) (h : List Effect) (ps : List ℕ) → s < 16 → ((p : ℕ) → AllByRecursion (FitsTouch p) (unwritten h p)) → FitsRows (filter_map (row_of s h) ps)
+rows-filtered : (s : ℕ) (h : List Effect) (ps : List ℕ) → s < 16 → ((p : ℕ) → AllByRecursion (FitsTouch p) (unwritten h p)) → FitsRows (filter_map (dirty_row_of s h) ps)
 rows-filtered s h [] below each = tt
-rows-filtered s h (p ∷ ps) below each = rows-option s p (lsns_among (unwritten h p)) (filter_map (row_of s h) ps) below (fits-among p (unwritten h p) (each p)) (rows-filtered s h ps below each)
+rows-filtered s h (p ∷ ps) below each = rows-option s p (lsns_among (unwritten h p)) (filter_map (dirty_row_of s h) ps) below (fits-among p (unwritten h p) (each p)) (rows-filtered s h ps below each)
 
-rows-stream : (u : Setup) (past : List Entry) (log s : ℕ) → s < 16 → IsGoodSoFar u past → StampsFit past → FitsRows (rows_of past log s)
+rows-stream : (u : Setup) (past : List Entry) (log s : ℕ) → s < 16 → IsGoodSoFar u past → StampsFit past → FitsRows (dirty_rows_of past log s)
 rows-stream u past log s below good fits = go (is_log log (log_of (history past s)))
   where
-    go : (b : Bool) → FitsRows (if b then filter_map (row_of s (history past s)) (dirty_pages (history past s)) else [])
+    go : (b : Bool) → FitsRows (if b then filter_map (dirty_row_of s (history past s)) (dirty_pages (history past s)) else [])
     go true = rows-filtered s (history past s) (dirty_pages (history past s)) below (λ p. fits-touches p false (history past s) (good-safe u past s good) (fits-history past s fits))
     go false = tt
 
@@ -267,11 +267,11 @@ length-filtered : (f : ℕ → Option DirtyRow) (ps : List ℕ) → length (filt
 length-filtered f [] = omega arith
 length-filtered f (p ∷ ps) = length-option (f p) (filter_map f ps) (length ps) (length-filtered f ps)
 
-length-stream : (past : List Entry) (log s : ℕ) → length (rows_of past log s) ≤ dirty_count (history past s)
+length-stream : (past : List Entry) (log s : ℕ) → length (dirty_rows_of past log s) ≤ dirty_count (history past s)
 length-stream past log s = go (is_log log (log_of (history past s)))
   where
-    go : (b : Bool) → length (if b then filter_map (row_of s (history past s)) (dirty_pages (history past s)) else []) ≤ dirty_count (history past s)
-    go true = length-filtered (row_of s (history past s)) (dirty_pages (history past s))
+    go : (b : Bool) → length (if b then filter_map (dirty_row_of s (history past s)) (dirty_pages (history past s)) else []) ≤ dirty_count (history past s)
+    go true = length-filtered (dirty_row_of s (history past s)) (dirty_pages (history past s))
     go false = omega arith
 
 length-flat : (f : ℕ → List DirtyRow) (g : ℕ → ℕ) (from n : ℕ) → ((s : ℕ) → length (f s) ≤ g s) → length (flat_map f (range_with_len from n)) ≤ sum_by g (range_with_len from n)
@@ -288,11 +288,11 @@ length-map (row ∷ rows) = ap suc (length-map rows)
 
 length-table : (past : List Entry) (log : ℕ) → length (dirty_table past log) ≤ dirty_total past
 unfolding dirty_table dirty_total
-length-table past log = length-flat (rows_of past log) (λ s. dirty_count (history past s)) 0 16 (length-stream past log)
+length-table past log = length-flat (dirty_rows_of past log) (λ s. dirty_count (history past s)) 0 16 (length-stream past log)
 
 rows-table : (u : Setup) (past : List Entry) (log : ℕ) → IsGoodSoFar u past → StampsFit past → FitsRows (dirty_table past log)
 unfolding dirty_table
-rows-table u past log good fits = rows-flat (rows_of past log) 0 16 (omega arith) (λ s below. rows-stream u past log s below good fits)
+rows-table u past log good fits = rows-flat (dirty_rows_of past log) 0 16 (omega arith) (λ s below. rows-stream u past log s below good fits)
 
 -- the rows of the dirty page table of a good journal fit where its stamps do
 pub rows-fit : (u : Setup) (past : List Entry) (log : ℕ) → IsGoodSoFar u past → StampsFit past → RowsFit log past

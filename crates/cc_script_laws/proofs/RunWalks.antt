@@ -35,7 +35,7 @@ use Rattle.cc_pieces.specs.Answered.{AheadAnswered, TickAnswered}
 use Rattle.cc_pieces.specs.Bindings.{Binding}
 use Rattle.cc_pieces.specs.Openings.{LoggedOpening, MigrationLeft, OpeningBehind, RecordedOpening, StreamOpening, first_object_of, opening_call, recorded_call}
 use Rattle.cc_pieces.specs.Phases.{AheadsRan, PhaseRan, PhasesRan, Plan, TicksRan, is_of_phase, lazy_writer, lines_in, read_ahead_worker}
-use Rattle.cc_pieces.specs.Restarts.{LastFlushed, RestartAnswered, Restarted}
+use Rattle.cc_pieces.specs.Restarts.{LastFlushed, RestartAnswered, RestartsInOrder}
 use Rattle.cc_pieces.specs.Runs.{Ran, asked_of}
 use Rattle.cc_pieces.specs.Served.{Served, bindings_after}
 use Rattle.cc_script_laws.proofs.LineWalks.{Follows, follow-answered, follow-call, follow-log-flush, follow-plain}
@@ -104,7 +104,7 @@ module _ (u : Setup) (Makes : Call → Type 0) (W : List Entry → List Entry �
   follow-restart handle (answer.Refused e) old new (inr left) = follow-log-flush u 0 Makes W f {T = Unit {0}} handle left.0 (Err e) old new left.1
   follow-restart handle other old new left = absurd left
 
-  pub follow-restarts : (restarts : List RestartLine) (replies : List LineReply) (old new : List Entry) → Restarted u restarts replies old new → W old new
+  pub follow-restarts : (restarts : List RestartLine) (replies : List LineReply) (old new : List Entry) → RestartsInOrder u restarts replies old new → W old new
   follow-restarts [] [] old new ended = f.idle old new ended
   follow-restarts [] (reply ∷ replies) old new ended = absurd ended
   follow-restarts (restart ∷ restarts) [] old new ended = absurd ended

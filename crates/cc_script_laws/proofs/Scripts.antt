@@ -34,9 +34,9 @@ use Rattle.cc_restart_laws.proofs.Entries.{call-effect}
 use Rattle.cc_restart_laws.proofs.Records.{log-stays}
 use Rattle.cc_restart_laws.specs.Updates.{IsUpdated}
 use Rattle.cc_update_laws.proofs.Keeping.{KeepsAll, all-then, stays-on, stays-open}
-use Rattle.cc_update_laws.specs.Keeping.{HasNoneOpen, Keeps, KeepsForm}
+use Rattle.cc_update_laws.specs.Keeping.{HasNoneOpen, PassKeepsForm, KeepsForm}
 use Rattle.cc_pieces.proofs.Grown.{grew-then}
-use Rattle.cc_pieces.specs.Explained.{Answered, Given, IsExplained}
+use Rattle.cc_pieces.specs.Explained.{Answered, GivenToRun, IsExplained}
 use Rattle.cc_pieces.specs.Openings.{LoggedOpening, Opened, OpeningBehind, RecordedOpening, StreamOpening, first_object_of}
 use Rattle.cc_pieces.specs.Restarts.{refused_for}
 use Rattle.cc_pieces.specs.Runs.{asked_of}
@@ -70,10 +70,10 @@ nil-cons (x ∷ xs) y ys is = cc is
 pub none-at-first : (s log me : ℕ) → HasNoneOpen s log me []
 none-at-first s log me it mine k = nil-cons k.idle.during _ k.front k.idle.grew
 
-pub keeps-walked : (s log me : ℕ) (old new : List Entry) → Keeps s log me old new → Walked (KeepsForm s log) me old new
+pub keeps-walked : (s log me : ℕ) (old new : List Entry) → PassKeepsForm s log me old new → Walked (KeepsForm s log) me old new
 keeps-walked s log me old new k = record { during = k.during; grew = k.grew; each = k.each }
 
-pub updated-by : (s log : ℕ) (past : List Entry) → ((me : ℕ) → Keeps s log me [] past) → IsUpdated s log past
+pub updated-by : (s log : ℕ) (past : List Entry) → ((me : ℕ) → PassKeepsForm s log me [] past) → IsUpdated s log past
 updated-by s log past keeps = updated-stand s log past (all-stand (KeepsForm s log) (unpassed-keeps s log) [] past (λ me. keeps-walked s log me [] past (keeps me)) tt)
 
 -- ---- the stream's log is set by its line
@@ -166,7 +166,7 @@ module _ (u : Setup) (whole : List Entry) (good : IsGoodSoFar u whole) (s log : 
 
 -- ---- runs
 
-module _ (u : Setup) (given : Given) (told : Answered) (taken : List Request) (past : List Entry) (is : IsExplained u given told taken past) (good : IsGoodSoFar u past) (s log : ℕ) (stream : StreamLine)
+module _ (u : Setup) (given : GivenToRun) (told : Answered) (taken : List Request) (past : List Entry) (is : IsExplained u given told taken past) (good : IsGoodSoFar u past) (s log : ℕ) (stream : StreamLine)
     (at : slice_get given.streams s ≡ Some stream) (logged : stream.log ≡ Some log) where
   abbrev Before : ℕ → List Entry → List Entry → Type 0
   Before me old new = Beside u past good s log [] ⊥ (λ never. absurd never) me old new
@@ -213,7 +213,7 @@ module _ (u : Setup) (given : Given) (told : Answered) (taken : List Request) (p
           (record { lines = given.lines; answers = is.answers; ticks = given.ticks; aheads = given.aheads }) leaves 1 given.phases told.ticked told.stepped taken is.begun past is.ran n)
 
 -- of which the stream's line was done
-module _ (u : Setup) (given : Given) (told : Answered) (taken : List Request) (past : List Entry) (is : IsExplained u given told taken past) (good : IsGoodSoFar u past) (s log : ℕ) (stream : StreamLine) (line : LineReply)
+module _ (u : Setup) (given : GivenToRun) (told : Answered) (taken : List Request) (past : List Entry) (is : IsExplained u given told taken past) (good : IsGoodSoFar u past) (s log : ℕ) (stream : StreamLine) (line : LineReply)
     (at : slice_get given.streams s ≡ Some stream) (answered : slice_get told.replies (length given.restarts + s) ≡ Some line) (logged : stream.log ≡ Some log) (done : line.answer ≡ answer.Given reply.Unit) where
   piece : PieceOf u s stream (refused_for stream.log given.restarts is.ended) (answer.Given reply.Unit) is.restarted is.begun
   piece =

@@ -41,11 +41,11 @@ use Rattle.cc_model.specs.Touches.{valid_of}
 use Rattle.cc_effects.specs.Calls.{IsDone}
 use Rattle.cc_effects.specs.Moments.{IsIdle}
 use Rattle.cc_effects.proofs.FrontLaws.{legal-tail}
-use Rattle.cc_records.specs.Left.{HasFlushed, SettleLeft}
+use Rattle.cc_records.specs.Left.{StreamHasFlushed, SettleLeft}
 use Rattle.cc_pieces.proofs.Grown.{grew-call, grew-then}
 use Rattle.cc_pieces.specs.Answered.{AheadAnswered, TickAnswered}
 use Rattle.cc_pieces.specs.Bindings.{Binding}
-use Rattle.cc_pieces.specs.Explained.{Answered, Given, IsExplained}
+use Rattle.cc_pieces.specs.Explained.{Answered, GivenToRun, IsExplained}
 use Rattle.cc_pieces.specs.Openings.{Opened, first_object_of}
 use Rattle.cc_pieces.specs.Phases.{PhasesRan, Plan, lazy_writer, read_ahead_worker}
 use Rattle.cc_pieces.specs.Restarts.{refused_for}
@@ -145,7 +145,7 @@ module _ (u : Setup) (whole : List Entry) (good : IsGoodSoFar u whole) (s : ℕ)
     called = λ it ended nth stream past makes filed. told-entry me (entry.Call me nth stream it ended) past (λ seen. tt);
   }
 
-  told-lesser : (me : ℕ) (file : File) (told : FileState) (begun old flushed front : List Entry) (valid : ℕ) → HasFlushed u me file told begun old flushed → IsIdle me flushed front → valid ≡ min (valid_of (history begun file.stream)) (valid_of (history front file.stream)) → HasSeen front whole → TellsLesser file.stream valid front
+  told-lesser : (me : ℕ) (file : File) (told : FileState) (begun old flushed front : List Entry) (valid : ℕ) → StreamHasFlushed u me file told begun old flushed → IsIdle me flushed front → valid ≡ min (valid_of (history begun file.stream)) (valid_of (history front file.stream)) → HasSeen front whole → TellsLesser file.stream valid front
   told-lesser me file told begun old flushed front valid has idle is seen = record { moment = begun; since = since; had = had; lesser = is }
     where
       since : HasSeen begun front
@@ -225,7 +225,7 @@ module _ (u : Setup) (whole : List Entry) (good : IsGoodSoFar u whole) (s : ℕ)
   phases-grow plan phase left ticked stepped taken old new ran =
       (ran-phases u Told told-idle told-then told-tick told-step (λ asked. Unit {0}) told-served plan (all-fit plan.lines) phase left ticked stepped taken old new ran 0).0
 
-  module _ (given : Given) (told : Answered) (taken : List Request) (is : IsExplained u given told taken whole) where
+  module _ (given : GivenToRun) (told : Answered) (taken : List Request) (is : IsExplained u given told taken whole) where
     behind : (me : ℕ) → Told me is.begun whole
     behind me =
         ran-phases u Told told-idle told-then told-tick told-step (λ asked. Unit {0}) told-served

@@ -35,13 +35,13 @@ use Rattle.cc_script.specs.declared.script.RestartLine.{RestartLine}
 use Rattle.cc_pieces.proofs.Grown.{grew-then}
 use Rattle.cc_pieces.specs.Answered.{AheadAnswered, TickAnswered}
 use Rattle.cc_pieces.specs.Bindings.{Binding}
-use Rattle.cc_pieces.specs.Explained.{Answered, Given, IsExplained}
+use Rattle.cc_pieces.specs.Explained.{Answered, GivenToRun, IsExplained}
 use Rattle.cc_pieces.specs.Openings.{Opened, first_object_of}
 use Rattle.cc_pieces.specs.Phases.{lazy_writer, read_ahead_worker}
 use Rattle.cc_pieces.specs.Restarts.{refused_for}
 use Rattle.cc_pieces.specs.Runs.{asked_of}
 use Rattle.cc_pieces.specs.Served.{Served}
-use Rattle.cc_pieces.specs.Shim.{LoggedLeft, PinnedUpdateLeft, RecordedLeft, ToldUpdateLeft, UpdateLeft, update_record}
+use Rattle.cc_pieces.specs.Shim.{LoggedLeft, PinnedUpdateLeft, RecordedLeft, ToldUpdateLeft, UpdateLeft, update_record_of_file}
 use Rattle.cc_script_laws.specs.Lines.{is_one_call, leaves_to_updates, left_to_updates, was_refused}
 use Rattle.cc_script_laws.proofs.BesideLines.{either, seen-follows}
 use Rattle.cc_script_laws.proofs.Growing.{good-seen, seen-entry, seen-idle, seen-none}
@@ -159,11 +159,11 @@ module _ (u : Setup) (whole : List Entry) (good : IsGoodSoFar u whole) where
 
     logged-small : (id handle : ℕ) (answered : Result ℕ CcError) (old new : List Entry) → LoggedLeft u me file id at bytes handle answered old new → Small me old new
     logged-small id handle answered old new (inl left) =
-        follow-append u me MakesSmall (Small me) (small-follows me) handle (update_record file at bytes) (answer.Refused left.0) old new (λ lsn past. small-append me handle lsn _ past) left.2
-    logged-small id handle answered old new (inr left) = small-then me old left.0 new first (seen, λ to. (recorded-small id left.1 answered left.0 new (appended-small me handle left.1 (update_record file at bytes) old left.0 left.2 (grew-then left.0 new whole seen to)) left.3).1 to)
+        follow-append u me MakesSmall (Small me) (small-follows me) handle (update_record_of_file file at bytes) (answer.Refused left.0) old new (λ lsn past. small-append me handle lsn _ past) left.2
+    logged-small id handle answered old new (inr left) = small-then me old left.0 new first (seen, λ to. (recorded-small id left.1 answered left.0 new (appended-small me handle left.1 (update_record_of_file file at bytes) old left.0 left.2 (grew-then left.0 new whole seen to)) left.3).1 to)
       where
         first : Small me old left.0
-        first = follow-append u me MakesSmall (Small me) (small-follows me) handle (update_record file at bytes) (answer.NewLsn left.1) old left.0 (λ lsn past. small-append me handle lsn _ past) left.2
+        first = follow-append u me MakesSmall (Small me) (small-follows me) handle (update_record_of_file file at bytes) (answer.NewLsn left.1) old left.0 (λ lsn past. small-append me handle lsn _ past) left.2
 
         seen : HasSeen left.0 new
         seen = recorded-seen id left.1 answered left.0 new left.3
@@ -243,7 +243,7 @@ module _ (u : Setup) (whole : List Entry) (good : IsGoodSoFar u whole) where
 
   -- ---- a run
 
-  module _ (given : Given) (told : Answered) (taken : List Request) (is : IsExplained u given told taken whole) (s log : ℕ)
+  module _ (given : GivenToRun) (told : Answered) (taken : List Request) (is : IsExplained u given told taken whole) (s log : ℕ)
       (leaves : AllByRecursion (λ (each : Action × Answer). left_to_updates s log each.0 each.1 ≡ true) (asked_of (λ line. true) given.lines is.answers)) where
     -- each LSN with which a hold was set dirty in the run
     pub stamps-small : StampsFit whole

@@ -37,12 +37,12 @@ use Rattle.cc_update_laws.proofs.Keeping.{KeepsAll, all-idle, all-then, is_write
 use Rattle.cc_update_laws.proofs.Recorded.{RecordsNone, none-entry, none-idle, stamped-over}
 use Rattle.cc_update_laws.proofs.Said.{said-update}
 use Rattle.cc_update_laws.proofs.Updates.{all-update, stays-stamped}
-use Rattle.cc_update_laws.specs.Keeping.{AreStamped, HasCheckpoint, HasNoneOpen, IsCalm, Keeps, KeepsForm, OthersRecordNone, RowsFit}
+use Rattle.cc_update_laws.specs.Keeping.{AreStamped, HasCheckpoint, HasNoneOpen, IsCalmForCheckpoint, PassKeepsForm, KeepsForm, OthersRecordNone, RowsFit}
 use Rattle.cc_pieces.proofs.Grown.{grew-then}
 use Rattle.cc_pieces.specs.Bindings.{Binding}
 use Rattle.cc_pieces.specs.Checkpoints.{CheckpointLeft, record_of_rows}
 use Rattle.cc_pieces.specs.Served.{Served}
-use Rattle.cc_pieces.specs.Shim.{UpdateLeft, update_record}
+use Rattle.cc_pieces.specs.Shim.{UpdateLeft, update_record_of_file}
 use Rattle.cc_script_laws.specs.Told.{initialises}
 use Rattle.cc_script_laws.specs.Lines.{AreStampedAtTables, IsKnownAt, IsUnwanting, checkpoints, is_one_call, leaves_to_updates, left_to_updates, says_neither, was_refused}
 use Rattle.cc_script_laws.proofs.Beside.{IsBeside, kept-append, kept-call, kept-failed, kept-plain, kept-record}
@@ -102,7 +102,7 @@ each-given s log me [] old given = tt
 each-given s log me (e ∷ during) old given =
     ((λ mine updated. (given (updated-rest s log during old updated)).0 mine updated), each-given s log me during old (λ updated. (given updated).1))
 
-keeps-given : (s log me : ℕ) (old new : List Entry) → HasSeen old new → (IsUpdated s log old → Keeps s log me old new) → Keeps s log me old new
+keeps-given : (s log me : ℕ) (old new : List Entry) → HasSeen old new → (IsUpdated s log old → PassKeepsForm s log me old new) → PassKeepsForm s log me old new
 keeps-given s log me old new seen given = record {
   during = seen.later;
   grew = seen.grew;
@@ -143,7 +143,7 @@ table-seen log me between listed past it =
 -- that is answered in such a way; and where a table is listed for a checkpoint every recorded update is set dirty.
 pub record IsInvariant (u : Setup) (whole : List Entry) (s log me : ℕ) (base end : List Entry) (Inv : List Entry → Type 0) (Line : Action → Answer → Type 0) : Type 0 where
   pub none : (old new : List Entry) → HasSeen base old → HasSeen old new → HasSeen new end → RecordsNone s log me old new → Inv old → Inv new
-  pub update : (file : File) (at : ℕ) (bytes : List ℕ) (told : Answer) (answered : Result ℕ CcError) (old new : List Entry) → said_by (update_record file at bytes) ≡ Some (Update file.stream at bytes) → file.stream ≡ s → Line (action.Update file at bytes) told → IsToldSo told answered →
+  pub update : (file : File) (at : ℕ) (bytes : List ℕ) (told : Answer) (answered : Result ℕ CcError) (old new : List Entry) → said_by (update_record_of_file file at bytes) ≡ Some (Update file.stream at bytes) → file.stream ≡ s → Line (action.Update file at bytes) told → IsToldSo told answered →
       HasSeen base old → HasSeen old new → HasSeen new end → UpdateLeft u me file at bytes answered old new → Inv old → Inv new
   pub listed : (old front new between : List Entry) → HasSeen base old → HasSeen old front → HasSeen new end → HasCheckpoint log me between front new → RecordsNone s log me old front → IsUpdated s log old → Inv old → AreStamped s log front
 
@@ -260,7 +260,7 @@ module _ (u : Setup) (whole : List Entry) (good : IsGoodSoFar u whole) (s log : 
       second : (nat_lt at (2 ^ 64) ≡ true) × (nat_lt (length bytes) (2 ^ 32) ≡ true)
       second = and_parts (nat_lt at (2 ^ 64)) _ first.1
 
-      says : said_by (update_record file at bytes) ≡ Some (Update file.stream at bytes)
+      says : said_by (update_record_of_file file at bytes) ≡ Some (Update file.stream at bytes)
       says = said-update file at bytes (lt-told file.stream 255 first.0) (lt-told at (2 ^ 64) second.0) (lt-told (length bytes) (2 ^ 32) second.1)
 
       seen : HasSeen old new
@@ -301,7 +301,7 @@ module _ (u : Setup) (whole : List Entry) (good : IsGoodSoFar u whole) (s log : 
           quiet : (later during : List Entry) → new ≡ later ++ (during ++ old) → list_any (records_update s log) during ≡ false
           quiet later during is = any-back (records_update s log) later during (subst (λ (l : List Entry). list_any (records_update s log) l ≡ false) (part later during is) (silent since to))
 
-          calm : IsCalm s log me old new
+          calm : IsCalmForCheckpoint s log me old new
           calm = record {
             stamped = λ between since_old it.
                 let before = table-seen log me between (since_old ++ old) new it in

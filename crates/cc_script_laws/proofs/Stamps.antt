@@ -31,7 +31,7 @@ use Rattle.cc_pieces.proofs.Grown.{grew-then}
 use Rattle.cc_pieces.specs.Bindings.{Binding}
 use Rattle.cc_pieces.specs.Checkpoints.{CheckpointLeft}
 use Rattle.cc_pieces.specs.Served.{Served}
-use Rattle.cc_pieces.specs.Shim.{IsForWant, UpdateLeft, update_record}
+use Rattle.cc_pieces.specs.Shim.{IsForWant, UpdateLeft, update_record_of_file}
 use Rattle.cc_script_laws.specs.Lines.{IsUnwanting, is_one_call, leaves_to_updates, left_to_updates, says_neither, was_refused}
 use Rattle.cc_script_laws.proofs.Beside.{IsBeside}
 use Rattle.cc_script_laws.proofs.BesideLines.{admits-by, either, lt-told, seen-follows, seen-update}
@@ -79,14 +79,14 @@ record IsTheRecord (s log stream handle n lsn : ℕ) : Type 0 where
   of_stream : stream ≡ s
   its_lsn : lsn ≡ n
 
-same-record : (s log me handle lsn pass n place : ℕ) (file : File) (at : ℕ) (bytes xs spell : List ℕ) → said_by (update_record file at bytes) ≡ Some (Update file.stream at bytes) → entry.Append me handle lsn (update_record file at bytes) ≡ entry.Append pass log n spell → said_by spell ≡ Some (Update s place xs) →
+same-record : (s log me handle lsn pass n place : ℕ) (file : File) (at : ℕ) (bytes xs spell : List ℕ) → said_by (update_record_of_file file at bytes) ≡ Some (Update file.stream at bytes) → entry.Append me handle lsn (update_record_of_file file at bytes) ≡ entry.Append pass log n spell → said_by spell ≡ Some (Update s place xs) →
     IsTheRecord s log file.stream handle n lsn
 same-record s log me handle lsn pass n place file at bytes xs spell says is said =
-    let same : update_record file at bytes ≡ spell = cc is in
+    let same : update_record_of_file file at bytes ≡ spell = cc is in
     let parts : Some (Update file.stream at bytes) ≡ Some (Update s place xs) = sym says ∙ (ap said_by same ∙ said) in
     record { of_log = cc is; of_stream = cc parts; its_lsn = cc is }
 
-module _ (u : Setup) (s log me : ℕ) (file : File) (at : ℕ) (bytes : List ℕ) (says : said_by (update_record file at bytes) ≡ Some (Update file.stream at bytes)) (old : List Entry) where
+module _ (u : Setup) (s log me : ℕ) (file : File) (at : ℕ) (bytes : List ℕ) (says : said_by (update_record_of_file file at bytes) ≡ Some (Update file.stream at bytes)) (old : List Entry) where
   by-update : (new : List Entry) → HasUpdate u s log me file at bytes says old old new → IsUpdated s log new → StampedBy s log me old → StampedBy s log me new
   by-update new k updated stamped lsn has is = go (cut-at a k.then.during has.later has.front (e ∷ k.front) (sym k.then.grew ∙ has.splits))
     where
@@ -94,7 +94,7 @@ module _ (u : Setup) (s log me : ℕ) (file : File) (at : ℕ) (bytes : List ℕ
       a = entry.Append has.pass log lsn has.spelled
 
       e : Entry
-      e = entry.Append me k.handle k.lsn (update_record file at bytes)
+      e = entry.Append me k.handle k.lsn (update_record_of_file file at bytes)
 
       first : StampedBy s log me k.front
       first = by-none s log me old k.front k.first stamped
@@ -186,7 +186,7 @@ module _ (u : Setup) (whole : List Entry) (good : IsGoodSoFar u whole) (s log : 
       second : (nat_lt at (2 ^ 64) ≡ true) × (nat_lt (length bytes) (2 ^ 32) ≡ true)
       second = and_parts (nat_lt at (2 ^ 64)) _ first.1
 
-      says : said_by (update_record file at bytes) ≡ Some (Update file.stream at bytes)
+      says : said_by (update_record_of_file file at bytes) ≡ Some (Update file.stream at bytes)
       says = said-update file at bytes (lt-told file.stream 255 first.0) (lt-told at (2 ^ 64) second.0) (lt-told (length bytes) (2 ^ 32) second.1)
 
       seen : HasSeen old new

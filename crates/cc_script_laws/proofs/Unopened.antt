@@ -33,7 +33,7 @@ use Rattle.cc_restart_laws.proofs.Entries.{IsCall, did-entry, updated-rest}
 use Rattle.cc_restart_laws.proofs.Records.{may-append}
 use Rattle.cc_restart_laws.specs.Updates.{IsUpdated}
 use Rattle.cc_update_laws.specs.Keeping.{AreKnown, AreStamped}
-use Rattle.cc_pieces.specs.Explained.{Answered, Given, IsExplained}
+use Rattle.cc_pieces.specs.Explained.{Answered, GivenToRun, IsExplained}
 use Rattle.cc_pieces.specs.Openings.{Opened, OpeningBehind}
 use Rattle.cc_pieces.specs.Restarts.{refusal_told, refused_for, refused_restart}
 use Rattle.cc_script_laws.specs.Told.{initialises}
@@ -142,7 +142,7 @@ opened-refused u s sizes restarts ended stream e refused t n (first ∷ streams)
         walked-then (OpensWith s sizes) 0 old opened.0 new (opens-other u s sizes t (λ same. absurd (omega (arith, is, same))) first (refused_for first.log restarts ended) told.answer old opened.0 opened.1.opened)
         (later m (omega (arith, is)) at)
 
-module _ (u : Setup) (given : Given) (told : Answered) (taken : List Request) (past : List Entry) (is : IsExplained u given told taken past) (s : ℕ) (stream : StreamLine) (e : CcError) (at : slice_get given.streams s ≡ Some stream)
+module _ (u : Setup) (given : GivenToRun) (told : Answered) (taken : List Request) (past : List Entry) (is : IsExplained u given told taken past) (s : ℕ) (stream : StreamLine) (e : CcError) (at : slice_get given.streams s ≡ Some stream)
     (refused : refused_for stream.log given.restarts told.replies ≡ Some e) (none : AllByRecursion (λ each. initialises s each.action ≡ false) given.lines) where
   refused-it : refused_for stream.log given.restarts is.ended ≡ Some e
   refused-it = by stream.log refused

@@ -12,7 +12,7 @@ use Rattle.cc_entry.specs.declared.entry.Entry.TheVariants as entry
 use Rattle.cc_entry.specs.declared.call.Call.TheVariants as call
 use Rattle.cc_entry.specs.declared.error.CcError.{CcError}
 use Rattle.cc_entry.specs.declared.reply.Outcome.TheVariants as outcome
-use Rattle.cc_pieces.specs.Explained.{Answered, Given}
+use Rattle.cc_pieces.specs.Explained.{Answered, GivenToRun}
 use Rattle.cc_pieces.specs.Runs.{asked_of}
 use Rattle.cc_pieces.specs.Shim.{IsForWant}
 use Rattle.cc_redo.specs.Reading.{said_by}
@@ -97,7 +97,7 @@ IsKnownAt s log me past =
     AreKnown s (during ++ entry.Call me it.nth None (call.DirtyPages log) (outcome.Done it.reply) ∷ listed)
 
 -- the lines of a run with their answers, in the order of the script
-abbrev pub lines_answered : Given → Answered → List (Action × Answer)
+abbrev pub lines_answered : GivenToRun → Answered → List (Action × Answer)
 lines_answered given told = asked_of (λ line. true) given.lines (drop (length given.streams) (drop (length given.restarts) told.replies))
 
 -- At the table of the log's dirty pages that each checkpoint listed, each recorded update of the stream had been written and set dirty.

@@ -31,8 +31,8 @@ use Rattle.cc_calls.specs.Logs.{LogEnds}
 use Rattle.cc_calls.specs.Pages.{WentOn}
 use Rattle.cc_calls.proofs.Paging.{writing-within}
 use Rattle.cc_pieces.specs.Shim.{CallsLeft}
-use Rattle.cc_pieces.specs.Checkpoints.{AskingStopped, CheckpointLeft, RecordFlushed, RecordLogged, RowsLogged, StatesAsked, SyncedLogged, first_object, has_log, oldest_row, record_of_rows, sync_call}
-use Rattle.cc_shim.specs.Checkpoints.{LogAsked, LogsAsked, SyncLeft}
+use Rattle.cc_pieces.specs.Checkpoints.{AskingStopped, CheckpointLeft, RecordFlushed, RecordLogged, RowsLogged, StatesAsked, SyncedLogged, first_object, state_has_log, oldest_row, record_of_rows, sync_call}
+use Rattle.cc_shim.specs.Checkpoints.{LogAsked, LogsAsked, SyncCallLeft}
 use Rattle.cc_shim.specs.Ends.{FirstLeft, ListEnds}
 use Rattle.cc_shim.proofs.Going.{HasGone, ends-after, ends-here, full-now, gone-append, gone-ends, gone-list, gone-none, gone-then, moved, on-went}
 use Rattle.cc_shim.proofs.Lists.{first-more, first-none}
@@ -66,7 +66,7 @@ module _ (w v : Standing) (handle stream : ℕ) (file : File) (is : file ≡ fir
   ends-at answer ends = subst (λ (f : File). CallEnds state_outcome w v (call.State f) answer) is ends
 
   -- it was told
-  pub log-told : (state : FileState) (has : Bool) → CallEnds state_outcome w v (call.State file) (Ok state) → has ≡ has_log handle (Some state) → ListEnds w v (LogAsked w.setup w.number handle stream) (Ok has)
+  pub log-told : (state : FileState) (has : Bool) → CallEnds state_outcome w v (call.State file) (Ok state) → has ≡ state_has_log handle (Some state) → ListEnds w v (LogAsked w.setup w.number handle stream) (Ok has)
   log-told state has ends same =
       let at = ends-at (Ok state) ends in
       ends-here w v (LogAsked w.setup w.number handle stream) (Ok has) (gone-ends state_outcome w v (call.State (first_object stream)) (Ok state) at) tt
@@ -155,7 +155,7 @@ asked-all w v handle n streams found was all =
 
 -- ---- the syncs
 
-pub synced : (w v : Standing) (stream : ℕ) (file : File) (answer : Result (Unit {0}) CcError) → file ≡ first_object stream → v.others ≤ v.most_others → FlushEnds w v file (Some (record { from = 0; to = 0 })) answer → ListEnds w v (SyncLeft w.setup w.number stream) answer
+pub synced : (w v : Standing) (stream : ℕ) (file : File) (answer : Result (Unit {0}) CcError) → file ≡ first_object stream → v.others ≤ v.most_others → FlushEnds w v file (Some (record { from = 0; to = 0 })) answer → ListEnds w v (SyncCallLeft w.setup w.number stream) answer
 synced w v stream file answer is few ends =
     let at : FlushEnds w v (first_object stream) (Some (record { from = 0; to = 0 })) answer = subst (λ (f : File). FlushEnds w v f (Some (record { from = 0; to = 0 })) answer) is ends in
     let gone : HasGone w v = record {
@@ -163,7 +163,7 @@ synced w v stream file answer is few ends =
       grew = grew-call w.setup w.number (sync_call stream) (outcome_of answer) w.seen v.seen at.left;
       good = λ good. at.good;
     } in
-    ends-here w v (SyncLeft w.setup w.number stream) answer gone
+    ends-here w v (SyncCallLeft w.setup w.number stream) answer gone
     (full-now w v 2 answer gone few (omega arith) (writing-within (sync_call stream) v answer at.full))
     at.left
 
@@ -180,20 +180,20 @@ module _ (w v x : Standing) (found : List ℕ) (k d one : ℕ) (is : get_or foun
   more-is = take_more found k d low ∙ ap (λ (s : ℕ). take k found ++ s ∷ []) is
 
   -- one more
-  pub synced-more : ListEnds v x (SyncLeft v.setup v.number one) (Ok tt) → HasSynced w x found (k + 1)
+  pub synced-more : ListEnds v x (SyncCallLeft v.setup v.number one) (Ok tt) → HasSynced w x found (k + 1)
   synced-more ends = record {
-    gone = gone-then w v x was.gone (gone-list v x (SyncLeft v.setup v.number one) (Ok tt) ends);
+    gone = gone-then w v x was.gone (gone-list v x (SyncCallLeft v.setup v.number one) (Ok tt) ends);
     first =
         subst (λ (l : List Call). FirstLeft w.setup w.number l (Ok tt) w.seen x.seen)
         (sym (ap (map sync_call) more-is ∙ map-append sync_call (take k found) (one ∷ [])))
         (first-more w.setup w.number (map sync_call (take k found)) (sync_call one) w.seen v.seen x.seen was.first
-        (moved w v was.gone.on (λ u me. SyncLeft u me one (Ok tt) v.seen x.seen) ends.left));
+        (moved w v was.gone.on (λ u me. SyncCallLeft u me one (Ok tt) v.seen x.seen) ends.left));
   }
 
   -- one was refused
-  pub synced-refused : (e : CcError) → ListEnds v x (SyncLeft v.setup v.number one) (Err e) → ListEnds w x (CallsLeft w.setup w.number (map sync_call found)) (Err e)
+  pub synced-refused : (e : CcError) → ListEnds v x (SyncCallLeft v.setup v.number one) (Err e) → ListEnds w x (CallsLeft w.setup w.number (map sync_call found)) (Err e)
   synced-refused e ends =
-      ends-after w v x (CallsLeft w.setup w.number (map sync_call found)) (SyncLeft v.setup v.number one) (Err e) was.gone ends
+      ends-after w v x (CallsLeft w.setup w.number (map sync_call found)) (SyncCallLeft v.setup v.number one) (Err e) was.gone ends
       (λ left.
       let split : found ≡ take k found ++ one ∷ drop (suc k) found =
       sym (take-append-drop k found) ∙ (ap (λ l. take k found ++ l) (drop-cons found k d low) ∙ ap (λ (s : ℕ). take k found ++ s ∷ drop (suc k) found) is) in
@@ -201,7 +201,7 @@ module _ (w v x : Standing) (found : List ℕ) (k d one : ℕ) (is : get_or foun
       ap (map sync_call) split ∙ map-append sync_call (take k found) (one ∷ drop (suc k) found) in
       subst (λ (l : List Call). CallsLeft w.setup w.number l (Err e) w.seen x.seen) (sym whole)
       (was.first (sync_call one ∷ map sync_call (drop (suc k) found)) (Err e) x.seen
-      (inl (moved w v was.gone.on (λ u me. SyncLeft u me one (Err e) v.seen x.seen) left))))
+      (inl (moved w v was.gone.on (λ u me. SyncCallLeft u me one (Err e) v.seen x.seen) left))))
 
 -- all were
 pub synced-all : (w v : Standing) (found : List ℕ) (k : ℕ) → HasSynced w v found k → take k found ≡ found → ListEnds w v (CallsLeft w.setup w.number (map sync_call found)) (Ok tt)

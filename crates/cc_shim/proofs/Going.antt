@@ -18,7 +18,7 @@ use Rattle.cc_effects.specs.LogCalls.{AppendLeft}
 use Rattle.cc_effects.specs.Moments.{Between}
 use Rattle.cc_pieces.proofs.Grown.{grew-call, grew-then}
 use Rattle.cc_own.proofs.VerbsKeep.{append-unchanged, nc_read-unchanged}
-use Rattle.cc_ranges.specs.Answers.{read_of}
+use Rattle.cc_ranges.specs.Answers.{read_answer}
 use Rattle.cc_ranges.specs.Reads.{NcReadEnds}
 use Rattle.cc_ranges.specs.declared.error.NcError.{NcError}
 use Rattle.cc_turns.specs.Standing.{Standing}
@@ -27,9 +27,9 @@ use Rattle.cc_writes.specs.Ways.{IsFull, IsFullError}
 use Rattle.cc_calls.specs.Answers.{CallEnds, CanCall, IsFree}
 use Rattle.cc_calls.specs.Ends.{HeldReadEnds, HoldEnded, filled_outcome}
 use Rattle.cc_calls.specs.Logs.{LogEnds}
-use Rattle.cc_calls.specs.Pages.{PagesLeft, StaysGood, WentOn}
+use Rattle.cc_calls.specs.Pages.{CallWithPagesLeft, StaysGood, WentOn}
 use Rattle.cc_calls.specs.declared.held.Held.{Held}
-use Rattle.cc_shim.specs.Ends.{ListEnds, WasFull, WasFullError}
+use Rattle.cc_shim.specs.Ends.{ListEnds, CallListWasFull, WasFullError}
 
 -- A call came to its end: the pass goes on as it stood, what it had seen stands, and what it has seen stays good.
 pub record HasGone (w v : Standing) : Type 0 where
@@ -92,7 +92,7 @@ gone-ends ended w v it answer ends = record {
   good = ends.good;
 }
 
-pub gone-pages : (w v : Standing) (it : Call) (ended : Outcome) → PagesLeft w v it ended → HasGone w v
+pub gone-pages : (w v : Standing) (it : Call) (ended : Outcome) → CallWithPagesLeft w v it ended → HasGone w v
 gone-pages w v it ended pages = record {
   on = pages.goes_on;
   grew = grew-call w.setup w.number it ended w.seen v.seen pages.left;
@@ -120,7 +120,7 @@ gone-append w v handle bytes answer ends =
 
 pub gone-noncached : (w v : Standing) (file : File) (at : ℕ) (answer : Result ℕ NcError) (was now : List ℕ) → NcReadEnds w v file at answer was now → HasGone w v
 gone-noncached w v file at answer was now ends =
-    let kept = nc_read-unchanged w.setup w.number 0 file at (length was) (read_of answer now) w.seen v.seen ends.left in
+    let kept = nc_read-unchanged w.setup w.number 0 file at (length was) (read_answer answer now) w.seen v.seen ends.left in
     record { on = ends.goes_on; grew = record { later = kept.during; grew = kept.grew }; good = ends.good }
 
 -- ---- a journal that is full
@@ -141,7 +141,7 @@ full-here w v asked (error.JournalFull entries) gone few most full =
 full-here w v asked other gone few most full = tt
 
 -- others had no more under way than they ever have
-pub full-now : {A : Type 0} (w v : Standing) (asked : ℕ) (answer : Result A CcError) → HasGone w v → v.others ≤ v.most_others → asked ≤ 2 → IsFull asked v answer → WasFull w v answer
+pub full-now : {A : Type 0} (w v : Standing) (asked : ℕ) (answer : Result A CcError) → HasGone w v → v.others ≤ v.most_others → asked ≤ 2 → IsFull asked v answer → CallListWasFull w v answer
 full-now w v asked (Ok a) gone few most full = tt
 full-now w v asked (Err e) gone few most full = full-here w v asked e gone few most full
 
@@ -177,14 +177,14 @@ pub gone-list : {A : Type 0} (w v : Standing) (Left : Result A CcError → Betwe
 gone-list w v Left answer ends = record { on = ends.goes_on; grew = ends.grew; good = ends.good }
 
 -- it ends with this call
-pub ends-here : {A : Type 0} (w v : Standing) (Left : Result A CcError → Between) (answer : Result A CcError) → HasGone w v → WasFull w v answer → Left answer w.seen v.seen → ListEnds w v Left answer
+pub ends-here : {A : Type 0} (w v : Standing) (Left : Result A CcError → Between) (answer : Result A CcError) → HasGone w v → CallListWasFull w v answer → Left answer w.seen v.seen → ListEnds w v Left answer
 ends-here w v Left answer gone full left = record { left = left; full = full; goes_on = gone.on; grew = gone.grew; good = gone.good }
 
-full-since : {A : Type 0} (w v x : Standing) (answer : Result A CcError) → HasGone w v → WasFull v x answer → WasFull w x answer
+full-since : {A : Type 0} (w v x : Standing) (answer : Result A CcError) → HasGone w v → CallListWasFull v x answer → CallListWasFull w x answer
 full-since w v x (Ok a) gone full = tt
 full-since w v x (Err e) gone full = full-before w v x e gone full
 
-full-until : {A : Type 0} (w v x : Standing) (answer : Result A CcError) → HasGone v x → WasFull w v answer → WasFull w x answer
+full-until : {A : Type 0} (w v x : Standing) (answer : Result A CcError) → HasGone v x → CallListWasFull w v answer → CallListWasFull w x answer
 full-until w v x (Ok a) gone full = tt
 full-until w v x (Err e) gone full = full-after w v x e gone.grew full
 

@@ -15,8 +15,8 @@ use Rattle.cc_effects.proofs.Stretches.{idle-none}
 use Rattle.cc_script.specs.declared.script.ReadPath.{ReadPath}
 use Rattle.cc_turns.specs.Standing.{Standing}
 use Rattle.cc_calls.specs.Answers.{CallEnds, state_outcome}
-use Rattle.cc_pieces.specs.Locks.{FoundLeft, LockedLeft, TestLeft, update_refused, without_log, write_refused}
-use Rattle.cc_pieces.specs.Shim.{first_of, misaligned_for, too_long_for}
+use Rattle.cc_pieces.specs.Locks.{FoundLeft, LockedLeft, TestLeft, update_refused, no_log_error, write_refused}
+use Rattle.cc_pieces.specs.Shim.{first_of_two, misaligned_for, too_long_for}
 use Rattle.cc_shim.specs.Ends.{ListEnds, WasFullError}
 use Rattle.cc_shim.proofs.Going.{ends-after, ends-here, full-now, gone-ends, gone-list, gone-none, moved}
 use Rattle.cc_shim.proofs.Reading.{long-full, misaligned-full}
@@ -68,7 +68,7 @@ module _ (w : Standing) where
   abbrev Tells : Option CcError → Type 0
   Tells o = (e : CcError) → o ≡ Some e → WasFullError 2 w w e
 
-  tells-first : (a b : Option CcError) → Tells a → Tells b → Tells (first_of a b)
+  tells-first : (a b : Option CcError) → Tells a → Tells b → Tells (first_of_two a b)
   tells-first (Some x) b one two e is = one e is
   tells-first None b one two e is = two e is
 
@@ -82,11 +82,11 @@ module _ (w : Standing) where
   tells-if true x full e is = tells-some x full e is
   tells-if false x full e is = absurd (cc is)
 
-  tells-log : (log : Option ℕ) → Tells (without_log log)
+  tells-log : (log : Option ℕ) → Tells (no_log_error log)
   tells-log None e is = tells-some (error.NoLog 255) tt e is
   tells-log (Some handle) e is = absurd (cc is)
 
-  pub read-tells : (path : ReadPath) (at len : ℕ) → Tells (first_of (too_long_for path len) (misaligned_for path at len))
+  pub read-tells : (path : ReadPath) (at len : ℕ) → Tells (first_of_two (too_long_for path len) (misaligned_for path at len))
   read-tells path at len = tells-first (too_long_for path len) (misaligned_for path at len) (long-full w path len) (misaligned-full w path at len)
 
   pub write-tells : (at len : ℕ) (state : FileState) → Tells (write_refused at len state)
@@ -98,7 +98,7 @@ module _ (w : Standing) where
   pub update-tells : (at len : ℕ) (state : FileState) → Tells (update_refused at len state)
   update-tells at len state =
       tells-first (refuse_if (crosses_blocks at len) error.ViewBoundary) _ (tells-if (crosses_blocks at len) error.ViewBoundary tt)
-      (tells-first (without_log state.log) _ (tells-log state.log)
+      (tells-first (no_log_error state.log) _ (tells-log state.log)
       (tells-first (past_size state.sizes.size (at + len)) (past_valid state.sizes.valid at)
       (tells-if (nat_lt state.sizes.size (at + len)) (error.BeyondSize state.sizes.size) tt)
       (tells-if (nat_lt state.sizes.valid at) (error.BeyondValid state.sizes.valid) tt)))

@@ -29,7 +29,7 @@ use Rattle.cc_model.specs.Room.{owed_by_stream, stores_unfinished, reserved_in}
 use Rattle.cc_model.specs.Setup.{Setup}
 use Rattle.cc_model.specs.Turns.{Turn, Device, Book, Log, Journal, needs, is_quiet}
 use Rattle.cc_turns.specs.Journal.{JournalStands}
-use Rattle.cc_turns.specs.Standing.{Standing, Held, holds}
+use Rattle.cc_turns.specs.Standing.{Standing, TurnsHeld, holds}
 use Rattle.cc_turns.specs.Takes.{Takes, may_be_of, with_journal, without_journal}
 use Rattle.cc_writes.specs.Logs.{IsStopAt}
 use Rattle.cc_writes.specs.Ways.{IsFull}
@@ -97,7 +97,7 @@ reserved-told other past is = absurd (cc)
 clash : true ≡ false → ⊥
 clash e = absurd (cc)
 
-unneeded : (h : Held) (e : Entry) → tells_lock e ≡ true → h.journal ≡ true → (t : Turn) → holds h t ≡ false → needs e t ≡ false
+unneeded : (h : TurnsHeld) (e : Entry) → tells_lock e ≡ true → h.journal ≡ true → (t : Turn) → holds h t ≡ false → needs e t ≡ false
 unneeded h e is journal Journal free = absurd (clash (sym journal ∙ free))
 unneeded h (entry.Locked pass file range exclusive granted id) is journal (Device n) free = refl
 unneeded h (entry.Locked pass file range exclusive granted id) is journal (Book n) free = refl
@@ -110,7 +110,7 @@ unneeded h (entry.Tested pass file range write conflict) is journal (Book n) fre
 unneeded h (entry.Tested pass file range write conflict) is journal (Log n) free = refl
 unneeded h other is journal t free = absurd (cc)
 
-quiet-told : (h : Held) (e : Entry) → tells_lock e ≡ true → h.journal ≡ true → (t : Turn) → holds h t ≡ false → is_quiet t (e ∷ []) ≡ true
+quiet-told : (h : TurnsHeld) (e : Entry) → tells_lock e ≡ true → h.journal ≡ true → (t : Turn) → holds h t ≡ false → is_quiet t (e ∷ []) ≡ true
 quiet-told h e is journal t free = is_quiet-unneeded t e [] (unneeded h e is journal t free) ∙ is_quiet-none t
 
 -- ---- a visit to the journal

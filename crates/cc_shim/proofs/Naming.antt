@@ -9,7 +9,7 @@ use Rattle.std.proofs.lemmas.Iterator.Adapters.{position_from-zero}
 use Rattle.std.proofs.lemmas.Option.{slice_get_within}
 use Rattle.std.proofs.lemmas.Slice.Eq.{bytes_eq-Decides}
 use Rattle.cc_entry.specs.Place.{File}
-use Rattle.cc_shim.specs.Names.{IsNamed, are_apart}
+use Rattle.cc_shim.specs.Names.{StreamIsNamed, are_apart}
 
 module _ {X : Type 0} (bytes_of : X → List ℕ) (name : List ℕ) where
   abbrev is_it : X → Bool
@@ -57,17 +57,17 @@ module _ {X : Type 0} (bytes_of : X → List ℕ) (name : List ℕ) where
   pub not-found : (names : List X) → position is_it names ≡ None → AllByRecursion (λ other. bytes_eq other name ≡ false) (map bytes_of names)
   not-found names is = none-from 0 names (sym (position_from-zero is_it names) ∙ is)
 
-  pub not-named : (names : List X) → position is_it names ≡ None → IsNamed (map bytes_of names) name → ⊥
+  pub not-named : (names : List X) → position is_it names ≡ None → StreamIsNamed (map bytes_of names) name → ⊥
   not-named names is named = none-named (map bytes_of names) (not-found names is) named.0 named.1
 
   -- what an open of the place that is found answers, and where none is found
-  pub opened : (names : List X) (j object : ℕ) {T : Type 0} (r : Option T) → position is_it names ≡ Some j → j < 16 → (IsSome r ↔ ((j < 16) × (object < 16))) → IsSome r ↔ (IsNamed (map bytes_of names) name × (object < 16))
+  pub opened : (names : List X) (j object : ℕ) {T : Type 0} (r : Option T) → position is_it names ≡ Some j → j < 16 → (IsSome r ↔ ((j < 16) × (object < 16))) → IsSome r ↔ (StreamIsNamed (map bytes_of names) name × (object < 16))
   opened names j object r is small range = (
     λ some. ((j, found-named names j is), (range.0 some).1),
     λ both. range.1 (small, both.1),
   )
 
-  pub unopened : (names : List X) (object : ℕ) {T : Type 0} (r : Option T) → position is_it names ≡ None → r ≡ None → IsSome r ↔ (IsNamed (map bytes_of names) name × (object < 16))
+  pub unopened : (names : List X) (object : ℕ) {T : Type 0} (r : Option T) → position is_it names ≡ None → r ≡ None → IsSome r ↔ (StreamIsNamed (map bytes_of names) name × (object < 16))
   unopened names object r is none = (λ some. absurd (some-none r none some), λ both. absurd (not-named names is both.0))
     where
       some-none : {T : Type 0} (r : Option T) → r ≡ None → IsSome r → ⊥

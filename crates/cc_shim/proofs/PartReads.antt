@@ -23,8 +23,8 @@ use Rattle.cc_calls.specs.Ends.{HeldReadEnds, HoldEnded, MakingEnds, filled_outc
 use Rattle.cc_calls.specs.declared.held.Held.{Held}
 use Rattle.cc_calls.proofs.Paging.{full-within, most_room}
 use Rattle.cc_pieces.specs.Shim.{HoldPath, PartRead, PartRefused, PartsLeft, part_in, parts_of, whole_part}
-use Rattle.cc_shim.specs.Ends.{WasFull}
-use Rattle.cc_shim.specs.Reads.{PartEnds, PartLeft, PartsEnds, filled}
+use Rattle.cc_shim.specs.Ends.{CallListWasFull}
+use Rattle.cc_shim.specs.Reads.{PartEnds, PartLeft, PartsEnds, filled_answer}
 use Rattle.cc_shim.proofs.Going.{HasGone, ends-after, ends-more, ends-before, ends-here, full-now, gone-ended, gone-list, gone-none, gone-pages, gone-read, gone-then, moved}
 use Rattle.cc_shim.proofs.Lists.{map-split}
 
@@ -45,12 +45,12 @@ module _ (w v : Standing) (path : HoldPath) (of_kind : HoldKind → Bool) (file 
       let first = gone-pages w v (path.make r) (hold_outcome (Ok held)) made.pages in
       let second = gone-read v x of_kind held (path.look held.id r) answer was now read in
       let third = gone-ended x y held ended in
-      ends-after w v y (PartLeft w.setup w.number path r) (λ told old new. Looked v.setup v.number told old new) (filled answer now) first
-      (ends-before v x y (λ told old new. Looked v.setup v.number told old new) (λ told old new. CallLeft v.setup v.number (path.look held.id r) (filled_outcome answer now) old new) (filled answer now)
-      (ends-here v x (λ told old new. CallLeft v.setup v.number (path.look held.id r) (filled_outcome answer now) old new) (filled answer now) second (by-full answer read) read.left)
+      ends-after w v y (PartLeft w.setup w.number path r) (λ told old new. Looked v.setup v.number told old new) (filled_answer answer now) first
+      (ends-before v x y (λ told old new. Looked v.setup v.number told old new) (λ told old new. CallLeft v.setup v.number (path.look held.id r) (filled_outcome answer now) old new) (filled_answer answer now)
+      (ends-here v x (λ told old new. CallLeft v.setup v.number (path.look held.id r) (filled_outcome answer now) old new) (filled_answer answer now) second (by-full answer read) read.left)
       third
       (λ left. (x.seen, left, moved v x second.on (λ u me. CallLeft u me (call.EndHold held.id) (outcome.Done reply.Unit) x.seen y.seen) ended.left)))
-      (λ left. whole answer (moved w v first.on (λ u me. Looked u me (filled answer now) v.seen y.seen) left))
+      (λ left. whole answer (moved w v first.on (λ u me. Looked u me (filled_answer answer now) v.seen y.seen) left))
     where
       Looked : Setup → ℕ → Result (List ℕ) CcError → List Entry → List Entry → Type 0
       Looked u me told old new =
@@ -58,11 +58,11 @@ module _ (w v : Standing) (path : HoldPath) (of_kind : HoldKind → Bool) (file 
           × CallLeft u me (path.look held.id r) (filled_outcome answer now) old between
           × CallLeft u me (call.EndHold held.id) (outcome.Done reply.Unit) between new
 
-      by-full : (answer : Result (Unit {0}) CcError) → HeldReadEnds v x of_kind held (path.look held.id r) answer was now → WasFull v x (filled answer now)
+      by-full : (answer : Result (Unit {0}) CcError) → HeldReadEnds v x of_kind held (path.look held.id r) answer was now → CallListWasFull v x (filled_answer answer now)
       by-full (Ok done) read = tt
       by-full (Err e) read = full-now {A = Unit {0}} v x 1 (Err e) (gone-read v x of_kind held (path.look held.id r) (Err e) was now read) few (omega arith) read.full
 
-      whole : (answer : Result (Unit {0}) CcError) → ((between : List Entry) × CallLeft w.setup w.number (path.look held.id r) (filled_outcome answer now) v.seen between × CallLeft w.setup w.number (call.EndHold held.id) (outcome.Done reply.Unit) between y.seen) → PartLeft w.setup w.number path r (filled answer now) w.seen y.seen
+      whole : (answer : Result (Unit {0}) CcError) → ((between : List Entry) × CallLeft w.setup w.number (path.look held.id r) (filled_outcome answer now) v.seen between × CallLeft w.setup w.number (call.EndHold held.id) (outcome.Done reply.Unit) between y.seen) → PartLeft w.setup w.number path r (filled_answer answer now) w.seen y.seen
       whole (Ok done) left = (held.id, v.seen, left.0, made.pages.left, left.1, left.2)
       whole (Err e) left = inr (held.id, v.seen, left.0, made.pages.left, left.1, left.2)
 
@@ -111,9 +111,9 @@ module _ (u : Setup) (me : ℕ) (path : HoldPath) where
 pub whole-read : (w v : Standing) (path : HoldPath) (r : Range) (answer : Result (Unit {0}) CcError) (was now : List ℕ) → r.from < r.to → PartEnds w v path r answer was now → PartsEnds w v path (whole_part r) answer was now
 whole-read w v path r answer was now some ends =
     rw (lt-ltb r.from r.to some)
-    (ends-more w v (PartLeft w.setup w.number path r) (PartsLeft w.setup w.number path (r ∷ [])) (filled answer now) (by answer) ends)
+    (ends-more w v (PartLeft w.setup w.number path r) (PartsLeft w.setup w.number path (r ∷ [])) (filled_answer answer now) (by answer) ends)
   where
-    by : (answer : Result (Unit {0}) CcError) → PartLeft w.setup w.number path r (filled answer now) w.seen v.seen → PartsLeft w.setup w.number path (r ∷ []) (filled answer now) w.seen v.seen
+    by : (answer : Result (Unit {0}) CcError) → PartLeft w.setup w.number path r (filled_answer answer now) w.seen v.seen → PartsLeft w.setup w.number path (r ∷ []) (filled_answer answer now) w.seen v.seen
     by (Ok done) left = (v.seen, now, [], sym (append-nil now), left, (refl, idle-none w.number v.seen))
     by (Err e) left = inl left
 

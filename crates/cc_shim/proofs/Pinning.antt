@@ -28,15 +28,15 @@ use Rattle.cc_own.proofs.VerbsKeep.{append-unchanged}
 use Rattle.cc_turns.specs.Standing.{Standing}
 use Rattle.cc_writes.specs.Ways.{IsFull}
 use Rattle.cc_calls.specs.Answers.{CallEnds, outcome_of, state_outcome}
-use Rattle.cc_calls.specs.Ends.{HoldEnded, MakingEnds, SetDirtyEnds, UseEnds, held_at, hold_outcome}
-use Rattle.cc_calls.specs.Held.{IsHolding, covers}
+use Rattle.cc_calls.specs.Ends.{HoldEnded, MakingEnds, SetDirtyEnds, UseEnds, held_of_range, hold_outcome}
+use Rattle.cc_calls.specs.Held.{IsHolding, held_covers}
 use Rattle.cc_calls.specs.Logs.{LogEnds}
 use Rattle.cc_calls.specs.Pages.{WentOn}
 use Rattle.cc_calls.specs.declared.held.Held.{Held}
 use Rattle.cc_calls.proofs.Holding.{so-far}
 use Rattle.cc_calls.proofs.Paging.{full-within, most_room}
-use Rattle.cc_pieces.specs.Shim.{CallsLeft, IsForWant, LoggedLeft, PinnedUpdateLeft, RecordedLeft, ToldUpdateLeft, UpdateLeft, update_record}
-use Rattle.cc_shim.specs.Ends.{BearsLsn, ListEnds, PinnedEnds, WasFull, WasPinned}
+use Rattle.cc_pieces.specs.Shim.{CallsLeft, IsForWant, LoggedLeft, PinnedUpdateLeft, RecordedLeft, ToldUpdateLeft, UpdateLeft, update_record_of_file}
+use Rattle.cc_shim.specs.Ends.{BearsLsn, ListEnds, PinnedEnds, CallListWasFull, WasPinned}
 use Rattle.cc_shim.proofs.Going.{HasGone, ends-after, ends-before, ends-here, full-now, gone-append, gone-ended, gone-ends, gone-list, gone-none, gone-pages, moved, same-number, same-setup, two-asked}
 use Rattle.cc_shim.proofs.Lists.{done-then, last-call}
 use Rattle.cc_shim.proofs.Stamping.{bears, stamp-for-want, told-valid, write-for-want}
@@ -44,11 +44,11 @@ use Rattle.cc_shim.proofs.Told.{pinned-short}
 use Rattle.cc_shim.proofs.ValidKept.{valid-stays}
 
 -- the range of a pin has all its bytes
-pub covers-all : (file : File) (at len id : ℕ) → covers (held_at file at len id) at len ≡ true
+pub covers-all : (file : File) (at len id : ℕ) → held_covers (held_of_range file at len id) at len ≡ true
 covers-all file at len id = rw (le-leb at at (omega arith)) (le-leb (at + len) (at + len) (omega arith))
 
-pub covers-held : (file : File) (at len : ℕ) (held : Held) → held ≡ held_at file at len held.id → covers held at len ≡ true
-covers-held file at len held is = subst (λ (h : Held). covers h at len ≡ true) (sym is) (covers-all file at len held.id)
+pub covers-held : (file : File) (at len : ℕ) (held : Held) → held ≡ held_of_range file at len held.id → held_covers held at len ≡ true
+covers-held file at len held is = subst (λ (h : Held). held_covers h at len ≡ true) (sym is) (covers-all file at len held.id)
 
 -- the pass has its pin still
 still : (w v : Standing) (held : Held) → WentOn w v → IsUnchanged w.number held.id w.seen v.seen → IsGood w.setup v.seen → IsHolding w is_pin held → IsHolding v is_pin held
@@ -64,7 +64,7 @@ still w v held on unchanged good h = record {
 }
 
 -- what a pin covers begins at its end or before
-within-pin : (w : Standing) (pin : Held) (at n : ℕ) (h : IsHolding w is_pin pin) → covers pin at n ≡ true → at ≤ h.hold.at + h.hold.len
+within-pin : (w : Standing) (pin : Held) (at n : ℕ) (h : IsHolding w is_pin pin) → held_covers pin at n ≡ true → at ≤ h.hold.at + h.hold.len
 within-pin w pin at n h covered =
     let end = leb-true (at + n) (pin.at + pin.len) (and_parts (nat_le pin.at at) (nat_le (at + n) (pin.at + pin.len)) covered).1 in
     omega (arith, end, h.at_is, h.len_is)
@@ -119,7 +119,7 @@ module _ (w v : Standing) (pin : Held) (at : ℕ) (bytes : List ℕ) (lsn : ℕ)
   Recorded answered old new = RecordedLeft w.setup w.number pin.id at bytes lsn answered old new
 
   -- a write that begins below the valid data length is refused for want alone
-  pub for-want : (e : CcError) → IsHolding w is_pin pin → covers pin at (length bytes) ≡ true → IsGood w.setup w.seen → at ≤ valid_of (history w.seen pin.file.stream) → UseEnds w v is_pin pin writing (Err e) → IsForWant e
+  pub for-want : (e : CcError) → IsHolding w is_pin pin → held_covers pin at (length bytes) ≡ true → IsGood w.setup w.seen → at ≤ valid_of (history w.seen pin.file.stream) → UseEnds w v is_pin pin writing (Err e) → IsForWant e
   for-want e h covered good valid ends =
       write-for-want w.setup w.number pin.file.stream pin.id h.hold at bytes w.seen v.seen (so-far w.setup v.seen (ends.call_ends.good good)) h.has
       (within-pin w pin at (length bytes) h covered) valid e ends.call_ends.left
@@ -147,7 +147,7 @@ module _ (w v : Standing) (pin : Held) (at : ℕ) (bytes : List ℕ) (lsn : ℕ)
         holding = stamps.use_ends.holding;
       }
     where
-      by-full : (answer : Result (Unit {0}) CcError) → OnErr answer (x.others ≤ x.most_others) → HasGone v x → IsFull 1 x answer → WasFull v x (stamped_with lsn answer)
+      by-full : (answer : Result (Unit {0}) CcError) → OnErr answer (x.others ≤ x.most_others) → HasGone v x → IsFull 1 x answer → CallListWasFull v x (stamped_with lsn answer)
       by-full (Ok done) few gone full = tt
       by-full (Err e) few gone full = full-now {A = Unit {0}} v x 1 (Err e) gone few (omega arith) full
 
@@ -172,7 +172,7 @@ module _ (w : Standing) (file : File) (pin : Held) (at : ℕ) (bytes : List ℕ)
   Logged answered old new = LoggedLeft w.setup w.number file pin.id at bytes handle answered old new
 
   abbrev Appended : Result ℕ CcError → List Entry → List Entry → Type 0
-  Appended answered old new = AppendLeft w.setup w.number handle (update_record file at bytes) answered old new
+  Appended answered old new = AppendLeft w.setup w.number handle (update_record_of_file file at bytes) answered old new
 
   -- no memory for the record
   pub unrecorded : IsHolding w is_pin pin → PinnedEnds w w pin Logged (Err error.NoMemory)
@@ -185,30 +185,30 @@ module _ (w : Standing) (file : File) (pin : Held) (at : ℕ) (bytes : List ℕ)
     -- the pass has its pin behind the append
     pub still-appended : IsHolding v is_pin pin
     still-appended =
-        still w v pin (gone-append w v handle (update_record file at bytes) answer ends).on
-        (append-unchanged w.setup w.number pin.id handle (update_record file at bytes) answer w.seen v.seen ends.left) (ends.good good) holding
+        still w v pin (gone-append w v handle (update_record_of_file file at bytes) answer ends).on
+        (append-unchanged w.setup w.number pin.id handle (update_record_of_file file at bytes) answer w.seen v.seen ends.left) (ends.good good) holding
 
     -- the valid data length stays above the place meanwhile
-    pub valid-appended : covers pin at (length bytes) ≡ true → at ≤ valid_of (history w.seen pin.file.stream) → at ≤ valid_of (history v.seen pin.file.stream)
+    pub valid-appended : held_covers pin at (length bytes) ≡ true → at ≤ valid_of (history w.seen pin.file.stream) → at ≤ valid_of (history v.seen pin.file.stream)
     valid-appended covered valid =
         valid-stays w.setup w.number pin.file.stream pin.id holding.hold at (within-pin w pin at (length bytes) holding covered) w.seen v.seen
-        (append-unchanged w.setup w.number pin.id handle (update_record file at bytes) answer w.seen v.seen ends.left) (so-far w.setup v.seen (ends.good good)) holding.has valid
+        (append-unchanged w.setup w.number pin.id handle (update_record_of_file file at bytes) answer w.seen v.seen ends.left) (so-far w.setup v.seen (ends.good good)) holding.has valid
 
     pub good-appended : IsGood v.setup v.seen
     good-appended =
-        let gone = gone-append w v handle (update_record file at bytes) answer ends in
+        let gone = gone-append w v handle (update_record_of_file file at bytes) answer ends in
         subst (λ (u : Setup). IsGood u v.seen) (sym (same-setup w v gone.on)) (ends.good good)
 
     -- what bears the LSN behind the append
-    pub bears-appended : (x : Standing) (told : Result ℕ CcError) → pin ≡ held_at file at (length bytes) pin.id → IfOk told (λ lsn. BearsLsn pin.file pin.at pin.len lsn v.seen x.seen) → IfOk told (λ lsn. BearsLsn file at (length bytes) lsn w.seen x.seen)
+    pub bears-appended : (x : Standing) (told : Result ℕ CcError) → pin ≡ held_of_range file at (length bytes) pin.id → IfOk told (λ lsn. BearsLsn pin.file pin.at pin.len lsn v.seen x.seen) → IfOk told (λ lsn. BearsLsn file at (length bytes) lsn w.seen x.seen)
     bears-appended x told range b =
-        answered-earlier file at (length bytes) told w.seen v.seen x.seen (gone-append w v handle (update_record file at bytes) answer ends).grew
+        answered-earlier file at (length bytes) told w.seen v.seen x.seen (gone-append w v handle (update_record_of_file file at bytes) answer ends).grew
         (subst (λ (h : Held). IfOk told (λ lsn. BearsLsn h.file h.at h.len lsn v.seen x.seen)) range b)
 
   -- the append was refused
   pub unappended : (v : Standing) (e : CcError) → v.others ≤ v.most_others → IsGood w.setup w.seen → IsHolding w is_pin pin → LogEnds w v Appended (Err e) → PinnedEnds w v pin Logged (Err e)
   unappended v e few good holding ends =
-      let gone = gone-append w v handle (update_record file at bytes) (Err e) ends in
+      let gone = gone-append w v handle (update_record_of_file file at bytes) (Err e) ends in
       record {
         ends = ends-here w v Logged (Err e) gone (full-now {A = ℕ} w v 1 (Err e) gone few (omega arith) ends.full) (inl (e, refl, ends.left));
         holding = still-appended v (Err e) good holding ends;
@@ -217,7 +217,7 @@ module _ (w : Standing) (file : File) (pin : Held) (at : ℕ) (bytes : List ℕ)
   -- it was done, and the rest followed
   pub appended : (v x : Standing) (lsn : ℕ) (answer : Result ℕ CcError) → LogEnds w v Appended (Ok lsn) → PinnedEnds v x pin (RecordedLeft v.setup v.number pin.id at bytes lsn) answer → PinnedEnds w x pin Logged answer
   appended v x lsn answer ends rest =
-      let gone = gone-append w v handle (update_record file at bytes) (Ok lsn) ends in
+      let gone = gone-append w v handle (update_record_of_file file at bytes) (Ok lsn) ends in
       record {
         ends =
             ends-after w v x Logged (RecordedLeft v.setup v.number pin.id at bytes lsn) answer gone rest.ends
@@ -261,7 +261,7 @@ module _ (w v : Standing) (file : File) (pin : Held) (at : ℕ) (bytes : List �
         pinned-short w.setup w.number file at (length bytes) pin.id made.0 w.seen gone.grew.later made.1
         (subst (λ (past : List Entry). IsGood w.setup past) gone.grew.grew good)
 
-    pub valid-told : pin ≡ held_at file at (length bytes) pin.id → at ≤ state.sizes.valid → at ≤ valid_of (history v.seen pin.file.stream)
+    pub valid-told : pin ≡ held_of_range file at (length bytes) pin.id → at ≤ state.sizes.valid → at ≤ valid_of (history v.seen pin.file.stream)
     valid-told range within =
         let same : pin.file ≡ file = ap (λ (h : Held). h.file) range in
         let has : HasHold w.number file.stream pin.id holding.hold w.seen = subst (λ (f : File). HasHold w.number f.stream pin.id holding.hold w.seen) same holding.has in
@@ -272,7 +272,7 @@ module _ (w v : Standing) (file : File) (pin : Held) (at : ℕ) (bytes : List �
     pub bears-told : (x : Standing) (told : Result ℕ CcError) → IfOk told (λ lsn. BearsLsn file at (length bytes) lsn v.seen x.seen) → IfOk told (λ lsn. BearsLsn file at (length bytes) lsn w.seen x.seen)
     bears-told x told b = answered-earlier file at (length bytes) told w.seen v.seen x.seen (gone-ends state_outcome w v (call.State file) (Ok state) ends).grew b
 
-    told-here : (e : CcError) → WasFull {A = ℕ} w v (Err e) → ToldUpdateLeft w.setup w.number file pin.id at bytes state.log state.sizes.valid (Err e) v.seen v.seen → PinnedEnds w v pin Pinned (Err e)
+    told-here : (e : CcError) → CallListWasFull {A = ℕ} w v (Err e) → ToldUpdateLeft w.setup w.number file pin.id at bytes state.log state.sizes.valid (Err e) v.seen v.seen → PinnedEnds w v pin Pinned (Err e)
     told-here e full left =
         let gone = gone-ends state_outcome w v (call.State file) (Ok state) ends in
         record { ends = ends-here w v Pinned (Err e) gone full (inr (v.seen, state, ends.left, left)); holding = pin-told }

@@ -5,7 +5,7 @@ use Rattle.std.proofs.Common.{ap, sym, ◌∙◌, append_assoc}
 use Rattle.std.proofs.Math.Nat.{div-div-eq-div-mul, div-one, pow-suc}
 use Rattle.cc_entry.specs.Place.{File}
 use Rattle.cc_model.specs.Records.{little_endian}
-use Rattle.cc_pieces.specs.Shim.{update_record}
+use Rattle.cc_pieces.specs.Shim.{update_record_of_file}
 
 byte-is : (i n : ℕ) → byte_at i n ≡ n / 256 ^ i % 256
 byte-is zero n = ap (λ (m : ℕ). m % 256) (sym (div-one n))
@@ -21,7 +21,7 @@ bytes-are i (suc k) n =
 pub low-first : (k n : ℕ) → bytes_low_first 0 k n ≡ little_endian k n
 low-first k n = bytes-are 0 k n ∙ ap (λ (m : ℕ). little_endian k m) (div-one n)
 
-pub spelled : {E : Type 0} (file : File) (at : ℕ) (piece out one two three four : List ℕ) (r : Result (Unit {0}) E) → one ≡ out ++ (file.stream ∷ []) → two ≡ one ++ bytes_low_first 0 8 at → three ≡ two ++ bytes_low_first 0 4 (length piece) → OnOk r (four ≡ three ++ piece) → OnOk r (four ≡ out ++ update_record file at piece)
+pub spelled : {E : Type 0} (file : File) (at : ℕ) (piece out one two three four : List ℕ) (r : Result (Unit {0}) E) → one ≡ out ++ (file.stream ∷ []) → two ≡ one ++ bytes_low_first 0 8 at → three ≡ two ++ bytes_low_first 0 4 (length piece) → OnOk r (four ≡ three ++ piece) → OnOk r (four ≡ out ++ update_record_of_file file at piece)
 spelled file at piece out one two three four (Err e) first second third last = tt
 spelled file at piece out one two three four (Ok done) first second third last =
     let places = low-first 8 at in

@@ -19,7 +19,7 @@ use Rattle.cc_calls.specs.Answers.{CallEnds, CallSets, outcome_of, state_outcome
 use Rattle.cc_calls.specs.Pages.{ChangeEnds}
 use Rattle.cc_calls.proofs.Paging.{full-within, most_room}
 use Rattle.cc_pieces.specs.Shim.{CallsLeft, ShortWriteLeft, ToldWriteLeft, extensions, write_calls, zeroings}
-use Rattle.cc_shim.specs.Ends.{FirstLeft, ListEnds, WriteLeft}
+use Rattle.cc_shim.specs.Ends.{FirstLeft, ListEnds, ExtendingWriteLeft}
 use Rattle.cc_shim.proofs.Going.{HasGone, ends-after, ends-more, ends-here, full-now, gone-ends, gone-list, gone-none, gone-pages, gone-then, moved, one-asked}
 use Rattle.cc_shim.proofs.Lists.{first-call, first-more, first-none, first-refused, last-call, map-split}
 
@@ -164,19 +164,19 @@ write-too_far w file at bytes state far =
     (inl (far, inl refl, idle-none w.number w.seen))
 
 -- too many bytes
-pub write-too_long : (w : Standing) (file : File) (at : ℕ) (bytes : List ℕ) → 1048576 < length bytes → ListEnds w w (WriteLeft w.setup w.number file at bytes) (Err (error.TooLong 1048576))
+pub write-too_long : (w : Standing) (file : File) (at : ℕ) (bytes : List ℕ) → 1048576 < length bytes → ListEnds w w (ExtendingWriteLeft w.setup w.number file at bytes) (Err (error.TooLong 1048576))
 write-too_long w file at bytes long =
-    ends-here w w (WriteLeft w.setup w.number file at bytes) (Err (error.TooLong 1048576)) (gone-none w) tt
+    ends-here w w (ExtendingWriteLeft w.setup w.number file at bytes) (Err (error.TooLong 1048576)) (gone-none w) tt
     (rw (lt-ltb 1048576 (length bytes) long) (inl refl, idle-none w.number w.seen))
 
 module _ (w v : Standing) (file : File) (at : ℕ) (bytes : List ℕ) (short : length bytes ≤ 1048576) where
-  as-short : (x : Standing) (answered : Result (Unit {0}) CcError) → ListEnds w x (ShortWriteLeft w.setup w.number file at bytes) answered → ListEnds w x (WriteLeft w.setup w.number file at bytes) answered
+  as-short : (x : Standing) (answered : Result (Unit {0}) CcError) → ListEnds w x (ShortWriteLeft w.setup w.number file at bytes) answered → ListEnds w x (ExtendingWriteLeft w.setup w.number file at bytes) answered
   as-short x answered ends =
-      ends-more w x (ShortWriteLeft w.setup w.number file at bytes) (WriteLeft w.setup w.number file at bytes) answered
+      ends-more w x (ShortWriteLeft w.setup w.number file at bytes) (ExtendingWriteLeft w.setup w.number file at bytes) answered
       (λ left. rw (le-ltb 1048576 (length bytes) short) left) ends
 
   -- the state was not told
-  pub write-untold : (e : CcError) → v.others ≤ v.most_others → CallEnds state_outcome w v (call.State file) (Err e) → ListEnds w v (WriteLeft w.setup w.number file at bytes) (Err e)
+  pub write-untold : (e : CcError) → v.others ≤ v.most_others → CallEnds state_outcome w v (call.State file) (Err e) → ListEnds w v (ExtendingWriteLeft w.setup w.number file at bytes) (Err e)
   write-untold e few ends =
       let gone = gone-ends state_outcome w v (call.State file) (Err e) ends in
       as-short v (Err e)
@@ -184,7 +184,7 @@ module _ (w v : Standing) (file : File) (at : ℕ) (bytes : List ℕ) (short : l
       (inl (e, refl, ends.left)))
 
   -- it was, and the write went on
-  pub write-told : (x : Standing) (state : FileState) (answered : Result (Unit {0}) CcError) → CallEnds state_outcome w v (call.State file) (Ok state) → ListEnds v x (ToldWriteLeft v.setup v.number file at bytes state) answered → ListEnds w x (WriteLeft w.setup w.number file at bytes) answered
+  pub write-told : (x : Standing) (state : FileState) (answered : Result (Unit {0}) CcError) → CallEnds state_outcome w v (call.State file) (Ok state) → ListEnds v x (ToldWriteLeft v.setup v.number file at bytes state) answered → ListEnds w x (ExtendingWriteLeft w.setup w.number file at bytes) answered
   write-told x state answered ends rest =
       let gone = gone-ends state_outcome w v (call.State file) (Ok state) ends in
       as-short x answered

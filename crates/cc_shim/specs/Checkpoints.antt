@@ -11,12 +11,12 @@ use Rattle.cc_model.specs.Setup.{Setup}
 use Rattle.cc_effects.specs.Moments.{Between}
 use Rattle.cc_effects.specs.Calls.{CallLeft}
 use Rattle.cc_calls.specs.Answers.{outcome_of}
-use Rattle.cc_pieces.specs.Checkpoints.{AskingStopped, StateAsked, StateRefused, StatesAsked, first_object, has_log, sync_call}
+use Rattle.cc_pieces.specs.Checkpoints.{AskingStopped, StateAsked, StateRefused, StatesAsked, first_object, state_has_log, sync_call}
 
 -- whether a stream has the log, by its state; one that is not open has not
 abbrev pub LogAsked : Setup → ℕ → ℕ → ℕ → Result Bool CcError → Between
 LogAsked u me handle stream (Ok has) old new =
-    (state : Option FileState) × (has ≡ has_log handle state) × StateAsked u me stream state old new
+    (state : Option FileState) × (has ≡ state_has_log handle state) × StateAsked u me stream state old new
 LogAsked u me handle stream (Err e) old new =
     (e ≢ error.NotCached) × CallLeft u me (call.State (first_object stream)) (outcome.Failed e) old new
 
@@ -26,5 +26,5 @@ LogsAsked u me handle streams (Ok found) old new = StatesAsked u me handle strea
 LogsAsked u me handle streams (Err e) old new = AskingStopped u me handle streams e old new ⊎ StateRefused u me handle streams e old new
 
 -- the disk of a stream was synced
-abbrev pub SyncLeft : Setup → ℕ → ℕ → Result (Unit {0}) CcError → Between
-SyncLeft u me stream answered old new = CallLeft u me (sync_call stream) (outcome_of answered) old new
+abbrev pub SyncCallLeft : Setup → ℕ → ℕ → Result (Unit {0}) CcError → Between
+SyncCallLeft u me stream answered old new = CallLeft u me (sync_call stream) (outcome_of answered) old new

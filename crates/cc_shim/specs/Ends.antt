@@ -39,15 +39,15 @@ WasFullError asked old new (error.JournalFull entries) =
 WasFullError asked old new other = Unit {0}
 
 -- So of a list of calls, of which each asks two places at most.
-abbrev pub WasFull : {A : Type 0} → Standing → Standing → Result A CcError → Type 0
-WasFull old new (Ok a) = Unit {0}
-WasFull old new (Err e) = WasFullError 2 old new e
+abbrev pub CallListWasFull : {A : Type 0} → Standing → Standing → Result A CcError → Type 0
+CallListWasFull old new (Ok a) = Unit {0}
+CallListWasFull old new (Err e) = WasFullError 2 old new e
 
 -- A list of calls was answered so: it left what explains the answer, a journal that is told to be full was full, the pass
 -- goes on as it stood and may call again, what it had seen stands, and what it has seen stays good.
 pub record ListEnds {A : Type 0} (old new : Standing) (Left : Result A CcError → Between) (answer : Result A CcError) : Type 0 where
   pub left : Left answer old.seen new.seen
-  pub full : WasFull old new answer
+  pub full : CallListWasFull old new answer
   pub goes_on : WentOn old new
   pub grew : HasSeen old.seen new.seen
   pub good : StaysGood old new
@@ -61,8 +61,8 @@ FirstLeft u me calls (Ok done) old new =
 FirstLeft u me calls (Err e) old new = (rest : List Call) → CallsLeft u me (calls ++ rest) (Err e) old new
 
 -- a write that extends the stream
-abbrev pub WriteLeft : Setup → ℕ → File → ℕ → List ℕ → Result (Unit {0}) CcError → Between
-WriteLeft u me file at bytes answered old new = WriteTested u me file at bytes (nat_lt 1048576 (length bytes)) answered old new
+abbrev pub ExtendingWriteLeft : Setup → ℕ → File → ℕ → List ℕ → Result (Unit {0}) CcError → Between
+ExtendingWriteLeft u me file at bytes answered old new = WriteTested u me file at bytes (nat_lt 1048576 (length bytes)) answered old new
 
 -- A list of calls under a pin was answered so, and the pass has the pin still.
 pub record PinnedEnds {A : Type 0} (old new : Standing) (pin : Held) (Left : Result A CcError → Between)

@@ -9,5 +9,5 @@ are_apart [] = Unit {0}
 are_apart (name ∷ names) = AllByRecursion (λ other. bytes_eq other name ≡ false) names × are_apart names
 
 -- a stream has the name
-abbrev pub IsNamed : List (List ℕ) → List ℕ → Type 0
-IsNamed names name = (stream : ℕ) × (slice_get names stream ≡ Some name)
+abbrev pub StreamIsNamed : List (List ℕ) → List ℕ → Type 0
+StreamIsNamed names name = (stream : ℕ) × (slice_get names stream ≡ Some name)

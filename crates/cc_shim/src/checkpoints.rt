@@ -4,7 +4,7 @@ ghost use Rattle.std.specs.Prelude.{◌≡◌, ◌++◌, ◌∷◌, [], ◌<◌,
 ghost use Rattle.cc_calls.specs.Answers.{CanCall, IsFree};
 ghost use Rattle.cc_pieces.specs.Checkpoints.{CheckpointLeft, RecordFlushed, RecordLogged, RowsLogged, SyncedLogged, record_of_rows, sync_call};
 ghost use Rattle.cc_pieces.specs.Shim.{CallsLeft};
-ghost use Rattle.cc_shim.specs.Checkpoints.{LogAsked, LogsAsked, SyncLeft};
+ghost use Rattle.cc_shim.specs.Checkpoints.{LogAsked, LogsAsked, SyncCallLeft};
 ghost use Rattle.cc_shim.specs.Ends.{ListEnds};
 
 use crate::rows::record_of_rows;
@@ -203,7 +203,7 @@ fn sync<T: Turns>(alloc: Global, turns: &mut T, stream: u8) -> Result<(), CcErro
     requires can { CanCall (T.standing turns.old) stream }
     requires few { stream < 16 }
     ensures ends { ListEnds (T.standing turns.old) (T.standing turns.new)
-        (SyncLeft (T.standing turns.old).setup (T.standing turns.old).number stream) result }
+        (SyncCallLeft (T.standing turns.old).setup (T.standing turns.old).number stream) result }
 {
     let file = FileId::new(stream, 0).unwrap();
     let span = Span::new(0, 0).unwrap();

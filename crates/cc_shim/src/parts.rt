@@ -3,7 +3,7 @@
 ghost use Rattle.std.specs.Prelude.{◌≡◌, ◌-◌, ◌+◌, ◌*◌, ◌<◌, ◌^◌, length};
 ghost use Rattle.cc_calls.specs.Answers.{CanCall};
 ghost use Rattle.cc_pieces.specs.Shim.{descriptor_path, mapped_path, part_in, parts_of, pinned_path};
-ghost use Rattle.cc_shim.specs.Reads.{PartEnds, PartsEnds, held_by, parts_by};
+ghost use Rattle.cc_shim.specs.Reads.{PartEnds, PartsEnds, hold_path_of, parts_by};
 
 use cc_calls::{
     map_data, mapped_read, mdl_bytes, mdl_read, mdl_read_complete, pin_read, pinned_read, unmap,
@@ -37,7 +37,7 @@ pub(crate) fn read_parts<T: Turns>(
     requires some { span.from < span.to }
     requires below { span.to < 2 ^ 63 }
     requires fits { length out.old ≡ span.to - span.from }
-    ensures ends { PartsEnds (T.standing turns.old) (T.standing turns.new) (held_by by file) (parts_by by span)
+    ensures ends { PartsEnds (T.standing turns.old) (T.standing turns.new) (hold_path_of by file) (parts_by by span)
         result out.old out.new }
 {
     match by {
@@ -60,7 +60,7 @@ fn read_blocks<T: Turns>(
     requires some { span.from < span.to }
     requires below { span.to < 2 ^ 63 }
     requires fits { length out.old ≡ span.to - span.from }
-    ensures ends { PartsEnds (T.standing turns.old) (T.standing turns.new) (held_by by file) (parts_of span)
+    ensures ends { PartsEnds (T.standing turns.old) (T.standing turns.new) (hold_path_of by file) (parts_of span)
         result out.old out.new }
 {
     let from = span.from();
@@ -103,7 +103,7 @@ fn read_part<T: Turns>(
 ) -> Result<(), CcError>
     requires can { CanCall (T.standing turns.old) file.stream }
     requires fits { length out.old ≡ part.to - part.from }
-    ensures ends { PartEnds (T.standing turns.old) (T.standing turns.new) (held_by by file) part result out.old out.new }
+    ensures ends { PartEnds (T.standing turns.old) (T.standing turns.new) (hold_path_of by file) part result out.old out.new }
 {
     match by {
         By::Map => read_mapped(alloc, turns, file, part, out),

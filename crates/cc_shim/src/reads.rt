@@ -2,7 +2,7 @@
 
 ghost use Rattle.std.specs.Prelude.{◌≡◌, ◌<◌, ◌^◌, None, length};
 ghost use Rattle.cc_calls.specs.Answers.{CanCall};
-ghost use Rattle.cc_pieces.specs.Shim.{first_of, misaligned_for, too_long_for};
+ghost use Rattle.cc_pieces.specs.Shim.{first_of_two, misaligned_for, too_long_for};
 ghost use Rattle.cc_script.specs.declared.script.ReadPath.TheVariants.{Noncached};
 ghost use Rattle.cc_shim.specs.Reads.{BelowSizeEnds, PathReadEnds, ToldSizeEnds};
 
@@ -62,7 +62,7 @@ fn read_along<T: Turns>(
     out: &mut [u8],
 ) -> Result<usize, CcError>
     requires can { CanCall (T.standing turns.old) file.stream }
-    requires fine { first_of (too_long_for path (length out.old)) (misaligned_for path at (length out.old)) ≡ None }
+    requires fine { first_of_two (too_long_for path (length out.old)) (misaligned_for path at (length out.old)) ≡ None }
     ensures ends { PathReadEnds (T.standing turns.old) (T.standing turns.new) file path at result out.old out.new }
 {
     match path {
@@ -86,7 +86,7 @@ fn read_along<T: Turns>(
 
 /// Why a place and a length are refused.
 pub(crate) fn refusal_of(path: ReadPath, at: u64, len: usize) -> Option<CcError>
-    ensures { result ≡ first_of (too_long_for path len) (misaligned_for path at len) }
+    ensures { result ≡ first_of_two (too_long_for path len) (misaligned_for path at len) }
 {
     match path {
         ReadPath::Noncached => noncached_refusal(at, len),
@@ -102,7 +102,7 @@ pub(crate) fn refusal_of(path: ReadPath, at: u64, len: usize) -> Option<CcError>
 
 // The same on the noncached path.
 fn noncached_refusal(at: u64, len: usize) -> Option<CcError>
-    ensures { result ≡ first_of (too_long_for Noncached len) (misaligned_for Noncached at len) }
+    ensures { result ≡ first_of_two (too_long_for Noncached len) (misaligned_for Noncached at len) }
 {
     if len > MOST_NONCACHED {
         return Some(CcError::TooLong {

@@ -1,7 +1,7 @@
 //! The record of an update, as a log has it.
 
 ghost use Rattle.std.specs.Prelude.{◌≡◌, ◌++◌, ◌<◌, ◌^◌, IfOk, OnOk, length};
-ghost use Rattle.cc_pieces.specs.Shim.{update_record};
+ghost use Rattle.cc_pieces.specs.Shim.{update_record_of_file};
 
 use byteorder::{LittleEndian, WriteBytesExt};
 use cc_entry::{FileId, NoMemory};
@@ -16,7 +16,7 @@ pub(crate) fn record_of(
     piece: &[u8],
 ) -> Result<Vec<u8>, NoMemory>
     requires { length piece.now < 2 ^ 32 }
-    ensures { IfOk result (λ spelled. spelled.items ≡ update_record file at piece.now) }
+    ensures { IfOk result (λ spelled. spelled.items ≡ update_record_of_file file at piece.now) }
 {
     let mut out = Vec::new(alloc);
     match spell(&mut out, file, at, piece) {
@@ -28,7 +28,7 @@ pub(crate) fn record_of(
 // Writes the record behind what there is.
 fn spell(out: &mut Vec<u8>, file: FileId, at: u64, piece: &[u8]) -> IoResult<()>
     requires { length piece.now < 2 ^ 32 }
-    ensures { OnOk result (out.new.items ≡ out.old.items ++ update_record file at piece.now) }
+    ensures { OnOk result (out.new.items ≡ out.old.items ++ update_record_of_file file at piece.now) }
 {
     out.write_u8(file.stream().number())?;
     out.write_u64::<LittleEndian>(at)?;

@@ -3,9 +3,9 @@
 ghost use Rattle.std.specs.Prelude.{◌≡◌, ◌<◌, ◌≤◌, ◌^◌, true, length, IfOk};
 ghost use Rattle.cc_entry.specs.Kinds.{is_pin};
 ghost use Rattle.cc_calls.specs.Answers.{CanCall};
-ghost use Rattle.cc_calls.specs.Ends.{held_at};
-ghost use Rattle.cc_calls.specs.Held.{IsHolding, covers};
-ghost use Rattle.cc_pieces.specs.Shim.{LoggedLeft, PinnedUpdateLeft, RecordedLeft, UpdateLeft, update_record};
+ghost use Rattle.cc_calls.specs.Ends.{held_of_range};
+ghost use Rattle.cc_calls.specs.Held.{IsHolding, held_covers};
+ghost use Rattle.cc_pieces.specs.Shim.{LoggedLeft, PinnedUpdateLeft, RecordedLeft, UpdateLeft, update_record_of_file};
 ghost use Rattle.cc_model.specs.Good.{IsGood};
 ghost use Rattle.cc_model.specs.History.{history};
 ghost use Rattle.cc_model.specs.Touches.{valid_of};
@@ -70,7 +70,7 @@ fn update_pinned<T: Turns>(
 ) -> Result<Lsn, CcError>
     requires can { CanCall (T.standing turns.old) file.stream }
     requires holding { IsHolding (T.standing turns.old) is_pin pin.now }
-    requires range { pin.now ≡ held_at file at (length piece.now) pin.now.id }
+    requires range { pin.now ≡ held_of_range file at (length piece.now) pin.now.id }
     requires made { WasPinned (T.standing turns.old) file at (length piece.now) pin.now.id }
     ensures ends { PinnedEnds (T.standing turns.old) (T.standing turns.new) pin.now
         (PinnedUpdateLeft (T.standing turns.old).setup (T.standing turns.old).number file pin.now.id at piece.now) result }
@@ -107,7 +107,7 @@ fn update_logged<T: Turns>(
 ) -> Result<Lsn, CcError>
     requires can { CanCall (T.standing turns.old) file.stream }
     requires holding { IsHolding (T.standing turns.old) is_pin pin.now }
-    requires range { pin.now ≡ held_at file at (length piece.now) pin.now.id }
+    requires range { pin.now ≡ held_of_range file at (length piece.now) pin.now.id }
     requires good { IsGood (T.standing turns.old).setup (T.standing turns.old).seen }
     requires valid { at ≤ valid_of (history (T.standing turns.old).seen pin.now.file.stream) }
     requires short { length piece.now < 2 ^ 32 }
@@ -133,10 +133,10 @@ fn update_recorded<T: Turns>(
 ) -> Result<Lsn, CcError>
     requires can { CanCall (T.standing turns.old) file.stream }
     requires holding { IsHolding (T.standing turns.old) is_pin pin.now }
-    requires range { pin.now ≡ held_at file at (length piece.now) pin.now.id }
+    requires range { pin.now ≡ held_of_range file at (length piece.now) pin.now.id }
     requires good { IsGood (T.standing turns.old).setup (T.standing turns.old).seen }
     requires valid { at ≤ valid_of (history (T.standing turns.old).seen pin.now.file.stream) }
-    requires spelled { spelled.now ≡ update_record file at piece.now }
+    requires spelled { spelled.now ≡ update_record_of_file file at piece.now }
     ensures ends { PinnedEnds (T.standing turns.old) (T.standing turns.new) pin.now
         (LoggedLeft (T.standing turns.old).setup (T.standing turns.old).number file pin.now.id at piece.now handle) result }
     ensures stamped { IfOk result (λ lsn. BearsLsn file at (length piece.now) lsn
@@ -162,7 +162,7 @@ fn write_stamped<T: Turns>(
 ) -> Result<Lsn, CcError>
     requires can { CanCall (T.standing turns.old) pin.now.file.stream }
     requires holding { IsHolding (T.standing turns.old) is_pin pin.now }
-    requires covers { covers pin.now at (length piece.now) ≡ true }
+    requires covers { held_covers pin.now at (length piece.now) ≡ true }
     requires good { IsGood (T.standing turns.old).setup (T.standing turns.old).seen }
     requires valid { at ≤ valid_of (history (T.standing turns.old).seen pin.now.file.stream) }
     ensures ends { PinnedEnds (T.standing turns.old) (T.standing turns.new) pin.now

@@ -2,7 +2,7 @@
 
 ghost use Rattle.std.specs.Prelude.{◌≡◌, ◌<◌, ◌≤◌, ◌↔◌, IsSome, IfSome, IsTrue, Some, List, ℕ, bytes_eq, length, map, slice_get, string_bytes};
 ghost use Rattle.std.specs.List.{position};
-ghost use Rattle.cc_shim.specs.Names.{IsNamed, are_apart};
+ghost use Rattle.cc_shim.specs.Names.{StreamIsNamed, are_apart};
 
 use cc_entry::FileId;
 use std::marker::Model;
@@ -51,7 +51,7 @@ impl Volume {
     /// The file object of this number of the stream that has the name; `None` where no stream has it, or where the number
     /// is above 15.
     pub fn open_name(&self, name: &str, object: u8) -> Option<FileId>
-        ensures found { IsSome result ↔ (IsNamed self.now name.now × (object < 16)) }
+        ensures found { IsSome result ↔ (StreamIsNamed self.now name.now × (object < 16)) }
         ensures stream { IfSome result (λ file. slice_get self.now file.stream ≡ Some name.now) }
         ensures object { IfSome result (λ file. file.object ≡ object) }
     {

@@ -3,7 +3,7 @@
 ghost use Rattle.std.specs.Prelude.{◌≡◌, ◌+◌, ◌<◌, ◌≤◌, ◌^◌, length};
 ghost use Rattle.cc_calls.specs.Answers.{CanCall};
 ghost use Rattle.cc_pieces.specs.Shim.{ToldWriteLeft, extensions, zeroings};
-ghost use Rattle.cc_shim.specs.Ends.{FirstLeft, ListEnds, WriteLeft};
+ghost use Rattle.cc_shim.specs.Ends.{FirstLeft, ListEnds, ExtendingWriteLeft};
 
 use cc_calls::{copy_write, file_state, set_file_sizes, zero_data};
 use cc_entry::{CcError, FileId, FileState, Span};
@@ -36,7 +36,7 @@ pub fn write<T: Turns>(
 ) -> Result<(), CcError>
     requires can { CanCall (T.standing turns.old) file.stream }
     ensures ends { ListEnds (T.standing turns.old) (T.standing turns.new)
-        (WriteLeft (T.standing turns.old).setup (T.standing turns.old).number file at piece.now) result }
+        (ExtendingWriteLeft (T.standing turns.old).setup (T.standing turns.old).number file at piece.now) result }
 {
     if piece.len() as u64 > PIECE {
         return Err(CcError::TooLong { limit: PIECE });

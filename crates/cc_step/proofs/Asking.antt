@@ -26,7 +26,7 @@ use Rattle.cc_model.specs.History.{history}
 use Rattle.cc_model.specs.Holds.{Hold, hold_at, changed_at, id_of, held_after, holds_of}
 use Rattle.cc_model.specs.Room.{owed_by_hold, owed_by_stream, reserved_in, owes_set_dirty, places_asked}
 use Rattle.cc_model.specs.Setup.{Setup}
-use Rattle.cc_own.specs.Own.{new_hold}
+use Rattle.cc_own.specs.Own.{hold_of_range}
 use Rattle.cc_own.proofs.DistinctIds.{ids-distinct}
 use Rattle.cc_own.proofs.OwnHolds.{served, served-range}
 use Rattle.cc_step.proofs.HoldSums.{owed-more, owed-changed, owed-ended}
@@ -115,15 +115,15 @@ stamped-owed : (hold : Hold) → owed_by_hold (record hold { owed = [] }) ≡ 1
 stamped-owed hold = rw (and-false (is_pin hold.kind)) refl
 
 asked-held : (u : Setup) (past : List Entry) (pass s id : ℕ) (it : Call) → is_stepped it ≡ true → IsGoodSoFar u past → IsFiled (holds_of (history past s)) pass (Some s) it (file_of it) → (sum_by owed_by_hold (held_after pass it id (holds_of (history past s))) + 1) + places_spared (holds_of (history past s)) it ≡ sum_by owed_by_hold (holds_of (history past s)) + asked_now past s it
-asked-held u past pass s id (call.Map file at len) stepped good filed = one-new _ _ (owed-more (new_hold id pass file at len kind.Map false []) (holds_of (history past s)) 1 refl)
-asked-held u past pass s id (call.PinRead file at len exclusive) stepped good filed = one-new _ _ (owed-more (new_hold id pass file at len kind.Pin exclusive []) (holds_of (history past s)) 1 refl)
-asked-held u past pass s id (call.PreparePin file at len true exclusive) stepped good filed = two-new _ _ (owed-more (new_hold id pass file at len kind.Pin exclusive (record { from = at; to = at + len } ∷ [])) (holds_of (history past s)) 2 refl)
-asked-held u past pass s id (call.PreparePin file at len false exclusive) stepped good filed = one-new _ _ (owed-more (new_hold id pass file at len kind.Pin exclusive []) (holds_of (history past s)) 1 refl)
-asked-held u past pass s id (call.MdlRead file at len) stepped good filed = one-new _ _ (owed-more (new_hold id pass file at len kind.ReadChain false []) (holds_of (history past s)) 1 refl)
-asked-held u past pass s id (call.MdlWrite file at len) stepped good filed = one-new _ _ (owed-more (new_hold id pass file at len kind.WriteChain false []) (holds_of (history past s)) 1 refl)
+asked-held u past pass s id (call.Map file at len) stepped good filed = one-new _ _ (owed-more (hold_of_range id pass file at len kind.Map false []) (holds_of (history past s)) 1 refl)
+asked-held u past pass s id (call.PinRead file at len exclusive) stepped good filed = one-new _ _ (owed-more (hold_of_range id pass file at len kind.Pin exclusive []) (holds_of (history past s)) 1 refl)
+asked-held u past pass s id (call.PreparePin file at len true exclusive) stepped good filed = two-new _ _ (owed-more (hold_of_range id pass file at len kind.Pin exclusive (record { from = at; to = at + len } ∷ [])) (holds_of (history past s)) 2 refl)
+asked-held u past pass s id (call.PreparePin file at len false exclusive) stepped good filed = one-new _ _ (owed-more (hold_of_range id pass file at len kind.Pin exclusive []) (holds_of (history past s)) 1 refl)
+asked-held u past pass s id (call.MdlRead file at len) stepped good filed = one-new _ _ (owed-more (hold_of_range id pass file at len kind.ReadChain false []) (holds_of (history past s)) 1 refl)
+asked-held u past pass s id (call.MdlWrite file at len) stepped good filed = one-new _ _ (owed-more (hold_of_range id pass file at len kind.WriteChain false []) (holds_of (history past s)) 1 refl)
 asked-held u past pass s id (call.Repin hold) stepped good filed =
     let has = served pass is_pin (hold_at (holds_of (history past s)) hold) filed in
-    rw has.1.0 (one-new _ _ (owed-more (new_hold id pass has.0.file has.0.at has.0.len kind.Repin false []) (holds_of (history past s)) 1 refl))
+    rw has.1.0 (one-new _ _ (owed-more (hold_of_range id pass has.0.file has.0.at has.0.len kind.Repin false []) (holds_of (history past s)) 1 refl))
 asked-held u past pass s id (call.PinMapped hold exclusive) stepped good filed =
     let holds = holds_of (history past s) in
     let has = served pass is_map (hold_at holds hold) filed in

@@ -16,7 +16,7 @@ use Rattle.cc_step.proofs.Admitted.{admitted}
 use Rattle.cc_step.proofs.Attempts.{reserving, adds-reserving}
 use Rattle.cc_step.proofs.Placed.{so-far}
 use Rattle.cc_step.specs.Step.{is_answered}
-use Rattle.cc_step.specs.Fill.{MayFill, page_of, MadeWay, HasToWrite}
+use Rattle.cc_step.specs.Fill.{MayFill, book_page, MadeWay, HasToWrite}
 use Rattle.cc_step.specs.Room.{IsCrowded, IsToGo, IsDirtyIn, IsLeastIn}
 use Rattle.cc_step.proofs.Below.{resident-numbered}
 use Rattle.cc_step.proofs.Going.{Goes, goes, in-the-way, goes-stamped, goes-numbered, some-least, goes-next, makes-way, goes-out}
@@ -28,7 +28,7 @@ module _ {Q : Type 0} (u : Setup) (pass : ℕ) (it : Call) (waited block : ℕ) 
   pub going : Goes (history j.entries b.stream) block
   going = goes (history j.entries b.stream) it waited block (needs u j.entries b.stream it waited crowded.waits) to_go
 
-  way : (p : ℕ) → block_of p ≡ block → is_in_the_way it (page_of b p) j.entries ≡ true
+  way : (p : ℕ) → block_of p ≡ block → is_in_the_way it (book_page b p) j.entries ≡ true
   way p here =
       in-the-way j.entries b.stream it waited block p (admitted u j.entries b.stream it crowded.waits.admitted) room (filed-of _ pass b.stream p it answered room may.may.filed)
       (full u j.entries b.stream waited (so-far u j.entries crowded.good) crowded.full) (needs u j.entries b.stream it waited crowded.waits) to_go here
@@ -57,18 +57,18 @@ module _ {Q : Type 0} (u : Setup) (pass : ℕ) (it : Call) (waited block : ℕ) 
     page-numbered = resident-numbered u j.entries b.stream page (so-far u j.entries crowded.good) least.1
 
     -- its least page may go out
-    pub good-going : IsGood u (entry.PageOut pass (page_of b page) ∷ j.entries)
+    pub good-going : IsGood u (entry.PageOut pass (book_page b page) ∷ j.entries)
     good-going = good-out u j.entries pass b.stream page crowded.good (goes-out (history j.entries b.stream) block page going may.no_transfer clean least)
 
-    pub made-way : (c : BookState) (k : JournalState Q) → Gains (entry.PageOut pass (page_of b page)) (reserving j) k → GoesOn j.entries k.entries b c → c.stream ≡ b.stream → MadeWay u pass it it b c j k
+    pub made-way : (c : BookState) (k : JournalState Q) → Gains (entry.PageOut pass (book_page b page)) (reserving j) k → GoesOn j.entries k.entries b c → c.stream ≡ b.stream → MadeWay u pass it it b c j k
     made-way c k placed goes_on same =
-        let adds = adds-reserving (entry.PageOut pass (page_of b page)) j k placed in
+        let adds = adds-reserving (entry.PageOut pass (book_page b page)) j k placed in
         record {
           call_is = refl;
           page = page;
           resident = least.1;
           next = makes-way j.entries b.stream it page (way page least.0) (goes-next (history j.entries b.stream) block page clean least);
           placed = adds;
-          stand = stand-onto u (entry.PageOut pass (page_of b page)) b c j k may.may.stand good-going (ap (λ x. x.entries) adds) (ap (λ x. x.logs) adds) (ap (λ x. x.threshold) adds) same (goes_on (u.opening b.stream) may.may.stand.stands);
+          stand = stand-onto u (entry.PageOut pass (book_page b page)) b c j k may.may.stand good-going (ap (λ x. x.entries) adds) (ap (λ x. x.logs) adds) (ap (λ x. x.threshold) adds) same (goes_on (u.opening b.stream) may.may.stand.stands);
           stream = same;
         }

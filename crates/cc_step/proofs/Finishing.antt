@@ -10,7 +10,7 @@ use Rattle.cc_book.specs.Book.{BookState, done}
 use Rattle.cc_journal.specs.Journal.{JournalState}
 use Rattle.cc_model.specs.Room.{reserved_in}
 use Rattle.cc_model.specs.Setup.{Setup}
-use Rattle.cc_step.specs.Step.{IsReadyFor, IsReadyWhenFull, MayStep, StepLeft, PlaceLeft}
+use Rattle.cc_step.specs.Step.{IsReadyFor, IsReadyWhenFull, MayStep, StepLeft, StepPlacingLeft}
 use Rattle.cc_step.specs.declared.steps.Stepped.{Stepped}
 use Rattle.cc_step.specs.declared.steps.Stepped.TheVariants as stepped
 
@@ -33,7 +33,7 @@ pub ready-full : (u : Setup) (past : List Entry) (s : ℕ) (it : Call) (e : CcEr
 ready-full u past s it (error.JournalFull entries) ready = ready
 ready-full u past s it other ready = tt
 
-pub placed-step : {Q : Type 0} (u : Setup) (pass more : ℕ) (it : Call) (r : Reply) (ended : Stepped) (b c : BookState) (j k : JournalState Q) → 0 < j.reserved → PlaceLeft u pass more it r ended b c (reserving-more more j) k → StepLeft u pass more it ended b c j k
+pub placed-step : {Q : Type 0} (u : Setup) (pass more : ℕ) (it : Call) (r : Reply) (ended : Stepped) (b c : BookState) (j k : JournalState Q) → 0 < j.reserved → StepPlacingLeft u pass more it r ended b c (reserving-more more j) k → StepLeft u pass more it ended b c j k
 placed-step u pass more it r stepped.Done b c j k some left = (
   r,
   record {

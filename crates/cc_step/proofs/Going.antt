@@ -10,7 +10,7 @@ use Rattle.cc_entry.specs.declared.call.Call.{Call}
 use Rattle.cc_entry.specs.declared.entry.Entry.{Entry}
 use Rattle.cc_content.proofs.Found.{Found-any, among-within}
 use Rattle.cc_content.proofs.Orders.{order_of_use-mapped}
-use Rattle.cc_effects.specs.Asked.{is_admitted, is_of, is_number, block_to_go, makes_room, goes_for, is_in_the_way, goes_next, makes_way}
+use Rattle.cc_effects.specs.Asked.{is_admitted, is_file_of_page, is_number, block_to_go, makes_room, goes_for, is_in_the_way, goes_next, makes_way}
 use Rattle.cc_images.proofs.Found.{found-passes}
 use Rattle.cc_laws.proofs.BlockLists.{is_among-filter}
 use Rattle.cc_laws.proofs.Lists1.{among-any}
@@ -50,10 +50,10 @@ goes h it page block n to_go = by (rw n.range_is at to_go)
         }
 
 -- so each of its pages is in the way of the call, where nothing refuses that
-pub in-the-way : (past : List Entry) (s : ℕ) (it : Call) (page block p : ℕ) → is_admitted it s past ≡ true → makes_room it ≡ true → is_of (file_of it) (record { stream = s; page = p }) ≡ true → IsFull (history past s) page → (n : Needs (history past s) it page) → IsToGo (history past s) (range_of (size_of (history past s)) it) block → block_of p ≡ block → is_in_the_way it (record { stream = s; page = p }) past ≡ true
+pub in-the-way : (past : List Entry) (s : ℕ) (it : Call) (page block p : ℕ) → is_admitted it s past ≡ true → makes_room it ≡ true → is_file_of_page (file_of it) (record { stream = s; page = p }) ≡ true → IsFull (history past s) page → (n : Needs (history past s) it page) → IsToGo (history past s) (range_of (size_of (history past s)) it) block → block_of p ≡ block → is_in_the_way it (record { stream = s; page = p }) past ≡ true
 in-the-way past s it page block p admitted room of is_full n to_go here =
     and_from (makes_room it) _ room
-    (and_from (is_of (file_of it) (record { stream = s; page = p })) _ of (and_from (is_admitted it s past) _ admitted (rw n.range_is by)))
+    (and_from (is_file_of_page (file_of it) (record { stream = s; page = p })) _ of (and_from (is_admitted it s past) _ admitted (rw n.range_is by)))
   where
     h : List Effect
     h = history past s

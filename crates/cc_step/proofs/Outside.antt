@@ -8,7 +8,7 @@ use Rattle.cc_entry.specs.Pages.{block_of, blocks_of, has_page, pages_of}
 use Rattle.cc_entry.specs.Place.{Range}
 use Rattle.cc_entry.specs.declared.call.Call.{Call}
 use Rattle.cc_entry.specs.declared.entry.Entry.{Entry}
-use Rattle.cc_effects.specs.Asked.{block_to_go, goes_for, is_admitted, is_in_the_way, is_number, is_of, makes_room}
+use Rattle.cc_effects.specs.Asked.{block_to_go, goes_for, is_admitted, is_in_the_way, is_number, is_file_of_page, makes_room}
 use Rattle.cc_holds.proofs.PagesOwed.{among-pages_of}
 use Rattle.cc_images.proofs.Found.{found-passes}
 use Rattle.cc_model.specs.Acts.{file_of}
@@ -54,7 +54,7 @@ outside h (Some r) page way = record {
 pub goes-for : (it : Call) (s page : ℕ) (past : List Entry) → is_in_the_way it (record { stream = s; page = page }) past ≡ true → goes_for (history past s) (range_of (size_of (history past s)) it) page ≡ true
 goes-for it s page past way =
     let goes : Bool = goes_for (history past s) (range_of (size_of (history past s)) it) page in
-    let of : Bool = is_of (file_of it) (record { stream = s; page = page }) in
+    let of : Bool = is_file_of_page (file_of it) (record { stream = s; page = page }) in
     let admitted : Bool = is_admitted it s past in
     (and_parts admitted goes (and_parts of (admitted && goes) (and_parts (makes_room it) (of && (admitted && goes)) way).1).1).1
 

@@ -6,7 +6,7 @@ use Rattle.cc_entry.specs.declared.call.Call.{Call}
 use Rattle.cc_entry.specs.declared.entry.Entry.{Entry}
 use Rattle.cc_entry.specs.declared.entry.Entry.TheVariants as entry
 use Rattle.cc_book.specs.Book.{BookState, BookStands}
-use Rattle.cc_effects.specs.Asked.{is_of, reaches}
+use Rattle.cc_effects.specs.Asked.{is_file_of_page, reaches}
 use Rattle.cc_journal.specs.Journal.{JournalState}
 use Rattle.cc_model.specs.Acts.{file_of}
 use Rattle.cc_model.specs.Allowed.{IsAllowed, IsAllowedSoFar, IsOwed, owed_begin}
@@ -20,7 +20,7 @@ use Rattle.cc_model.specs.Touches.{size_of}
 use Rattle.cc_step.proofs.Failing.{stepped-answered}
 use Rattle.cc_step.proofs.Placed.{so-far}
 use Rattle.cc_step.specs.Step.{StandUnder}
-use Rattle.cc_step.specs.Fill.{page_of}
+use Rattle.cc_step.specs.Fill.{book_page}
 use Rattle.cc_step.specs.Landing.{MayBring}
 use Rattle.cc_step.proofs.Found.{page-before}
 use Rattle.cc_step.proofs.Rooms.{room-within}
@@ -84,9 +84,9 @@ comes-in u pass it page b j may =
     below end size a c = omega arith
 
 -- and is one of the call's range
-pub is-reached : {Q : Type 0} (u : Setup) (pass : ℕ) (it : Call) (page : ℕ) (b : BookState) (j : JournalState Q) → MayBring u pass it page b j → reaches it (page_of b page) j.entries ≡ true
+pub is-reached : {Q : Type 0} (u : Setup) (pass : ℕ) (it : Call) (page : ℕ) (b : BookState) (j : JournalState Q) → MayBring u pass it page b j → reaches it (book_page b page) j.entries ≡ true
 is-reached u pass it page b j may =
     let n = needs u j.entries b.stream it page may.wanted.waits in
-    and_from (is_of (file_of it) (page_of b page)) _
+    and_from (is_file_of_page (file_of it) (book_page b page)) _
     (filed-of _ pass b.stream page it (stepped-answered it may.stepped) (brings-room it may.brings) may.may.may.filed)
     (rw n.range_is n.has)

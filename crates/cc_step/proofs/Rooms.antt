@@ -28,7 +28,7 @@ use Rattle.cc_model.specs.Numbers.{is_among}
 use Rattle.cc_model.specs.Ranges.{cut_range, range_of}
 use Rattle.cc_model.specs.Reasons.{is_open}
 use Rattle.cc_model.specs.Refusals.{refusal}
-use Rattle.cc_model.specs.Residency.{residents, block_is_mapped, mapped_blocks, mapped_blocks_with, order_of_use}
+use Rattle.cc_model.specs.Residency.{residents, block_is_mapped, mapped_block_count, mapped_blocks_with, order_of_use}
 use Rattle.cc_model.specs.Settings.{quota_of}
 use Rattle.cc_model.specs.Setup.{Setup}
 use Rattle.cc_model.specs.Touches.{size_of}
@@ -66,12 +66,12 @@ room-within u past s page good room = go (block_is_mapped h (block_of page)) ref
     h : List Effect
     h = history past s
 
-    within : mapped_blocks h ≤ quota_of h
+    within : mapped_block_count h ≤ quota_of h
     within = within_quota-good u past s good
 
-    go : (t : Bool) → block_is_mapped h (block_of page) ≡ t → (t || nat_lt (mapped_blocks h) (quota_of h)) ≡ true → mapped_blocks_with h page ≤ quota_of h
+    go : (t : Bool) → block_is_mapped h (block_of page) ≡ t → (t || nat_lt (mapped_block_count h) (quota_of h)) ≡ true → mapped_blocks_with h page ≤ quota_of h
     go true mapped has = rw (counted-there (block_of page) (map block_of (residents h)) (block-of-some (block_of page) (residents h) mapped)) within
-    go false unmapped fewer = fits (mapped_blocks_with h page) (mapped_blocks h) (quota_of h) (counted-more (block_of page) (map block_of (residents h))) (ltb-true (mapped_blocks h) (quota_of h) fewer)
+    go false unmapped fewer = fits (mapped_blocks_with h page) (mapped_block_count h) (quota_of h) (counted-more (block_of page) (map block_of (residents h))) (ltb-true (mapped_block_count h) (quota_of h) fewer)
       where
         fits : (with_it all quota : ℕ) → with_it ≤ suc all → all < quota → with_it ≤ quota
         fits with_it all quota a b = omega arith
@@ -79,13 +79,13 @@ room-within u past s page good room = go (block_is_mapped h (block_of page)) ref
 -- where there is none, as many blocks as the quota are mapped, and the page's is not
 pub record IsFull (h : List Effect) (page : ℕ) : Type 0 where
   pub unmapped : block_is_mapped h (block_of page) ≡ false
-  pub all_taken : mapped_blocks h ≡ quota_of h
+  pub all_taken : mapped_block_count h ≡ quota_of h
 
 pub full : (u : Setup) (past : List Entry) (s page : ℕ) → IsGoodSoFar u past → has_room (history past s) page ≡ false → IsFull (history past s) page
 full u past s page good none =
     let h = history past s in
-    let parts = or_parts (block_is_mapped h (block_of page)) (nat_lt (mapped_blocks h) (quota_of h)) none in
-    record { unmapped = parts.0; all_taken = even (mapped_blocks h) (quota_of h) (within_quota-good u past s good) (ltb-false (mapped_blocks h) (quota_of h) parts.1) }
+    let parts = or_parts (block_is_mapped h (block_of page)) (nat_lt (mapped_block_count h) (quota_of h)) none in
+    record { unmapped = parts.0; all_taken = even (mapped_block_count h) (quota_of h) (within_quota-good u past s good) (ltb-false (mapped_block_count h) (quota_of h) parts.1) }
   where
     even : (a b : ℕ) → a ≤ b → b ≤ a → a ≡ b
     even a b x y = omega arith
@@ -110,7 +110,7 @@ needed-within u past s it r answered room needing admitted is = go it answered r
 
 -- so one of the mapped blocks is none of these
 pub some-to-go : (u : Setup) (past : List Entry) (s : ℕ) (it : Call) (page : ℕ) → is_answered it ≡ true → makes_room it ≡ true → IsGood u past → IsGoodSoFar u past → IsWaiting u past s it page → has_room (history past s) page ≡ false → (n : Needs (history past s) it page) → block_to_go (history past s) n.range ≡ None → ⊥
-some-to-go u past s it page answered room good so_far waits none n none_to_go = over (length order) (mapped_blocks h) (quota_of h) _ _ counted is_full.all_taken whole few (needed-within u past s it n.range answered room n.needing waits.admitted n.range_is)
+some-to-go u past s it page answered room good so_far waits none n none_to_go = over (length order) (mapped_block_count h) (quota_of h) _ _ counted is_full.all_taken whole few (needed-within u past s it n.range answered room n.needing waits.admitted n.range_is)
   where
     h : List Effect
     h = history past s
@@ -124,7 +124,7 @@ some-to-go u past s it page answered room good so_far waits none n none_to_go = 
     is_full : IsFull h page
     is_full = full u past s page so_far none
 
-    counted : length order ≡ mapped_blocks h
+    counted : length order ≡ mapped_block_count h
     counted = let mapped = IsOrderOfMapped-legal u past s good.legal in length-mapped h order mapped.distinct mapped.mapped
 
     away : is_among b order ≡ false

@@ -10,7 +10,7 @@ use Rattle.cc_entry.specs.declared.call.Call.{Call}
 use Rattle.cc_entry.specs.declared.call.Call.TheVariants as call
 use Rattle.cc_entry.specs.declared.entry.Entry.{Entry}
 use Rattle.cc_entry.specs.declared.place.Request.{Request}
-use Rattle.cc_effects.specs.Asked.{is_of, brings_in, makes_room}
+use Rattle.cc_effects.specs.Asked.{is_file_of_page, brings_in, makes_room}
 use Rattle.cc_images.proofs.Found.{found-passes}
 use Rattle.cc_holds.proofs.PagesOwed.{among-pages_of}
 use Rattle.cc_laws.proofs.Lists1.{among-not_empty}
@@ -139,13 +139,13 @@ pub waiting-within : (u : Setup) (past : List Entry) (h : List Effect) (it : Cal
 waiting-within u past h it r answered room none is = range-within (size_of h) it r answered room (unrefused u past h it none).within_size is
 
 -- such a call is filed under the stream of its file
-pub filed-of : (holds : List Hold) (pass s page : ℕ) (it : Call) → is_answered it ≡ true → makes_room it ≡ true → IsFiled holds pass (Some s) it (file_of it) → is_of (file_of it) (record { stream = s; page = page }) ≡ true
+pub filed-of : (holds : List Hold) (pass s page : ℕ) (it : Call) → is_answered it ≡ true → makes_room it ≡ true → IsFiled holds pass (Some s) it (file_of it) → is_file_of_page (file_of it) (record { stream = s; page = page }) ≡ true
 filed-of holds pass s page it answered room filed = go it answered room filed
   where
     same : (t : ℕ) → Some s ≡ Some t → (t == s) ≡ true
     same t e = let equal : s ≡ t = cc in eq-eqb t s (sym equal)
 
-    go : (c : Call) → is_answered c ≡ true → makes_room c ≡ true → IsFiled holds pass (Some s) c (file_of c) → is_of (file_of c) (record { stream = s; page = page }) ≡ true
+    go : (c : Call) → is_answered c ≡ true → makes_room c ≡ true → IsFiled holds pass (Some s) c (file_of c) → is_file_of_page (file_of c) (record { stream = s; page = page }) ≡ true
     go (call.CopyRead file at len wait) answered room filed = same file.stream filed
     go (call.CopyWrite file at bytes) answered room filed = same file.stream filed
     go (call.Zero file span) answered room filed = same file.stream filed

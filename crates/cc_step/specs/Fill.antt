@@ -8,7 +8,7 @@ use Rattle.cc_entry.specs.declared.entry.Entry.{Entry}
 use Rattle.cc_entry.specs.declared.entry.Entry.TheVariants as entry
 use Rattle.cc_entry.specs.declared.error.NoMemory.{NoMemory}
 use Rattle.cc_entry.specs.declared.reply.Reply.{Reply}
-use Rattle.cc_book.specs.Book.{BookState, Gains, page_in}
+use Rattle.cc_book.specs.Book.{BookState, Gains, book_page_in}
 use Rattle.cc_content.specs.Filling.{IsReadFrom}
 use Rattle.cc_effects.specs.Asked.{is_admitted, reaches, is_in_the_way, makes_way}
 use Rattle.cc_effects.specs.Places.{is_on_disk_alone}
@@ -32,8 +32,8 @@ pub record MayFill {Q : Type 0} (u : Setup) (pass : ℕ) (it : Call) (b : BookSt
   pub no_transfer : open_of (history j.entries b.stream) ≡ None
 
 -- a page of a book's stream
-abbrev pub page_of : BookState → ℕ → Page
-page_of b page = record { stream = b.stream; page = page }
+abbrev pub book_page : BookState → ℕ → Page
+book_page b page = record { stream = b.stream; page = page }
 
 -- A page went out to make room for the call, the next of the block to give up.
 pub record MadeWay {Q : Type 0} (u : Setup) (pass : ℕ) (it again : Call)
@@ -41,8 +41,8 @@ pub record MadeWay {Q : Type 0} (u : Setup) (pass : ℕ) (it again : Call)
   pub call_is : again ≡ it
   pub page : ℕ
   pub resident : is_resident (history j.entries b.stream) page ≡ true
-  pub next : makes_way it (page_of b page) j.entries ≡ true
-  pub placed : Adds (entry.PageOut pass (page_of b page)) j k
+  pub next : makes_way it (book_page b page) j.entries ≡ true
+  pub placed : Adds (entry.PageOut pass (book_page b page)) j k
   pub stand : StandUnder u c k
   pub stream : c.stream ≡ b.stream
 
@@ -53,7 +53,7 @@ pub record HasToWrite {Q : Type 0} (u : Setup) (page : ℕ) (it again : Call)
   pub call_is : again ≡ it
   pub admitted : refusal u j.entries (history j.entries b.stream) it ≡ None
   pub needing : IsNeeding (history j.entries b.stream) it
-  pub in_the_way : is_in_the_way it (page_of b page) j.entries ≡ true
+  pub in_the_way : is_in_the_way it (book_page b page) j.entries ≡ true
   pub dirty : is_dirty (history j.entries b.stream) page ≡ true
   pub stamped : is_unstamped (history j.entries b.stream) page ≡ false
   pub same_book : c ≡ b
@@ -90,16 +90,16 @@ MakesWay (next.Reads page again) = ⊥
 MakesWay (next.Stopped e) = Unit {0}
 
 -- What was read of a page, where it was read, is what its stream's disk has of it, if the page is not resident.
-abbrev pub IsRead : Setup → List Entry → ℕ → ℕ → Option (List ℕ) → Type 0
-IsRead u past s page None = Unit {0}
-IsRead u past s page (Some bytes) =
+abbrev pub PageIsRead : Setup → List Entry → ℕ → ℕ → Option (List ℕ) → Type 0
+PageIsRead u past s page None = Unit {0}
+PageIsRead u past s page (Some bytes) =
     is_resident (history past s) page ≡ false → IsReadFrom (u.opening s) (history past s) page bytes
 
 -- What a pass asks of a book on which a page that was looked for is to land.
 pub record MayLand {Q : Type 0} (u : Setup) (pass : ℕ) (it : Call) (page : ℕ) (raw : Option (List ℕ)) (b : BookState)
     (j : JournalState Q) : Type 0 where
   pub may : MayFill u pass it b j
-  pub read : IsRead u j.entries b.stream page raw
+  pub read : PageIsRead u j.entries b.stream page raw
 
 -- one place that was reserved is given back
 abbrev pub GivesBack : {Q : Type 0} → JournalState Q → JournalState Q → Type 0
@@ -110,8 +110,8 @@ pub record Landed {Q : Type 0} (u : Setup) (pass : ℕ) (it : Call) (page : ℕ)
     (b c : BookState) (j k : JournalState Q) : Type 0 where
   pub admitted : is_admitted it b.stream j.entries ≡ true
   pub awaited : is_awaited u j.entries b.stream it page ≡ true
-  pub reached : reaches it (page_of b page) j.entries ≡ true
-  pub placed : Gains (page_in pass (page_of b page) b) j k
+  pub reached : reaches it (book_page b page) j.entries ≡ true
+  pub placed : Gains (book_page_in pass (book_page b page) b) j k
   pub stand : StandUnder u c k
   pub stream : c.stream ≡ b.stream
 
@@ -150,13 +150,13 @@ LandLeft u pass it page raw (Err e) b c j k = FoundNoRoom u b c j k
 
 -- the entry says that the disk failed to read the page, which is on the disk alone
 pub record ToldUnread {Q : Type 0} (u : Setup) (pass page : ℕ) (b : BookState) (j k : JournalState Q) : Type 0 where
-  pub on_disk : is_on_disk_alone (page_of b page) j.entries ≡ true
-  pub placed : Gains (entry.FillFailed pass (page_of b page)) j k
+  pub on_disk : is_on_disk_alone (book_page b page) j.entries ≡ true
+  pub placed : Gains (entry.FillFailed pass (book_page b page)) j k
   pub stand : StandUnder u b k
 
 -- the page is not on the disk alone any more, and nothing was placed
 pub record NotUnread {Q : Type 0} (page : ℕ) (b : BookState) (j k : JournalState Q) : Type 0 where
-  pub not_on_disk : is_on_disk_alone (page_of b page) j.entries ≡ false
+  pub not_on_disk : is_on_disk_alone (book_page b page) j.entries ≡ false
   pub given_back : GivesBack j k
 
 -- What a page that the disk failed to read leaves, by whether its entry was placed.

@@ -11,7 +11,7 @@ use Rattle.cc_effects.specs.Asked.{block_to_go}
 use Rattle.cc_model.specs.Good.{IsGood}
 use Rattle.cc_model.specs.History.{Effect, history}
 use Rattle.cc_model.specs.Refusals.{refusal}
-use Rattle.cc_model.specs.Residency.{is_resident, block_is_mapped, mapped_blocks}
+use Rattle.cc_model.specs.Residency.{is_resident, block_is_mapped, mapped_block_count}
 use Rattle.cc_model.specs.Settings.{quota_of}
 use Rattle.cc_model.specs.Setup.{Setup}
 use Rattle.cc_model.specs.Touches.{is_dirty}
@@ -19,7 +19,7 @@ use Rattle.cc_step.specs.Step.{least_absent, needed_range}
 
 -- whether the block of a page is mapped, or fewer blocks than the quota are
 abbrev pub has_room : List Effect → ℕ → Bool
-has_room h page = block_is_mapped h (block_of page) || nat_lt (mapped_blocks h) (quota_of h)
+has_room h page = block_is_mapped h (block_of page) || nat_lt (mapped_block_count h) (quota_of h)
 
 -- A call waits for a page: nothing refuses it, and this is the least that it needs and that is not resident.
 pub record IsWaiting (u : Setup) (past : List Entry) (s : ℕ) (it : Call) (page : ℕ) : Type 0 where

@@ -87,20 +87,20 @@ abbrev pub GainsWith : {Q : Type 0} → ℕ → Entry → JournalState Q → Jou
 GainsWith more e j k = k ≡ record j { entries = e ∷ j.entries; reserved = (j.reserved - 1) + more; rows = k.rows }
 
 -- the call was done, and what it answered stands in its entry
-pub record IsDone {Q : Type 0} (u : Setup) (pass more : ℕ) (it : Call) (r : Reply) (b c : BookState) (j k : JournalState Q) : Type 0 where
+pub record StepIsDone {Q : Type 0} (u : Setup) (pass more : ℕ) (it : Call) (r : Reply) (b c : BookState) (j k : JournalState Q) : Type 0 where
   pub placed : GainsWith more (done pass j.entries b.stream it r) j k
   pub stand : StandUnder u c k
   pub stream : c.stream ≡ b.stream
 
 -- the call was refused, by the first reason that holds, and its entry says so
-pub record IsRefused {Q : Type 0} (u : Setup) (pass : ℕ) (it : Call) (e : CcError) (b c : BookState) (j k : JournalState Q) : Type 0 where
+pub record StepIsRefused {Q : Type 0} (u : Setup) (pass : ℕ) (it : Call) (e : CcError) (b c : BookState) (j k : JournalState Q) : Type 0 where
   pub reason : refusal u j.entries (history j.entries b.stream) it ≡ Some e
   pub placed : Gains (failed pass j.entries b.stream it e) j k
   pub stand : StandUnder u c k
   pub same : c ≡ b
 
 -- the call waits for a page, the least that it needs and that is not resident; nothing refuses it, and nothing changed
-pub record Waits {Q : Type 0} (u : Setup) (page : ℕ) (it again : Call) (b c : BookState) (j k : JournalState Q) : Type 0 where
+pub record StepWaits {Q : Type 0} (u : Setup) (page : ℕ) (it again : Call) (b c : BookState) (j k : JournalState Q) : Type 0 where
   pub admitted : refusal u j.entries (history j.entries b.stream) it ≡ None
   pub least : least_absent (history j.entries b.stream) (needed_range (history j.entries b.stream) it) ≡ Some page
   pub call_is : again ≡ it
@@ -119,13 +119,13 @@ IsWantOf more e j = ((e ≡ error.JournalFull (length j.entries)) × (room_of j 
 
 -- What the placing of a done call's entry leaves, for which so many more places are reserved: they stay with it, or are
 -- given back where there is no memory.
-abbrev pub PlaceLeft : {Q : Type 0} → Setup → ℕ → ℕ → Call → Reply → Stepped
+abbrev pub StepPlacingLeft : {Q : Type 0} → Setup → ℕ → ℕ → Call → Reply → Stepped
     → BookState → BookState → JournalState Q → JournalState Q → Type 0
-PlaceLeft u pass more it r stepped.Done b c j k =
+StepPlacingLeft u pass more it r stepped.Done b c j k =
     Gains (done pass j.entries b.stream it r) j k × StandUnder u c k × (c.stream ≡ b.stream)
-PlaceLeft u pass more it r (stepped.Stopped e) b c j k =
+StepPlacingLeft u pass more it r (stepped.Stopped e) b c j k =
     (e ≡ error.NoMemory) × (k ≡ record j { reserved = j.reserved - more }) × StandUnder u c k × (c.stream ≡ b.stream)
-PlaceLeft u pass more it r other b c j k = ⊥
+StepPlacingLeft u pass more it r other b c j k = ⊥
 
 -- A call that finds the journal full is to be done: nothing refuses it, and each page that it needs is resident.
 abbrev pub IsReadyWhenFull : Setup → List Entry → ℕ → Call → CcError → Type 0
@@ -134,9 +134,9 @@ IsReadyWhenFull u past s it other = Unit {0}
 
 -- What the step of a call leaves, that reserves so many more places where it is done, by cases over how it ended.
 abbrev pub StepLeft : {Q : Type 0} → Setup → ℕ → ℕ → Call → Stepped → BookState → BookState → JournalState Q → JournalState Q → Type 0
-StepLeft u pass more it stepped.Done b c j k = (r : Reply) × IsDone u pass more it r b c j k
-StepLeft u pass more it (stepped.Refused e) b c j k = IsRefused u pass it e b c j k
-StepLeft u pass more it (stepped.Waits page again) b c j k = Waits u page it again b c j k
+StepLeft u pass more it stepped.Done b c j k = (r : Reply) × StepIsDone u pass more it r b c j k
+StepLeft u pass more it (stepped.Refused e) b c j k = StepIsRefused u pass it e b c j k
+StepLeft u pass more it (stepped.Waits page again) b c j k = StepWaits u page it again b c j k
 StepLeft u pass more it (stepped.Stopped e) b c j k =
     IsWantOf more e j × FoundNone u b c j k × IsReadyWhenFull u j.entries b.stream it e
 
@@ -208,7 +208,7 @@ IsShort u s it e j = (room_of j < 1) ⊎ IsReadyWhenFull u j.entries s it e
 abbrev pub AttemptLeft : {Q : Type 0} → Setup → ℕ → Call → Stepped → BookState → BookState → JournalState Q → JournalState Q → Type 0
 AttemptLeft u pass it stepped.Done b c j k = (r : Reply) × AttemptDone u pass it r b c j k
 AttemptLeft u pass it (stepped.Refused e) b c j k = AttemptRefused u pass it e b c j k
-AttemptLeft u pass it (stepped.Waits page again) b c j k = Waits u page it again b c j k
+AttemptLeft u pass it (stepped.Waits page again) b c j k = StepWaits u page it again b c j k
 AttemptLeft u pass it (stepped.Stopped e) b c j k =
     IsStop (asked_now j.entries b.stream it) e j × FoundNone u b c j k × IsShort u b.stream it e j
 

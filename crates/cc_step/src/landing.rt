@@ -11,7 +11,7 @@ ghost use Rattle.cc_effects.specs.Places.{is_on_disk_alone};
 ghost use Rattle.cc_model.specs.History.{history};
 ghost use Rattle.cc_model.specs.Setup.{Setup};
 ghost use Rattle.cc_step.specs.Step.{is_stepped, StandUnder};
-ghost use Rattle.cc_step.specs.Fill.{page_of, IsRead, MayLand, BringLeft, LandLeft, UnreadLeft};
+ghost use Rattle.cc_step.specs.Fill.{book_page, PageIsRead, MayLand, BringLeft, LandLeft, UnreadLeft};
 ghost use Rattle.cc_step.specs.Landing.{is_wanted, MayBring};
 
 use crate::room::{has_room, has_valid_byte, page_id};
@@ -27,7 +27,7 @@ use std::alloc::Global;
 /// `raw` is what was read of it; `None` where it had no byte below the valid data length.
 ///
 /// `NoMemory`, and then the place is given back.
-pub fn land<Q>(
+pub fn land_on_book<Q>(
     alloc: Global,
     book: &mut Book,
     journal: &mut Journal<Q>,
@@ -80,7 +80,7 @@ pub fn unread<Q>(book: &Book, journal: &mut Journal<Q>, pass: u32, page: u64) ->
 // Whether a page is not resident and has a byte below the valid data length.
 fn is_on_disk_alone(book: &Book, page: u64) -> bool
     ensures { (opening : Option (ℕ → List ℕ)) (past : List Entry) → BookStands opening past book.now →
-        result ≡ is_on_disk_alone (page_of book.now page) past }
+        result ≡ is_on_disk_alone (book_page book.now page) past }
 {
     book.page(page).is_none() && has_valid_byte(book, page)
 }
@@ -113,7 +113,7 @@ fn place<Q>(
     requires numbered { page < 2 ^ 51 }
     requires may { (u : Setup) × (it : Call) × MayBring u pass it page book.old journal.old }
     ensures { (u : Setup) (it : Call) → MayBring u pass it page book.old journal.old →
-        IsRead u journal.old.entries book.old.stream page (option_copied raw.entry) →
+        PageIsRead u journal.old.entries book.old.stream page (option_copied raw.entry) →
         LandLeft u pass it page (option_copied raw.entry) result book.old book.new journal.old journal.new }
 {
     match raw {

@@ -28,7 +28,7 @@ mod ways;
 
 pub use faults::{Failed, fail};
 pub use filling::{make_room, next};
-pub use landing::{land, unread};
+pub use landing::{land_on_book, unread};
 pub use replies::reply;
 pub use room::has_room;
 pub use steps::{Stepped, absent, attempt, places_asked, places_spared, waits_for};

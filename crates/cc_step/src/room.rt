@@ -10,7 +10,7 @@ ghost use Rattle.cc_model.specs.Setup.{Setup};
 ghost use Rattle.cc_model.specs.Sizes.{stored_range};
 ghost use Rattle.cc_model.specs.Touches.{size_of, valid_of};
 ghost use Rattle.cc_step.specs.Step.{is_answered};
-ghost use Rattle.cc_step.specs.Fill.{page_of};
+ghost use Rattle.cc_step.specs.Fill.{book_page};
 ghost use Rattle.cc_step.specs.Room.{has_room, IsWaiting, IsCrowded, IsToGo, IsDirtyIn, IsLeastIn};
 
 use cc_book::Book;
@@ -21,7 +21,7 @@ use std::alloc::Global;
 /// A page of a book's stream.
 pub(crate) fn page_id(book: &Book, page: u64) -> PageId
     requires { page < 2 ^ 51 }
-    ensures { result ≡ page_of book.now page }
+    ensures { result ≡ book_page book.now page }
 {
     PageId::new(book.stream(), page).unwrap()
 }

@@ -10,7 +10,7 @@ ghost use Rattle.cc_model.specs.Refusals.{refusal};
 ghost use Rattle.cc_model.specs.Setup.{Setup};
 ghost use Rattle.cc_model.specs.Touches.{size_of};
 ghost use Rattle.cc_book.specs.Book.{BookStands};
-ghost use Rattle.cc_step.specs.Step.{is_stepped, asked_now, places_spared, StandUnder, MayStep, IsReadyFor, IsReplyOf, StepLeft, PlaceLeft, AttemptLeft, has_placed, least_absent, needed_range, awaited};
+ghost use Rattle.cc_step.specs.Step.{is_stepped, asked_now, places_spared, StandUnder, MayStep, IsReadyFor, IsReplyOf, StepLeft, StepPlacingLeft, AttemptLeft, has_placed, least_absent, needed_range, awaited};
 
 use crate::replies::reply;
 use cc_book::Book;
@@ -241,7 +241,7 @@ fn place<Q>(
     ensures { (u : Setup) → MayStep u pass call book.old journal.old →
         IsReadyFor u journal.old.entries book.old.stream call →
         IsReplyOf u journal.old.entries book.old.stream pass call answer →
-        PlaceLeft u pass more call answer result book.old book.new journal.old journal.new }
+        StepPlacingLeft u pass more call answer result book.old book.new journal.old journal.new }
 {
     match book.done(alloc, journal, pass, call, answer) {
         Ok(()) => Stepped::Done,

@@ -9,7 +9,7 @@ use Rattle.cc_format.specs.Spelling.{IsReadAs}
 use Rattle.cc_format.specs.declared.record.StreamRecord.{StreamRecord}
 use Rattle.cc_redo.specs.Disks.{record_number}
 use Rattle.cc_redo.specs.declared.redo.Redo.{Redo}
-use Rattle.cc_restarts.specs.Given.{AreSizes, GivenOf, GivenTo, GivenWith, IsRedoOf, is_restarted, size_said, valid_said}
+use Rattle.cc_restarts.specs.Given.{AreRestartSizes, GivenOf, GivenTo, GivenWith, IsRedoOf, is_restarted, size_said, valid_said}
 use Rattle.cc_script.specs.declared.script.StreamLine.{StreamLine}
 use Rattle.cc_traits.specs.Disk.{Disk, page_of}
 use Rattle.cc_traits.specs.Told.{IfTold}
@@ -32,7 +32,7 @@ pub names-same : (disk : Disk) (one other : StreamLine) (read : Option StreamRec
 names-same disk one other None again reads = let same = again reads in (same.size, same.valid)
 names-same disk one other (Some told) again reads = (refl, refl)
 
-pub same-sizes : (one other : StreamLine) (read : Option StreamRecord) → SameSaid one other read → AreSizes one read → AreSizes other read
+pub same-sizes : (one other : StreamLine) (read : Option StreamRecord) → SameSaid one other read → AreRestartSizes one read → AreRestartSizes other read
 same-sizes one other read same sizes =
     let size = same.0 in
     let valid = same.1 in
@@ -40,7 +40,7 @@ same-sizes one other read same sizes =
     let fits = sizes.in_range in
     record { within = omega (arith, size, valid, within); in_range = omega (arith, size, fits) }
 
-pub same-redo : (s : ℕ) (one other : StreamLine) (read : Option StreamRecord) (redo : Redo) → SameSaid one other read → AreSizes one read → IsRedoOf s other read redo → IsRedoOf s one read redo
+pub same-redo : (s : ℕ) (one other : StreamLine) (read : Option StreamRecord) (redo : Redo) → SameSaid one other read → AreRestartSizes one read → IsRedoOf s other read redo → IsRedoOf s one read redo
 same-redo s one other read redo same sizes is = record {
   stream_is = is.stream_is;
   disk_is = is.disk_is;
@@ -63,9 +63,9 @@ get-behind (x ∷ xs) ys n = ap (λ (k : ℕ). slice_get (x ∷ (xs ++ ys)) k) (
 pub record IsAmongGiven (t : Disk) (s : ℕ) (stream : StreamLine) (given : List Redo) : Type 0 where
   pub read : Option StreamRecord
   pub spelled : IsReadAs (page_of t record_number) read
-  pub found : AreSizes stream read → (i : ℕ) × (redo : Redo) × (slice_get given i ≡ Some redo) × IsRedoOf s stream read redo
+  pub found : AreRestartSizes stream read → (i : ℕ) × (redo : Redo) × (slice_get given i ≡ Some redo) × IsRedoOf s stream read redo
 
-one-given : (t : Disk) (s : ℕ) (stream : StreamLine) (read : Option StreamRecord) (one more given : List Redo) → given ≡ one ++ more → GivenWith s stream read one → AreSizes stream read →
+one-given : (t : Disk) (s : ℕ) (stream : StreamLine) (read : Option StreamRecord) (one more given : List Redo) → given ≡ one ++ more → GivenWith s stream read one → AreRestartSizes stream read →
     (i : ℕ) × (redo : Redo) × (slice_get given i ≡ Some redo) × IsRedoOf s stream read redo
 one-given t s stream read [] more given is with sizes = absurd (with sizes)
 one-given t s stream read (redo ∷ []) more given is with sizes = (0, redo, ap (λ (l : List Redo). slice_get l 0) is, with)

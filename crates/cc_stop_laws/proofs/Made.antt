@@ -12,17 +12,17 @@ use Rattle.cc_format.specs.declared.record.StreamRecord.TheVariants.{V2}
 use Rattle.cc_model.specs.Records.{little_endian, record_page}
 use Rattle.cc_redo.proofs.Patches.{length-after}
 use Rattle.cc_redo.specs.Changes.{byte_after, page_after}
-use Rattle.cc_redo.specs.Disks.{IsBetween, IsMade, Was, changed_page, record_number}
-use Rattle.cc_redo.specs.Ends.{made_from}
-use Rattle.cc_redo.specs.Heard.{Change, from_of, is_given, readings, redone_of, valid_behind, valid_of}
+use Rattle.cc_redo.specs.Disks.{IsBetween, DiskIsMade, Was, changed_page, record_number}
+use Rattle.cc_redo.specs.Ends.{made_by_log}
+use Rattle.cc_redo.specs.Heard.{Change, from_of, is_given, readings, redone_of, valid_behind, redone_valid}
 use Rattle.cc_redo.specs.declared.redo.Redo.{Redo}
 use Rattle.cc_restart_laws.proofs.Again.{after-least, made-data, made-file, once-more, valid-more}
 use Rattle.cc_restart_laws.proofs.Ends.{page-byte}
 use Rattle.cc_restart_laws.proofs.Raised.{behind-same, from-same, makes-same, redone-same, updates-same}
 use Rattle.cc_restart_laws.proofs.Redoing.{contains-any, valid-same, valid-within}
 use Rattle.cc_restart_laws.proofs.Told.{read-once}
-use Rattle.cc_restart_laws.specs.Stops.{MakesFile, file_byte, updated_byte, updates_in, valid_after}
-use Rattle.cc_restarts.specs.Given.{AreSizes, IsRedoOf, size_said, valid_said}
+use Rattle.cc_restart_laws.specs.Stops.{MakesFile, file_byte, updated_byte, updates_in, valid_after_changes}
+use Rattle.cc_restarts.specs.Given.{AreRestartSizes, IsRedoOf, size_said, valid_said}
 use Rattle.cc_script.specs.declared.script.StreamLine.{StreamLine}
 use Rattle.cc_traits.specs.Disk.{Disk, may_of, page_of}
 use Rattle.cc_traits.specs.Log.{LogEntry}
@@ -47,16 +47,16 @@ record-long size valid =
     let rest = length-replicate {A = ℕ} 4072 0 in
     omega (arith, two, sized, told, version, first, second, rest)
 
-made-long : (streams : List Redo) (kept : List LogEntry) (redo : Redo) (old : Disk) (p : ℕ) → length (page_of old p) ≡ 4096 → length (made_from streams (readings kept) redo old p) ≡ 4096
+made-long : (streams : List Redo) (kept : List LogEntry) (redo : Redo) (old : Disk) (p : ℕ) → length (page_of old p) ≡ 4096 → length (made_by_log streams (readings kept) redo old p) ≡ 4096
 made-long streams kept redo old p long = go (record_number == p)
   where
-    go : (b : Bool) → length (if b then record_page redo.size (valid_of (readings kept) redo) else changed_page (redone_of redo (from_of streams (readings kept)) (readings kept)) old p) ≡ 4096
-    go true = record-long redo.size (valid_of (readings kept) redo)
+    go : (b : Bool) → length (if b then record_page redo.size (redone_valid (readings kept) redo) else changed_page (redone_of redo (from_of streams (readings kept)) (readings kept)) old p) ≡ 4096
+    go true = record-long redo.size (redone_valid (readings kept) redo)
     go false = length-after (redone_of redo (from_of streams (readings kept)) (readings kept)) p 0 (page_of old p) ∙ long
 
-made-record : (streams : List Redo) (kept : List LogEntry) (redo : Redo) (old : Disk) → made_from streams (readings kept) redo old record_number ≡ record_page redo.size (valid_of (readings kept) redo)
+made-record : (streams : List Redo) (kept : List LogEntry) (redo : Redo) (old : Disk) → made_by_log streams (readings kept) redo old record_number ≡ record_page redo.size (redone_valid (readings kept) redo)
 made-record streams kept redo old =
-    pick (record_number == record_number) (record_page redo.size (valid_of (readings kept) redo)) (changed_page (redone_of redo (from_of streams (readings kept)) (readings kept)) old record_number) (eq-eqb record_number record_number refl)
+    pick (record_number == record_number) (record_page redo.size (redone_valid (readings kept) redo)) (changed_page (redone_of redo (from_of streams (readings kept)) (readings kept)) old record_number) (eq-eqb record_number record_number refl)
   where
     pick : (b : Bool) (x y : List ℕ) → b ≡ true → (if b then x else y) ≡ x
     pick true x y is = refl
@@ -67,7 +67,7 @@ made-record streams kept redo old =
 module _ (streams given : List Redo) (kept : List LogEntry) (redo : Redo) (pages : ℕ → List ℕ) (first page : ℕ) (old : List ℕ) (long : length old ≡ 4096) (makes : MakesFile streams kept redo pages first page old)
     (made : MakesFile given kept redo pages first page old) where
   remade : MakesFile streams kept redo pages first page (page_after (redone_of redo (from_of given (readings kept)) (readings kept)) page old)
-  remade i at = go (nat_lt i (valid_of (readings kept) redo)) refl
+  remade i at = go (nat_lt i (redone_valid (readings kept) redo)) refl
     where
       mine : List Change
       mine = redone_of redo (from_of streams (readings kept)) (readings kept)
@@ -89,11 +89,11 @@ module _ (streams given : List Redo) (kept : List LogEntry) (redo : Redo) (pages
       past false x y is = refl
       past true x y is = absurd (cc is)
 
-      by-mine : nat_lt i (valid_of (readings kept) redo) ≡ true → slice_index (page_after mine (i / 4096) old) (i % 4096) ≡ file
-      by-mine is = chosen (nat_lt i (valid_of (readings kept) redo)) _ _ is (makes i at)
+      by-mine : nat_lt i (redone_valid (readings kept) redo) ≡ true → slice_index (page_after mine (i / 4096) old) (i % 4096) ≡ file
+      by-mine is = chosen (nat_lt i (redone_valid (readings kept) redo)) _ _ is (makes i at)
 
-      by-its : nat_lt i (valid_of (readings kept) redo) ≡ true → slice_index (page_after its (i / 4096) old) (i % 4096) ≡ file
-      by-its is = chosen (nat_lt i (valid_of (readings kept) redo)) _ _ is (made i at)
+      by-its : nat_lt i (redone_valid (readings kept) redo) ≡ true → slice_index (page_after its (i / 4096) old) (i % 4096) ≡ file
+      by-its is = chosen (nat_lt i (redone_valid (readings kept) redo)) _ _ is (made i at)
 
       none : (n : ℕ) → 0 + n ≡ n
       none n = omega arith
@@ -107,7 +107,7 @@ module _ (streams given : List Redo) (kept : List LogEntry) (redo : Redo) (pages
       after-mine : length (page_after mine (i / 4096) old) ≡ 4096
       after-mine = length-after mine (i / 4096) 0 old ∙ long
 
-      twice : nat_lt i (valid_of (readings kept) redo) ≡ true → slice_index (page_after mine (i / 4096) (page_after its (i / 4096) old)) (i % 4096) ≡ file
+      twice : nat_lt i (redone_valid (readings kept) redo) ≡ true → slice_index (page_after mine (i / 4096) (page_after its (i / 4096) old)) (i % 4096) ≡ file
       twice is =
           byte (page_after its (i / 4096) old) after-its
           ∙ (ap (byte_after mine (i / 4096) (i % 4096)) (by-its is ∙ sym (by-mine is))
@@ -117,25 +117,25 @@ module _ (streams given : List Redo) (kept : List LogEntry) (redo : Redo) (pages
       moved : page_after its page old ≡ page_after its (i / 4096) old
       moved = ap (λ (q : ℕ). page_after its q old) (sym at)
 
-      go : (b : Bool) → nat_lt i (valid_of (readings kept) redo) ≡ b →
-          (if nat_lt i (valid_of (readings kept) redo) then slice_index (page_after mine (i / 4096) (page_after its page old)) (i % 4096) else 0) ≡ file
+      go : (b : Bool) → nat_lt i (redone_valid (readings kept) redo) ≡ b →
+          (if nat_lt i (redone_valid (readings kept) redo) then slice_index (page_after mine (i / 4096) (page_after its page old)) (i % 4096) else 0) ≡ file
       go true is =
-          chosen-back (nat_lt i (valid_of (readings kept) redo)) _ _ is (ap (λ (l : List ℕ). slice_index (page_after mine (i / 4096) l) (i % 4096)) moved ∙ twice is)
+          chosen-back (nat_lt i (redone_valid (readings kept) redo)) _ _ is (ap (λ (l : List ℕ). slice_index (page_after mine (i / 4096) l) (i % 4096)) moved ∙ twice is)
         where
           chosen-back : (b : Bool) (x y : ℕ) → b ≡ true → x ≡ y → (if b then x else 0) ≡ y
           chosen-back true x y is same = same
           chosen-back false x y is same = absurd (cc is)
-      go false is = past (nat_lt i (valid_of (readings kept) redo)) _ _ is ∙ makes i at
+      go false is = past (nat_lt i (redone_valid (readings kept) redo)) _ _ is ∙ makes i at
 
 -- it is made with equal numbers too
 makes-equal : (streams : List Redo) (kept : List LogEntry) (redo later : Redo) (pages : ℕ → List ℕ) (first page : ℕ) (bytes : List ℕ) → later.stream ≡ redo.stream → later.size ≡ redo.size → later.valid ≡ redo.valid →
     MakesFile streams kept redo pages first page bytes → MakesFile streams kept later pages first page bytes
 makes-equal streams kept redo later pages first page bytes stream size valid makes = λ i at.
     ap (λ (v : ℕ). if nat_lt i v then slice_index (page_after (redone_of later (from_of streams (readings kept)) (readings kept)) (i / 4096) bytes) (i % 4096) else 0) reached
-    ∙ (ap (λ (l : List Change). if nat_lt i (valid_of (readings kept) redo) then slice_index (page_after l (i / 4096) bytes) (i % 4096) else 0) changes
+    ∙ (ap (λ (l : List Change). if nat_lt i (redone_valid (readings kept) redo) then slice_index (page_after l (i / 4096) bytes) (i % 4096) else 0) changes
     ∙ (makes i at ∙ sym (ap (λ (l : List Change). updated_byte pages first l i) (updates-same redo later stream size kept))))
   where
-    reached : valid_of (readings kept) later ≡ valid_of (readings kept) redo
+    reached : redone_valid (readings kept) later ≡ redone_valid (readings kept) redo
     reached = behind-same redo later stream size kept later.valid ∙ ap (λ (v : ℕ). valid_behind (readings kept) redo v) valid
 
     changes : redone_of later (from_of streams (readings kept)) (readings kept) ≡ redone_of redo (from_of streams (readings kept)) (readings kept)
@@ -162,7 +162,7 @@ contains-first x xs = (0, omega arith, refl)
 
 module _ (s size first : ℕ) (stream : StreamLine) (kept : List LogEntry) (pages : ℕ → List ℕ) (left handed : Disk) (redoable : IsRedoable s stream size kept pages first left) (handed_on : IsHandedOn left handed)
     (given : List Redo) (read : Option StreamRecord) (redo : Redo) (spelled : IsReadAs (page_of handed record_number) read) (of_it : IsRedoOf s stream read redo) (contains : Contains given redo) where
-  numbers : AreSizes stream read × (size_said stream read ≡ size) × (first ≤ valid_said stream read)
+  numbers : AreRestartSizes stream read × (size_said stream read ≡ size) × (first ≤ valid_said stream read)
   numbers = redoable.sizes (page_of handed record_number) read (handed_on.among record_number) spelled
 
   size-is : redo.size ≡ size
@@ -176,7 +176,7 @@ module _ (s size first : ℕ) (stream : StreamLine) (kept : List LogEntry) (page
   makes-handed streams among p below = redoable.makes (page_of handed record_number) read (handed_on.among record_number) spelled streams redo of_it among p (page_of handed p) below (handed_on.among p)
 
   abbrev pub reached : ℕ
-  reached = valid_of (readings kept) redo
+  reached = redone_valid (readings kept) redo
 
   reached-within : reached ≤ redo.size
   reached-within = valid-within redo kept redo.valid redo.within
@@ -193,10 +193,10 @@ module _ (s size first : ℕ) (stream : StreamLine) (kept : List LogEntry) (page
   told-greatest line given_is = record {
     read = read;
     reads = spelled;
-    greatest = sym (valid-same redo kept redo.valid) ∙ ap (valid_after (updates_in redo kept)) given_is;
+    greatest = sym (valid-same redo kept redo.valid) ∙ ap (valid_after_changes (updates_in redo kept)) given_is;
   }
 
-  pub file-made : (line : StreamLine) → redo.valid ≡ valid_said line read → (made : Disk) → IsMade (made_from given (readings kept) redo handed) made →
+  pub file-made : (line : StreamLine) → redo.valid ≡ valid_said line read → (made : Disk) → DiskIsMade (made_by_log given (readings kept) redo handed) made →
       (file : IsFileMade s size kept pages first made) × TellsGreatest line handed kept file.has.redo file.valid
   file-made line given_is made is = (
     record {
@@ -218,12 +218,12 @@ module _ (s size first : ℕ) (stream : StreamLine) (kept : List LogEntry) (page
     told-greatest line given_is,
   )
 
-  module _ (now : Disk) (between : IsBetween (made_from given (readings kept) redo handed) handed now) where
+  module _ (now : Disk) (between : IsBetween (made_by_log given (readings kept) redo handed) handed now) where
     -- what a crash may leave of a page was handed in, or is made
-    left-or-made : (p : ℕ) (bytes : List ℕ) → Contains (may_of now p) bytes → (bytes ≡ page_of handed p) ⊎ (bytes ≡ made_from given (readings kept) redo handed p)
+    left-or-made : (p : ℕ) (bytes : List ℕ) → Contains (may_of now p) bytes → (bytes ≡ page_of handed p) ⊎ (bytes ≡ made_by_log given (readings kept) redo handed p)
     left-or-made p bytes among = go (between.pages.may p bytes among)
       where
-        go : Was handed p bytes ⊎ (bytes ≡ made_from given (readings kept) redo handed p) → (bytes ≡ page_of handed p) ⊎ (bytes ≡ made_from given (readings kept) redo handed p)
+        go : Was handed p bytes ⊎ (bytes ≡ made_by_log given (readings kept) redo handed p) → (bytes ≡ page_of handed p) ⊎ (bytes ≡ made_by_log given (readings kept) redo handed p)
         go (inl (inl was)) = inl (sym (one-alone (page_of handed p) bytes (subst (λ (l : List (List ℕ)). Contains l bytes) (handed_on.whole.alone p) was)))
         go (inl (inr is)) = inl is
         go (inr is) = inr is
@@ -231,12 +231,12 @@ module _ (s size first : ℕ) (stream : StreamLine) (kept : List LogEntry) (page
     read-left : (content : List ℕ) (other : Option StreamRecord) → Contains (may_of now record_number) content → IsReadAs content other → (other ≡ read) ⊎ (other ≡ Some (V2 size reached))
     read-left content other among reads = go (left-or-made record_number content among)
       where
-        go : (content ≡ page_of handed record_number) ⊎ (content ≡ made_from given (readings kept) redo handed record_number) → (other ≡ read) ⊎ (other ≡ Some (V2 size reached))
+        go : (content ≡ page_of handed record_number) ⊎ (content ≡ made_by_log given (readings kept) redo handed record_number) → (other ≡ read) ⊎ (other ≡ Some (V2 size reached))
         go (inl is) = inl (read-once content other read reads (subst (λ (l : List ℕ). IsReadAs l read) (sym is) spelled))
         go (inr is) = inr (read-once content other (Some (V2 size reached)) reads (spells-reached content (is ∙ made-record given kept redo handed)))
 
     -- whatever numbers the record then has, a restart makes of a page what this one made of it
-    makes-page : (streams : List Redo) (p : ℕ) (bytes : List ℕ) → Contains streams redo → 4096 * p < size → (bytes ≡ page_of handed p) ⊎ (bytes ≡ made_from given (readings kept) redo handed p) → MakesFile streams kept redo pages first p bytes
+    makes-page : (streams : List Redo) (p : ℕ) (bytes : List ℕ) → Contains streams redo → 4096 * p < size → (bytes ≡ page_of handed p) ⊎ (bytes ≡ made_by_log given (readings kept) redo handed p) → MakesFile streams kept redo pages first p bytes
     makes-page streams p bytes among below (inl is) = subst (λ (l : List ℕ). MakesFile streams kept redo pages first p l) (sym is) (makes-handed streams among p below)
     makes-page streams p bytes among below (inr is) =
         let its = size-is in
@@ -262,7 +262,7 @@ module _ (s size first : ℕ) (stream : StreamLine) (kept : List LogEntry) (page
 
         makes-same-given : MakesFile (redo ∷ streams) kept later pages first p bytes → MakesFile streams kept later pages first p bytes
         makes-same-given makes = λ i at.
-            ap (λ (n : ℕ). file_byte (λ q. page_after (redone_of later n (readings kept)) q bytes) (valid_of (readings kept) later) i) from ∙ makes i at
+            ap (λ (n : ℕ). file_byte (λ q. page_after (redone_of later n (readings kept)) q bytes) (redone_valid (readings kept) later) i) from ∙ makes i at
     makes-later other streams later p bytes (inr is) its among makes =
         makes-same (redo ∷ streams) streams kept redo later pages first same_stream same_size raised (given-once redo later streams same_stream among) p bytes makes
       where
@@ -275,9 +275,9 @@ module _ (s size first : ℕ) (stream : StreamLine) (kept : List LogEntry) (page
         raised : later.valid ≡ reached
         raised = its.valid_is ∙ ap (valid_said stream) is
 
-    sizes-left : (other : Option StreamRecord) → (other ≡ read) ⊎ (other ≡ Some (V2 size reached)) → AreSizes stream other × (size_said stream other ≡ size) × (first ≤ valid_said stream other)
-    sizes-left other (inl is) = subst (λ o. AreSizes stream o × (size_said stream o ≡ size) × (first ≤ valid_said stream o)) (sym is) numbers
-    sizes-left other (inr is) = subst (λ o. AreSizes stream o × (size_said stream o ≡ size) × (first ≤ valid_said stream o)) (sym is) (
+    sizes-left : (other : Option StreamRecord) → (other ≡ read) ⊎ (other ≡ Some (V2 size reached)) → AreRestartSizes stream other × (size_said stream other ≡ size) × (first ≤ valid_said stream other)
+    sizes-left other (inl is) = subst (λ o. AreRestartSizes stream o × (size_said stream o ≡ size) × (first ≤ valid_said stream o)) (sym is) numbers
+    sizes-left other (inr is) = subst (λ o. AreRestartSizes stream o × (size_said stream o ≡ size) × (first ≤ valid_said stream o)) (sym is) (
       record { within = let le = reached-within in let same = size-is in omega (arith, le, same); in_range = let fits = redo.in_range in let same = size-is in omega (arith, fits, same) },
       refl,
       let more = valid-more kept redo first least in let grown = after-least (updates_in redo kept) first in omega (arith, more, grown),
@@ -303,7 +303,7 @@ redoable-handed s size first stream kept pages left handed redoable handed_on = 
     still p bytes among = subst (λ (l : List ℕ). Contains (may_of left p) l) (one-alone (page_of handed p) bytes (subst (λ (l : List (List ℕ)). Contains l bytes) (handed_on.whole.alone p) among)) (handed_on.among p)
 
 -- and so can one on which the restart was done
-pub between-made : (made : ℕ → List ℕ) (old new : Disk) → IsMade made new → IsBetween made old new
+pub between-made : (made : ℕ → List ℕ) (old new : Disk) → DiskIsMade made new → IsBetween made old new
 between-made made old new is = record {
   pages = record {
     holds = λ page possible.
@@ -316,9 +316,9 @@ between-made made old new is = record {
 
 pub redoable-made : (s size first : ℕ) (stream : StreamLine) (kept : List LogEntry) (pages : ℕ → List ℕ) (left handed : Disk) → IsRedoable s stream size kept pages first left → IsHandedOn left handed →
     (given : List Redo) (read : Option StreamRecord) (redo : Redo) → IsReadAs (page_of handed record_number) read → IsRedoOf s stream read redo → Contains given redo →
-    (made : Disk) → IsMade (made_from given (readings kept) redo handed) made → IsRedoable s stream size kept pages first made
+    (made : Disk) → DiskIsMade (made_by_log given (readings kept) redo handed) made → IsRedoable s stream size kept pages first made
 redoable-made s size first stream kept pages left handed redoable handed_on given read redo spelled of_it contains made is =
-    redoable-again s size first stream kept pages left handed redoable handed_on given read redo spelled of_it contains made (between-made (made_from given (readings kept) redo handed) handed made is)
+    redoable-again s size first stream kept pages left handed redoable handed_on given read redo spelled of_it contains made (between-made (made_by_log given (readings kept) redo handed) handed made is)
 
 -- ---- for another line of the stream
 

@@ -10,13 +10,13 @@ use Rattle.cc_entry.specs.declared.error.CcError.{CcError}
 use Rattle.cc_entry.specs.declared.error.CcError.TheVariants as error
 use Rattle.cc_format.specs.Spelling.{IsReadAs}
 use Rattle.cc_format.specs.declared.record.StreamRecord.{StreamRecord}
-use Rattle.cc_redo.specs.Disks.{IsBetween, IsMade, record_number}
-use Rattle.cc_redo.specs.Ends.{IsAnswer, Leaves, LeavesBy, made_from}
-use Rattle.cc_redo.specs.Heard.{last_of, readings}
+use Rattle.cc_redo.specs.Disks.{IsBetween, DiskIsMade, record_number}
+use Rattle.cc_redo.specs.Ends.{IsRestartAnswer, LeavesDisk, LeavesBy, made_by_log}
+use Rattle.cc_redo.specs.Heard.{last_lsn_of, readings}
 use Rattle.cc_redo.specs.declared.redo.Redo.{Redo}
 use Rattle.cc_redo.specs.declared.streams.Restarted.{Restarted}
 use Rattle.cc_restarts.proofs.Counts.{held}
-use Rattle.cc_restarts.specs.Given.{AreSizes, IsRedoOf, is_log, is_restarted}
+use Rattle.cc_restarts.specs.Given.{AreRestartSizes, IsRedoOf, is_restarted}
 use Rattle.cc_restarts.specs.Restarting.{LogRestarted, ReadingLeft, RecordsRead, WasRestarted, lsn_of, no_rise, numbers_of, one_rise}
 use Rattle.cc_restarts.specs.declared.ended.Numbers.{Numbers}
 use Rattle.cc_script.specs.declared.script.StreamLine.{StreamLine}
@@ -24,6 +24,7 @@ use Rattle.cc_traits.specs.Disk.{Disk, page_of}
 use Rattle.cc_traits.specs.Log.{Log}
 use Rattle.cc_traits.specs.Told.{Both, IfTold}
 use Rattle.cc_stop_laws.proofs.Given.{IsAmongGiven, given-at}
+use Rattle.cc_model.specs.Stamps.{is_log}
 
 pub contains-at : {A : Type 0} (xs : List A) (i : ℕ) (x : A) → slice_get xs i ≡ Some x → Contains xs x
 contains-at xs i x is =
@@ -60,7 +61,7 @@ module _ {D L : Type 0} (told : D → Option Disk) (faults : D → ℕ) (log_tol
     pub leaves : LeavesBy given (readings kept.entries) answered redo (Some handed) (told after)
 
   module _ (s log : ℕ) (streams : List StreamLine) (stream : StreamLine) (named : slice_get streams s ≡ Some stream) (restarted : is_restarted log stream ≡ true) (kept : Log) (handed : Disk) (device : D) (was : L) (log_is : log_told was ≡ Some kept)
-      (tells : told device ≡ Some handed) (sizes : (read : Option StreamRecord) → IsReadAs (page_of handed record_number) read → AreSizes stream read) where
+      (tells : told device ≡ Some handed) (sizes : (read : Option StreamRecord) → IsReadAs (page_of handed record_number) read → AreRestartSizes stream read) where
     stream-of : (ended : Result Numbers CcError) (old new : List D) (now : L) → slice_get old s ≡ Some device → (w : WasRestarted told faults log_told log_count log streams ended old new was now) →
         IsStreamOf s log stream kept handed new w.answered
     stream-of ended old new now before w = record {
@@ -101,7 +102,7 @@ module _ {D L : Type 0} (told : D → Option Disk) (faults : D → ℕ) (log_tol
         its_disk : found.1.disk ≡ s
         its_disk = found.3.disk_is
 
-        left : Leaves w.given (log_told was) w.answered found.1 (told between.0) (told after.0)
+        left : LeavesDisk w.given (log_told was) w.answered found.1 (told between.0) (told after.0)
         left =
             w.leaves.given found.0 found.1 between.0 after.0 found.2 (ap (λ (k : ℕ). slice_get w.between k) its_disk ∙ between.1) (ap (λ (k : ℕ). slice_get new k) its_disk ∙ after.1)
 
@@ -120,12 +121,12 @@ module _ {D L : Type 0} (told : D → Option Disk) (faults : D → ℕ) (log_tol
       pub at : slice_get new s ≡ Some after
       pub made : Disk
       pub tells_made : told after ≡ Some made
-      pub is : P (made_from given (readings kept.entries) redo handed) handed made
+      pub is : P (made_by_log given (readings kept.entries) redo handed) handed made
 
     of-both : (new : List D) (answered : Result Restarted CcError) (P : (ℕ → List ℕ) → Disk → Disk → Type 0) (k : IsStreamOf s log stream kept handed new answered) →
-        Both (Some handed) (told k.after) (λ old now. P (made_from k.given (readings kept.entries) k.redo old) old now) → IsMadeOf new P
+        Both (Some handed) (told k.after) (λ old now. P (made_by_log k.given (readings kept.entries) k.redo old) old now) → IsMadeOf new P
     of-both new answered P k both =
-        let one = both-some (λ old now. P (made_from k.given (readings kept.entries) k.redo old) old now) handed (told k.after) both in
+        let one = both-some (λ old now. P (made_by_log k.given (readings kept.entries) k.redo old) old now) handed (told k.after) both in
         record {
           given = k.given;
           read = k.read;
@@ -141,12 +142,12 @@ module _ {D L : Type 0} (told : D → Option Disk) (faults : D → ℕ) (log_tol
         }
 
     pub done-made : (ended : Result Numbers CcError) (old new : List D) (now : L) → slice_get old s ≡ Some device → LogRestarted told faults log_told log_count log streams ended old new was now → (numbers : Numbers) →
-        ended ≡ Ok numbers → IsMadeOf new (λ made old now. IsMade made now)
+        ended ≡ Ok numbers → IsMadeOf new (λ made old now. DiskIsMade made now)
     done-made ended old new now before (inl unread) numbers is = absurd (let other = unread.ended_is in cc (is, other))
     done-made ended old new now before (inr w) numbers is = go w.answered w.ended_is (stream-of ended old new now before w)
       where
-        go : (answered : Result Restarted CcError) → ended ≡ numbers_of log answered → IsStreamOf s log stream kept handed new answered → IsMadeOf new (λ made old now. IsMade made now)
-        go (Ok done) same k = of-both new (Ok done) (λ made old now. IsMade made now) k k.leaves
+        go : (answered : Result Restarted CcError) → ended ≡ numbers_of log answered → IsStreamOf s log stream kept handed new answered → IsMadeOf new (λ made old now. DiskIsMade made now)
+        go (Ok done) same k = of-both new (Ok done) (λ made old now. DiskIsMade made now) k k.leaves
         go (Err e) same k = absurd (cc (is, same))
 
     -- one that was refused left the disk as it was, or so that a restart can begin again
@@ -173,12 +174,12 @@ module _ {D L : Type 0} (told : D → Option Disk) (faults : D → ℕ) (log_tol
 
   -- a restart that was done tells the greatest LSN of the log
   pub done-last : (log : ℕ) (streams : List StreamLine) (kept : Log) (ended : Result Numbers CcError) (old new : List D) (was now : L) → log_told was ≡ Some kept → LogRestarted told faults log_told log_count log streams ended old new was now →
-      (numbers : Numbers) → ended ≡ Ok numbers → numbers.last ≡ lsn_of (last_of (readings kept.entries))
+      (numbers : Numbers) → ended ≡ Ok numbers → numbers.last ≡ lsn_of (last_lsn_of (readings kept.entries))
   done-last log streams kept ended old new was now log_is (inl unread) numbers is = absurd (let other = unread.ended_is in cc (is, other))
   done-last log streams kept ended old new was now log_is (inr w) numbers is = go w.answered refl w.ended_is
     where
-      go : (answered : Result Restarted CcError) → w.answered ≡ answered → ended ≡ numbers_of log answered → numbers.last ≡ lsn_of (last_of (readings kept.entries))
+      go : (answered : Result Restarted CcError) → w.answered ≡ answered → ended ≡ numbers_of log answered → numbers.last ≡ lsn_of (last_lsn_of (readings kept.entries))
       go (Ok done) answers same =
-          let its : IsAnswer w.given kept done = subst (λ (o : Option Log). IfTold o (λ t. IsAnswer w.given t done)) log_is (w.answer done answers) in
+          let its : IsRestartAnswer w.given kept done = subst (λ (o : Option Log). IfTold o (λ t. IsRestartAnswer w.given t done)) log_is (w.answer done answers) in
           ap last_in (sym is ∙ same) ∙ ap lsn_of its.numbers.last
       go (Err e) answers same = absurd (cc (is, same))

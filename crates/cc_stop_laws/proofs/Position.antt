@@ -8,16 +8,16 @@ use Rattle.std.proofs.lemmas.Bool.{eqb-true}
 use Rattle.std.proofs.lemmas.Option.{same_Some, slice_get-get_or, slice_get_within}
 use Rattle.cc_redo.proofs.Disking.{get-set_other, get-set_same}
 use Rattle.cc_restarts.proofs.Kept.{all-logs_kept, all-others, one-others}
-use Rattle.cc_restarts.specs.Given.{is_log}
-use Rattle.cc_restarts.specs.Restarting.{IsApart, LogRestarted, LogsRestarted}
+use Rattle.cc_restarts.specs.Restarting.{IsNotRestarted, LogRestarted, LogsRestarted}
 use Rattle.cc_restarts.specs.declared.ended.LogRestart.{LogRestart}
 use Rattle.cc_script.specs.declared.script.RestartLine.{RestartLine}
 use Rattle.cc_script.specs.declared.script.StreamLine.{StreamLine}
 use Rattle.cc_traits.specs.Disk.{Disk}
 use Rattle.cc_traits.specs.Log.{Log}
+use Rattle.cc_model.specs.Stamps.{is_log}
 
 -- a stream of this log is restarted from no other
-apart-of : (streams : List StreamLine) (s log other : ℕ) (stream : StreamLine) → slice_get streams s ≡ Some stream → stream.log ≡ Some log → other ≢ log → IsApart other streams s
+apart-of : (streams : List StreamLine) (s log other : ℕ) (stream : StreamLine) → slice_get streams s ≡ Some stream → stream.log ≡ Some log → other ≢ log → IsNotRestarted other streams s
 apart-of streams s log other stream named logged differs = λ line is.
     let same : stream ≡ line = same_Some stream line (sym named ∙ is) in
     let its : is_log other line.log ≡ (log == other) = ap (λ (l : StreamLine). is_log other l.log) (sym same) ∙ ap (is_log other) logged in

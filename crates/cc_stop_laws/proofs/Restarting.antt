@@ -9,14 +9,14 @@ use Rattle.std.proofs.lemmas.Option.{same_Some}
 use Rattle.cc_entry.specs.declared.error.CcError.{CcError}
 use Rattle.cc_format.specs.Spelling.{IsReadAs}
 use Rattle.cc_format.specs.declared.record.StreamRecord.{StreamRecord}
-use Rattle.cc_redo.specs.Disks.{IsBetween, IsMade, record_number}
-use Rattle.cc_redo.specs.Ends.{made_from}
-use Rattle.cc_redo.specs.Heard.{last_of, readings}
+use Rattle.cc_redo.specs.Disks.{IsBetween, DiskIsMade, record_number}
+use Rattle.cc_redo.specs.Ends.{made_by_log}
+use Rattle.cc_redo.specs.Heard.{last_lsn_of, readings}
 use Rattle.cc_restart_laws.proofs.Logs.{among-all, among-right}
 use Rattle.cc_restart_laws.proofs.Redoing.{IsAmong}
-use Rattle.cc_restart_laws.specs.Stops.{IsKept}
+use Rattle.cc_restart_laws.specs.Stops.{LogKeeps}
 use Rattle.cc_restarts.proofs.Kept.{one-tells}
-use Rattle.cc_restarts.specs.Given.{AreSizes}
+use Rattle.cc_restarts.specs.Given.{AreRestartSizes}
 use Rattle.cc_restarts.specs.Restarting.{LogsRestarted, lsn_of}
 use Rattle.cc_restarts.specs.declared.ended.LogRestart.{LogRestart}
 use Rattle.cc_restarts.specs.declared.ended.Numbers.{Numbers}
@@ -34,10 +34,10 @@ use Rattle.cc_stop_laws.specs.Redoable.{HoldsPossible, IsFileMade, IsHandedIn, I
 use Rattle.cc_stop_laws.specs.Runs.{IsRedoneFrom, as_read}
 
 -- a log that keeps each entry up to the last that was read keeps all that were read
-all-kept : (s size : ℕ) (entries kept : List LogEntry) → IsLogOf s size entries → IsKept (last_of (readings entries)) entries kept → entries ≡ kept
+all-kept : (s size : ℕ) (entries kept : List LogEntry) → IsLogOf s size entries → LogKeeps (last_lsn_of (readings entries)) entries kept → entries ≡ kept
 all-kept s size entries kept are keeps = go keeps.rest keeps.splits keeps.beyond
   where
-    go : (rest : List LogEntry) → entries ≡ kept ++ rest → AllByRecursion (λ entry. last_of (readings entries) < entry.lsn) rest → entries ≡ kept
+    go : (rest : List LogEntry) → entries ≡ kept ++ rest → AllByRecursion (λ entry. last_lsn_of (readings entries) < entry.lsn) rest → entries ≡ kept
     go [] splits beyond = splits ∙ append-nil kept
     go (x ∷ rest) splits beyond =
         let among = subst (λ (l : List LogEntry). IsAmong l x) (sym splits) (among-right kept (x ∷ rest) x (inl refl)) in
@@ -62,7 +62,7 @@ possible-between : (left handed now : Disk) (made : ℕ → List ℕ) → IsHand
 possible-between left handed now made handed_on between = λ p. between.pages.holds p (possible-handed left handed handed_on p)
 
 -- of what was handed in too
-pub redone-handed : (s size first : ℕ) (stream : StreamLine) (pages : ℕ → List ℕ) (left handed : Disk) (after kept : Log) → IsRedoneFrom s stream size pages first left after → IsHandedOn left handed → IsKept after.durable after.entries kept.entries →
+pub redone-handed : (s size first : ℕ) (stream : StreamLine) (pages : ℕ → List ℕ) (left handed : Disk) (after kept : Log) → IsRedoneFrom s stream size pages first left after → IsHandedOn left handed → LogKeeps after.durable after.entries kept.entries →
     IsRedoneFrom s stream size pages first handed (as_read kept)
 redone-handed s size first stream pages left handed after kept redone handed_on keeps =
     redone-read s size first stream pages handed kept (log-front s size after.durable after.entries kept.entries redone.entries keeps)
@@ -78,7 +78,7 @@ module _ {D L : Type 0} (told : D → Option Disk) (faults : D → ℕ) (log_tol
   log_is = ap log_told (same_Some place.was log_at.device (sym place.log_before ∙ log_at.at)) ∙ log_at.tells
 
   -- it tells the greatest LSN, where it was done
-  pub tells-last : (numbers : Numbers) → one.ended ≡ Ok numbers → numbers.last ≡ lsn_of (last_of (readings kept.entries))
+  pub tells-last : (numbers : Numbers) → one.ended ≡ Ok numbers → numbers.last ≡ lsn_of (last_lsn_of (readings kept.entries))
   tells-last numbers ok = done-last told faults log_told log_count log streams kept one.ended place.old place.new place.was place.now log_is place.restarted numbers ok
 
   -- the log tells what it told
@@ -103,24 +103,24 @@ module _ {D L : Type 0} (told : D → Option Disk) (faults : D → ℕ) (log_tol
     said : (read : Option StreamRecord) → IsReadAs (page_of handed record_number) read → SameSaid stream line read
     said read reads = names-same handed stream line read again reads
 
-    stream-sizes : (read : Option StreamRecord) → IsReadAs (page_of handed record_number) read → AreSizes stream read
+    stream-sizes : (read : Option StreamRecord) → IsReadAs (page_of handed record_number) read → AreRestartSizes stream read
     stream-sizes read reads = (redoable.sizes (page_of handed record_number) read (handed_in.handed_on.among record_number) reads).0
 
-    sizes : (read : Option StreamRecord) → IsReadAs (page_of handed record_number) read → AreSizes line read
+    sizes : (read : Option StreamRecord) → IsReadAs (page_of handed record_number) read → AreRestartSizes line read
     sizes read reads = same-sizes stream line read (said read reads) (stream-sizes read reads)
 
     abbrev MadeOf : (P : (ℕ → List ℕ) → Disk → Disk → Type 0) → Type 0
     MadeOf P =
         IsMadeOf told faults log_told log_count s log streams line is.named (restarted-from log line is.stored is.logged) kept handed handed_in.disk_at.device place.was log_is handed_in.disk_at.tells sizes place.new P
 
-    done : (numbers : Numbers) → one.ended ≡ Ok numbers → MadeOf (λ made old now. IsMade made now)
+    done : (numbers : Numbers) → one.ended ≡ Ok numbers → MadeOf (λ made old now. DiskIsMade made now)
     done numbers ok =
         done-made told faults log_told log_count s log streams line is.named (restarted-from log line is.stored is.logged) kept handed handed_in.disk_at.device place.was log_is handed_in.disk_at.tells sizes one.ended place.old place.new place.now before place.restarted numbers ok
 
     pub made-file : (numbers : Numbers) → one.ended ≡ Ok numbers → (made : Disk) × TellsAt told disks_begun s made × TellsAt log_told logs_begun log kept × (file : IsFileMade s size kept.entries pages first made)
         × IsLogOf s size kept.entries × TellsGreatest line handed kept.entries file.has.redo file.valid
     made-file numbers ok =
-        let m : MadeOf (λ made old now. IsMade made now) = done numbers ok in
+        let m : MadeOf (λ made old now. DiskIsMade made now) = done numbers ok in
         let file =
         file-made s size first stream kept.entries pages left handed redoable handed_in.handed_on m.given m.read m.redo m.spelled
         (same-redo s stream line m.read m.redo (said m.read m.spelled) (stream-sizes m.read m.spelled) m.of_it) m.contains line m.of_it.valid_is m.made m.is in
@@ -150,15 +150,15 @@ module _ {D L : Type 0} (told : D → Option Disk) (faults : D → ℕ) (log_tol
             redone-again m.made (record { device = m.after; at = place.after ∙ m.at; tells = m.tells_made })
             (redoable-again s size first stream kept.entries pages left handed redoable handed_in.handed_on m.given m.read m.redo m.spelled
             (same-redo s stream line m.read m.redo (said m.read m.spelled) (stream-sizes m.read m.spelled) m.of_it) m.contains m.made m.is)
-            (possible-between left handed m.made (made_from m.given (readings kept.entries) m.redo handed) handed_in.handed_on m.is)
+            (possible-between left handed m.made (made_by_log m.given (readings kept.entries) m.redo handed) handed_in.handed_on m.is)
 
         ends : (answered : Result Numbers CcError) → one.ended ≡ answered → Again
         ends (Ok numbers) ok =
-            let m : MadeOf (λ made old now. IsMade made now) = done numbers ok in
+            let m : MadeOf (λ made old now. DiskIsMade made now) = done numbers ok in
             redone-again m.made (record { device = m.after; at = place.after ∙ m.at; tells = m.tells_made })
             (redoable-made s size first stream kept.entries pages left handed redoable handed_in.handed_on m.given m.read m.redo m.spelled
             (same-redo s stream line m.read m.redo (said m.read m.spelled) (stream-sizes m.read m.spelled) m.of_it) m.contains m.made m.is)
-            (possible-between left handed m.made (made_from m.given (readings kept.entries) m.redo handed) handed_in.handed_on (between-made (made_from m.given (readings kept.entries) m.redo handed) handed m.made m.is))
+            (possible-between left handed m.made (made_by_log m.given (readings kept.entries) m.redo handed) handed_in.handed_on (between-made (made_by_log m.given (readings kept.entries) m.redo handed) handed m.made m.is))
         ends (Err e) err =
             go
             (refused-left told faults log_told log_count s log streams line is.named (restarted-from log line is.stored is.logged) kept handed handed_in.disk_at.device place.was log_is handed_in.disk_at.tells sizes one.ended place.old place.new place.now before

@@ -8,7 +8,7 @@ use Rattle.cc_format.specs.Spelling.{IsReadAs}
 use Rattle.cc_format.specs.declared.record.StreamRecord.{StreamRecord}
 use Rattle.cc_format.specs.declared.record.StreamRecord.TheVariants.{V2}
 use Rattle.cc_laws.proofs.SoundFacts.{size_of-good, valid_of-good}
-use Rattle.cc_log.specs.Turn.{Holds, appended}
+use Rattle.cc_log.specs.Turn.{HoldsLogEntries, appended}
 use Rattle.cc_model.specs.Good.{IsGoodSoFar}
 use Rattle.cc_model.specs.History.{history}
 use Rattle.cc_model.specs.Images.{crash_pages}
@@ -19,7 +19,7 @@ use Rattle.cc_model.specs.Setup.{Setup}
 use Rattle.cc_model.specs.Touches.{size_of}
 use Rattle.cc_records.specs.Recorded.{told_valid}
 use Rattle.cc_redo.specs.Disks.{record_number}
-use Rattle.cc_redo.specs.Heard.{Change, last_of, readings}
+use Rattle.cc_redo.specs.Heard.{Change, last_lsn_of, readings}
 use Rattle.cc_redo.specs.declared.redo.Redo.{Redo}
 use Rattle.cc_restart_laws.proofs.Again.{after-least}
 use Rattle.cc_restart_laws.proofs.Contents.{had-more, size-more}
@@ -27,9 +27,9 @@ use Rattle.cc_restart_laws.proofs.Files.{later-page}
 use Rattle.cc_restart_laws.proofs.Left.{log-left}
 use Rattle.cc_restart_laws.proofs.Raised.{updates-same}
 use Rattle.cc_restart_laws.proofs.Told.{IsToldAt, IsWrittenAt, read-once, told-at, told-settled, written-at}
-use Rattle.cc_restart_laws.specs.Stops.{HadBegun, IsGivenAs, IsKept, KeepsBehind, MakesFile, updated_byte, updates_in, valid_after}
+use Rattle.cc_restart_laws.specs.Stops.{HadBegun, IsGivenAs, LogKeeps, LogKeepsBehind, MakesFile, updated_byte, updates_in, valid_after_changes}
 use Rattle.cc_restart_laws.specs.Updates.{IsUpdated}
-use Rattle.cc_restarts.specs.Given.{AreSizes, IsRedoOf, size_said, valid_said}
+use Rattle.cc_restarts.specs.Given.{AreRestartSizes, IsRedoOf, size_said, valid_said}
 use Rattle.cc_script.specs.declared.script.StreamLine.{StreamLine}
 use Rattle.cc_traits.specs.Disk.{Disk, may_of, page_of}
 use Rattle.cc_traits.specs.Log.{Log, LogEntry}
@@ -41,7 +41,7 @@ use Rattle.cc_update_laws.specs.Devices.{GoesOnFrom, IsWholeDisk}
 use Rattle.cc_update_laws.specs.Logs.{IsLogOf}
 use Rattle.cc_stop_laws.proofs.Given.{SameSaid}
 use Rattle.cc_stop_laws.proofs.Made.{redoable-line}
-use Rattle.cc_stop_laws.specs.Redoable.{HasFile, IsFileMade, IsNumbered, IsRedoable, NamesAgain}
+use Rattle.cc_stop_laws.specs.Redoable.{HasFile, IsFileMade, StreamIsNumbered, IsRedoable, NamesAgain}
 use Rattle.cc_stop_laws.specs.Runs.{HasBegunWith, IsRedoneFrom}
 
 -- ---- what it then tells
@@ -51,10 +51,10 @@ told-said stream None = omega arith
 told-said stream (Some told) = omega arith
 
 module _ (u : Setup) (past : List Entry) (s log : ℕ) (stream : StreamLine) (before : Option StreamRecord) (opening left : Disk) (good : IsGoodSoFar u past) (updated : IsUpdated s log past) (whole : IsWholeDisk opening) (gone : HasGone (history past s) opening left)
-    (record_gone : RecordHasGone past s opening left) (reads : IsReadAs (page_of opening record_number) before) (numbered : IsNumbered s stream before past) where
+    (record_gone : RecordHasGone past s opening left) (reads : IsReadAs (page_of opening record_number) before) (numbered : StreamIsNumbered s stream before past) where
   -- the record that a crash leaves
   record IsTold (content : List ℕ) (read : Option StreamRecord) : Type 0 where
-    sizes : AreSizes stream read
+    sizes : AreRestartSizes stream read
     size : size_said stream read ≡ size_said stream before
     least : valid_said stream before ≤ valid_said stream read
     told : valid_said stream before < valid_said stream read → valid_said stream read ≡ told_valid read
@@ -64,7 +64,7 @@ module _ (u : Setup) (past : List Entry) (s log : ℕ) (stream : StreamLine) (be
   module _ (content : List ℕ) (among : Contains (crash_records (page_of opening record_number) past s) content) where
     told-same : (read : Option StreamRecord) → read ≡ before → IsTold content read
     told-same read is = record {
-      sizes = subst (λ o. AreSizes stream o) (sym is) numbered.sizes;
+      sizes = subst (λ o. AreRestartSizes stream o) (sym is) numbered.sizes;
       size = ap (size_said stream) is;
       least = let same = ap (valid_said stream) is in omega (arith, same);
       told = λ above. let same = ap (valid_said stream) is in absurd (omega (arith, same, above));
@@ -74,7 +74,7 @@ module _ (u : Setup) (past : List Entry) (s log : ℕ) (stream : StreamLine) (be
 
     told-written : (read : Option StreamRecord) → IsReadAs content read → IsWrittenAt s past content → IsTold content read
     told-written read reads_it k = record {
-      sizes = subst (λ o. AreSizes stream o) (sym is) (record { within = within; in_range = fits });
+      sizes = subst (λ o. AreRestartSizes stream o) (sym is) (record { within = within; in_range = fits });
       size = ap (size_said stream) is ∙ (its.may.its_size ∙ (sym grown ∙ numbered.size had_past));
       least = let least = facts.1 in let same = ap (valid_said stream) is in omega (arith, least, same);
       told = λ above. ap (valid_said stream) is ∙ sym (ap told_valid is);
@@ -158,18 +158,18 @@ module _ (u : Setup) (past : List Entry) (s log : ℕ) (stream : StreamLine) (be
       let same = again (subst (λ o. IsReadAs (page_of opening record_number) o) none reads) in
       (sym same.size, sym same.valid)
 
-  module _ (begun after : Log) (holds : Holds (appended past log) (flushed_to past log) begun after) (below : s < 16) (pages : ℕ → List ℕ) (first : ℕ) (had : HasBegunWith past s log stream before pages first opening begun) where
+  module _ (begun after : Log) (holds : HoldsLogEntries (appended past log) (flushed_to past log) begun after) (below : s < 16) (pages : ℕ → List ℕ) (first : ℕ) (had : HasBegunWith past s log stream before pages first opening begun) where
     whole-log : IsLogOf s (size_said stream before) (begun.entries ++ appended past log)
     whole-log = log-whole u past s log (size_said stream before) begun.entries good updated numbered.size had.goes_on had.entries
 
     -- what the log had at first is durable
-    behind : (kept : List LogEntry) → IsKept after.durable after.entries kept → KeepsBehind after.durable begun.entries (appended past log) kept
+    behind : (kept : List LogEntry) → LogKeeps after.durable after.entries kept → LogKeepsBehind after.durable begun.entries (appended past log) kept
     behind kept keeps = log-left past log begun after kept holds (begun-durable past log begun after had.goes_on had.entries.in_range holds) keeps
 
     had-of : (redo : Redo) → redo.stream ≡ s → redo.size ≡ size_said stream before → HadBegun redo begun.entries (appended past log) (page_of opening) (valid_said stream before) pages first
     had-of redo same_stream same_size = record {
       ascending = whole-log.ascending;
-      valid = subst (λ (l : List Change). valid_after l first ≤ valid_said stream before) (sym (updates-same had.has.redo redo its_stream its_size begun.entries)) had.has.least;
+      valid = subst (λ (l : List Change). valid_after_changes l first ≤ valid_said stream before) (sym (updates-same had.has.redo redo its_stream its_size begun.entries)) had.has.least;
       file = λ i inside.
           had.has.file i (let same = same_size in omega (arith, same, inside))
           ∙ ap (λ (l : List Change). updated_byte pages first l i) (sym (updates-same had.has.redo redo its_stream its_size begun.entries));
@@ -181,7 +181,7 @@ module _ (u : Setup) (past : List Entry) (s log : ℕ) (stream : StreamLine) (be
         its_size : redo.size ≡ had.has.redo.size
         its_size = same_size ∙ sym had.has.size_is
 
-    left-redoable : (kept : List LogEntry) → IsKept after.durable after.entries kept → IsRedoable s stream (size_said stream before) kept pages first left
+    left-redoable : (kept : List LogEntry) → LogKeeps after.durable after.entries kept → IsRedoable s stream (size_said stream before) kept pages first left
     left-redoable kept keeps =
         redoable-by kept pages first (let more = had.has.least in let grown = after-least (updates_in had.has.redo begun.entries) first in omega (arith, more, grown))
         (λ streams redo among stream_is size_is given p bytes inside crash.
@@ -204,7 +204,7 @@ appended-none log = refl
 goes-on-none : (log : ℕ) (past : List Entry) → GoesOnFrom log 0 past
 goes-on-none log past = record { later = past; front = []; splits = sym (append-nil past); none = appended-none log; reached = omega arith }
 
-opened-file : (s : ℕ) (stream : StreamLine) (read : Option StreamRecord) (opening : Disk) → AreSizes stream read → IsWholeDisk opening → HasFile s (size_said stream read) [] (page_of opening) (valid_said stream read) (valid_said stream read) opening
+opened-file : (s : ℕ) (stream : StreamLine) (read : Option StreamRecord) (opening : Disk) → AreRestartSizes stream read → IsWholeDisk opening → HasFile s (size_said stream read) [] (page_of opening) (valid_said stream read) (valid_said stream read) opening
 opened-file s stream read opening sizes whole = record {
   redo = record { stream = s; disk = s; size = size_said stream read; valid = valid_said stream read; within = sizes.within; in_range = sizes.in_range };
   stream_is = refl;
@@ -221,17 +221,17 @@ opened-file s stream read opening sizes whole = record {
     twice true byte = refl
     twice false byte = refl
 
-pub first-begun : (past : List Entry) (s log : ℕ) (stream : StreamLine) (read : Option StreamRecord) (opening : Disk) (begun : Log) → AreSizes stream read → IsWholeDisk opening → begun.entries ≡ [] →
+pub first-begun : (past : List Entry) (s log : ℕ) (stream : StreamLine) (read : Option StreamRecord) (opening : Disk) (begun : Log) → AreRestartSizes stream read → IsWholeDisk opening → begun.entries ≡ [] →
     HasBegunWith past s log stream read (page_of opening) (valid_said stream read) opening begun
 first-begun past s log stream read opening begun sizes whole none = record {
   has = subst (λ (l : List LogEntry). HasFile s (size_said stream read) l (page_of opening) (valid_said stream read) (valid_said stream read) opening) (sym none) (opened-file s stream read opening sizes whole);
   entries = let empty : IsLogOf s (size_said stream read) [] = record { ascending = tt; in_range = tt; within = tt } in subst (IsLogOf s (size_said stream read)) (sym none) empty;
-  goes_on = subst (λ (l : List LogEntry). GoesOnFrom log (last_of (readings l)) past) (sym none) (goes-on-none log past);
+  goes_on = subst (λ (l : List LogEntry). GoesOnFrom log (last_lsn_of (readings l)) past) (sym none) (goes-on-none log past);
 }
 
 -- ---- a later run, which begins with what a restart made
 
-module _ (past : List Entry) (s log size first : ℕ) (pages : ℕ → List ℕ) (made : Disk) (begun : Log) (file : IsFileMade s size begun.entries pages first made) (entries : IsLogOf s size begun.entries) (goes : GoesOnFrom log (last_of (readings begun.entries)) past)
+module _ (past : List Entry) (s log size first : ℕ) (pages : ℕ → List ℕ) (made : Disk) (begun : Log) (file : IsFileMade s size begun.entries pages first made) (entries : IsLogOf s size begun.entries) (goes : GoesOnFrom log (last_lsn_of (readings begun.entries)) past)
     (line : StreamLine) where
   begun-as : (read : Option StreamRecord) → read ≡ Some (V2 size file.valid) → (size_said line read ≡ size) × HasBegunWith past s log line read pages first made begun
   begun-as read is =

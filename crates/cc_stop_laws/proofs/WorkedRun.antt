@@ -30,7 +30,7 @@ use Rattle.cc_redo.specs.declared.record.LogRecord.TheVariants.{Checkpoint, Upda
 use Rattle.cc_redo.specs.declared.redo.Redo.{Redo}
 use Rattle.cc_restart_laws.proofs.Entries.{updated-head}
 use Rattle.cc_restart_laws.specs.Stops.{IsGivenAs}
-use Rattle.cc_restart_laws.specs.Updates.{HasRecord, HasRecorded, HasSynced, HasWritten, IsCheckpoint, IsPinned, IsStamp, IsUpdated, IsUpdatedBy, IsUpdatedEntry, MayAppend, MayLog, Updating, WasStamped}
+use Rattle.cc_restart_laws.specs.Updates.{HasRecord, HasRecorded, HasSyncedSince, UpdateHasWritten, IsCheckpoint, IsPinned, IsStamp, IsUpdated, IsUpdatedBy, IsUpdatedEntry, MayAppend, MayLogRecord, Updating, WasStamped}
 use Rattle.cc_stop_laws.specs.Worked.{a, answers, begun, byte_record, checkpoint, checkpointed, dirty_row, done, first, listed, oldest_rows, page, pinned, recorded, second, sizes as its_sizes, states, stopped, synced, unsynced, updated, wrote}
 
 -- what the run is computed by
@@ -53,7 +53,7 @@ open-at : (me : ℕ) (e : Entry) (front during : List Entry) → is_mine me e �
 open-at me e front [] own is others = rw own is
 open-at me e front (x ∷ during) own is others = rw others.0 (open-at me e front during own is others.1)
 
-written-open : (it : Updating) (past : List Entry) → HasWritten 0 0 it past → has_open it.pass past ≡ true
+written-open : (it : Updating) (past : List Entry) → UpdateHasWritten 0 0 it past → has_open it.pass past ≡ true
 written-open it past k =
     let e : Entry = entry.Call it.pass k.nth (Some 0) (call.PinnedWrite it.hold it.at it.bytes) (outcome.Done k.reply) in
     ap (has_open it.pass) k.idle.grew ∙ open-at it.pass e k.front k.idle.during (eq-eqb it.pass it.pass refl) refl k.idle.others
@@ -63,7 +63,7 @@ clash one other = cc
 
 -- an entry of a pass that has none under way
 finished : (me : ℕ) (e : Entry) (past : List Entry) → ((pass : ℕ) → is_mine pass e ≡ true → pass ≡ me) → has_open me past ≡ false →
-    (it : Updating) → HasWritten 0 0 it past → is_mine it.pass e ≡ true → IsStamp 0 it e
+    (it : Updating) → UpdateHasWritten 0 0 it past → is_mine it.pass e ≡ true → IsStamp 0 it e
 finished me e past own none it k mine = absurd (clash (written-open it past k) (ap (λ (n : ℕ). has_open n past) (own it.pass mine) ∙ none))
 
 quiet : (me : ℕ) (e : Entry) (past : List Entry) → ((pass : ℕ) → is_mine pass e ≡ true → pass ≡ me) → has_open me past ≡ false → IsUpdatedBy 0 0 past e →
@@ -140,7 +140,7 @@ module _ (nth id p byte lsn : ℕ) (past : List Entry) where
   same-lsn : (pass other : ℕ) (spelled : List ℕ) → entry.Append 1 0 lsn (byte_record (4096 * p) byte) ≡ entry.Append pass 0 other spelled → other ≡ lsn
   same-lsn pass other spelled is = cc is
 
-  stamps : (it : Updating) → HasWritten 0 0 it (wrote nth id p byte lsn past) → is_mine it.pass (done 1 (nth + 3) (call.SetDirty id (Some lsn))) ≡ true → IsStamp 0 it (done 1 (nth + 3) (call.SetDirty id (Some lsn)))
+  stamps : (it : Updating) → UpdateHasWritten 0 0 it (wrote nth id p byte lsn past) → is_mine it.pass (done 1 (nth + 3) (call.SetDirty id (Some lsn))) ≡ true → IsStamp 0 it (done 1 (nth + 3) (call.SetDirty id (Some lsn)))
   stamps it k mine = go k.idle.during k.idle.grew k.idle.others
     where
       pass : it.pass ≡ 1
@@ -207,7 +207,7 @@ first-stamped lsn k = go (subst (λ (l : List Entry). IsIn (lsns_in l) lsn) (sym
 abbrev table_call : Entry
 table_call = entry.Call 1 6 None (call.DirtyPages 0) (outcome.Done (reply.Rows (dirty_row ∷ [])))
 
-its-sync : HasSynced 0 listed synced
+its-sync : HasSyncedSince 0 listed synced
 unfolding opened
 its-sync = record {
   pass = 1;
@@ -266,7 +266,7 @@ updated-form nth id p byte lsn past stays may has fits before = (
           (λ same. record { acts = record { it = update_of id p byte lsn; mine = refl; is = refl; recorded = has }; keeps_log = refl }) (λ had. stays),
       (
         quiet 1 (entry.Append 1 0 lsn (byte_record (4096 * p) byte)) (pinned nth id p past) (of-pass 1) refl
-            (λ same. subst (λ o. MayLog 0 0 1 o (pinned nth id p past)) (sym (says-byte (4096 * p) byte fits)) (λ its. may)) (λ had. stays),
+            (λ same. subst (λ o. MayLogRecord 0 0 1 o (pinned nth id p past)) (sym (says-byte (4096 * p) byte fits)) (λ its. may)) (λ had. stays),
         before,
       ),
     ),
@@ -282,7 +282,7 @@ unfolding opened IsUpdated
 checkpointed-form = (
   quiet 1 (entry.Flushed 1 0 2) (checkpoint ∷ synced) (of-pass 1) refl tt (λ had. refl),
   (
-    quiet 1 checkpoint synced (of-pass 1) refl (λ same. subst (λ o. MayLog 0 0 1 o synced) (sym says-checkpoint) its-checkpoint) (λ had. refl),
+    quiet 1 checkpoint synced (of-pass 1) refl (λ same. subst (λ o. MayLogRecord 0 0 1 o synced) (sym says-checkpoint) its-checkpoint) (λ had. refl),
     (
       quiet 1 (done 1 8 (call.Flush a (Some (record { from = 0; to = 0 })))) (entry.Sync 1 0 how.Good ∷ states 7 ∷ listed) (of-pass 1) refl (λ same. record { acts = tt; keeps_log = refl }) (λ had. refl),
       (
@@ -354,4 +354,4 @@ no-checkpoint k =
     clash (ap (list_any is_synced) h.splits ∙ any-at is_synced e (h.since ++ entry.Call k.pass k.nth None (call.DirtyPages 0) (outcome.Done k.reply) ∷ k.listed) h.later refl) refl
 
 pub unsynced-wrong : IsUpdated 0 0 unsynced → ⊥
-unsynced-wrong form = no-checkpoint (subst (λ o. MayLog 0 0 1 o listed) says-checkpoint ((updated-head 0 0 checkpoint listed form).by refl))
+unsynced-wrong form = no-checkpoint (subst (λ o. MayLogRecord 0 0 1 o listed) says-checkpoint ((updated-head 0 0 checkpoint listed form).by refl))

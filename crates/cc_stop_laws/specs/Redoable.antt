@@ -8,7 +8,7 @@ use Rattle.cc_entry.specs.declared.entry.Entry.TheVariants as entry
 use Rattle.cc_format.specs.Spelling.{IsReadAs}
 use Rattle.cc_format.specs.declared.record.StreamRecord.{StreamRecord}
 use Rattle.cc_format.specs.declared.record.StreamRecord.TheVariants.{V2}
-use Rattle.cc_log.specs.Turn.{Holds, appended}
+use Rattle.cc_log.specs.Turn.{HoldsLogEntries, appended}
 use Rattle.cc_model.specs.History.{history}
 use Rattle.cc_model.specs.Logs.{flushed_to}
 use Rattle.cc_model.specs.Objects.{had_map}
@@ -16,8 +16,8 @@ use Rattle.cc_model.specs.Records.{first_valid}
 use Rattle.cc_model.specs.Touches.{size_of}
 use Rattle.cc_redo.specs.Disks.{IsPossible, record_number}
 use Rattle.cc_redo.specs.declared.redo.Redo.{Redo}
-use Rattle.cc_restart_laws.specs.Stops.{IsKept, MakesFile, file_byte, updated_byte, updates_in, valid_after}
-use Rattle.cc_restarts.specs.Given.{AreSizes, IsRedoOf, size_said, valid_said}
+use Rattle.cc_restart_laws.specs.Stops.{LogKeeps, MakesFile, file_byte, updated_byte, updates_in, valid_after_changes}
+use Rattle.cc_restarts.specs.Given.{AreRestartSizes, IsRedoOf, size_said, valid_said}
 use Rattle.cc_script.specs.declared.script.RestartLine.{RestartLine}
 use Rattle.cc_script.specs.declared.script.StreamLine.{StreamLine}
 use Rattle.cc_traits.specs.Disk.{Disk, may_of, page_of}
@@ -36,7 +36,7 @@ pub record TellsAt {A T : Type 0} (told : A → Option T) (devices : List A) (n 
 pub record HasLeft (past : List Entry) (s log : ℕ) (opening left : Disk) (begun after : Log) : Type 0 where
   pub gone : HasGone (history past s) opening left
   pub record_gone : RecordHasGone past s opening left
-  pub logged : Holds (appended past log) (flushed_to past log) begun after
+  pub logged : HoldsLogEntries (appended past log) (flushed_to past log) begun after
 
 -- each record of the stream was written behind its first initialise, and tells no less valid data than this
 abbrev pub RecordsTell : ℕ → ℕ → List Entry → Type 0
@@ -46,8 +46,8 @@ RecordsTell s least past =
 
 -- A stream was first initialised with the numbers of its record, which was read so before, or else of its line; and the records
 -- that were written of it tell no less valid data.
-pub record IsNumbered (s : ℕ) (stream : StreamLine) (read : Option StreamRecord) (past : List Entry) : Type 0 where
-  pub sizes : AreSizes stream read
+pub record StreamIsNumbered (s : ℕ) (stream : StreamLine) (read : Option StreamRecord) (past : List Entry) : Type 0 where
+  pub sizes : AreRestartSizes stream read
   pub opened : had_map (history past s) ≡ true → first_valid (history past s) ≡ valid_said stream read
   pub size : had_map (history past s) ≡ true → size_of (history past s) ≡ size_said stream read
   pub records : RecordsTell s (valid_said stream read) past
@@ -58,7 +58,7 @@ pub record IsNumbered (s : ℕ) (stream : StreamLine) (read : Option StreamRecor
 pub record IsRedoable (s : ℕ) (stream : StreamLine) (size : ℕ) (kept : List LogEntry) (pages : ℕ → List ℕ) (first : ℕ) (disk : Disk)
     : Type 0 where
   pub sizes : (content : List ℕ) (read : Option StreamRecord) → Contains (may_of disk record_number) content → IsReadAs content read →
-      AreSizes stream read × (size_said stream read ≡ size) × (first ≤ valid_said stream read)
+      AreRestartSizes stream read × (size_said stream read ≡ size) × (first ≤ valid_said stream read)
   pub makes : (content : List ℕ) (read : Option StreamRecord) → Contains (may_of disk record_number) content → IsReadAs content read →
       (streams : List Redo) (redo : Redo) → IsRedoOf s stream read redo → Contains streams redo →
       (p : ℕ) (bytes : List ℕ) → 4096 * p < size → Contains (may_of disk p) bytes → MakesFile streams kept redo pages first p bytes
@@ -84,7 +84,7 @@ pub record IsHandedIn {D L : Type 0} (told : D → Option Disk) (log_told : L �
   pub disk_at : TellsAt told disks s handed
   pub log_at : TellsAt log_told logs log kept
   pub handed_on : IsHandedOn left handed
-  pub keeps : IsKept after.durable after.entries kept.entries
+  pub keeps : LogKeeps after.durable after.entries kept.entries
 
 -- each page of a disk holds what a crash can leave of it
 abbrev pub HoldsPossible : Disk → Type 0
@@ -117,7 +117,7 @@ pub record HasFile (s size : ℕ) (kept : List LogEntry) (pages : ℕ → List �
   pub redo : Redo
   pub stream_is : redo.stream ≡ s
   pub size_is : redo.size ≡ size
-  pub least : valid_after (updates_in redo kept) first ≤ valid
+  pub least : valid_after_changes (updates_in redo kept) first ≤ valid
   pub file : (i : ℕ) → i < size → file_byte (page_of disk) valid i ≡ updated_byte pages first (updates_in redo kept) i
   pub whole : IsWholeDisk disk
 
@@ -126,7 +126,7 @@ pub record HasFile (s size : ℕ) (kept : List LogEntry) (pages : ℕ → List �
 pub record TellsGreatest (line : StreamLine) (handed : Disk) (kept : List LogEntry) (redo : Redo) (valid : ℕ) : Type 0 where
   pub read : Option StreamRecord
   pub reads : IsReadAs (page_of handed record_number) read
-  pub greatest : valid ≡ valid_after (updates_in redo kept) (valid_said line read)
+  pub greatest : valid ≡ valid_after_changes (updates_in redo kept) (valid_said line read)
 
 -- It has it with the valid data length that its record tells, and the record tells the size.
 pub record IsFileMade (s size : ℕ) (kept : List LogEntry) (pages : ℕ → List ℕ) (first : ℕ) (made : Disk) : Type 0 where

@@ -10,7 +10,7 @@ ghost use Rattle.cc_model.specs.History.{history};
 ghost use Rattle.cc_model.specs.Objects.{had_map};
 ghost use Rattle.cc_model.specs.Setup.{Setup};
 ghost use Rattle.cc_redo.specs.Disks.{record_number};
-ghost use Rattle.cc_redo.specs.Heard.{last_of, readings};
+ghost use Rattle.cc_redo.specs.Heard.{last_lsn_of, readings};
 ghost use Rattle.cc_restarts.specs.Given.{size_said, valid_said};
 ghost use Rattle.cc_restarts.specs.Restarting.{LogsRestarted, lsn_of};
 ghost use Rattle.cc_restarts.specs.declared.ended.LogRestart.{LogRestart};
@@ -67,7 +67,7 @@ pub fn restarts_redo_what_is_left<D: PageDisk, L: LogFile>()
         LogsRestarted D.told D.faults L.told L.faults streams restarts ended disks disks_begun logs logs_begun →
         (s log n : ℕ) (line : StreamLine) (one : LogRestart) (kept : Log) → RestartsStream s log line streams restarts n →
         RestartsOnce log restarts n → slice_get ended n ≡ Some one → TellsAt L.told logs log kept → (numbers : Numbers) → one.ended ≡ Ok numbers →
-        numbers.last ≡ lsn_of (last_of (readings kept.entries)) }
+        numbers.last ≡ lsn_of (last_lsn_of (readings kept.entries)) }
     ensures again { (streams : List StreamLine) (restarts : List RestartLine) (ended : List LogRestart) (disks disks_begun : List D)
         (logs logs_begun : List L) →
         LogsRestarted D.told D.faults L.told L.faults streams restarts ended disks disks_begun logs logs_begun →
@@ -88,7 +88,7 @@ pub fn restarts_redo_what_is_left<D: PageDisk, L: LogFile>()
 pub fn made_files_begin_the_next_run()
     ensures begun { (past : List Entry) (s log size first : ℕ) (pages : ℕ → List ℕ) (made : Disk) (begun : Log) →
         IsFileMade s size begun.entries pages first made → IsLogOf s size begun.entries →
-        GoesOnFrom log (last_of (readings begun.entries)) past → (line : StreamLine) (read : Option StreamRecord) →
+        GoesOnFrom log (last_lsn_of (readings begun.entries)) past → (line : StreamLine) (read : Option StreamRecord) →
         IsReadAs (page_of made record_number) read →
         (size_said line read ≡ size) × HasBegunWith past s log line read pages first made begun }
     ensures named { (s size first : ℕ) (kept : List LogEntry) (pages : ℕ → List ℕ) (made : Disk) →

@@ -7,7 +7,7 @@ ghost use Rattle.cc_model.specs.Covered.{IsCovered};
 ghost use Rattle.cc_model.specs.Legal.{IsLegal};
 ghost use Rattle.cc_model.specs.Logs.{flushed_to};
 ghost use Rattle.cc_redo.specs.declared.redo.Redo.{Redo};
-ghost use Rattle.cc_restart_laws.specs.Stops.{IsGivenAs, IsKept};
+ghost use Rattle.cc_restart_laws.specs.Stops.{IsGivenAs, LogKeeps};
 ghost use Rattle.cc_restart_laws.specs.Updates.{IsUpdated};
 ghost use Rattle.cc_stop_laws.specs.Worked.{durable_entries, first_bytes, last_entry, setup, stopped, unsynced};
 
@@ -22,7 +22,7 @@ pub fn a_worked_run_is_stopped()
     ensures form { IsUpdated 0 0 stopped }
     ensures logged { appended stopped 0 ≡ durable_entries ++ last_entry ∷ [] }
     ensures flushed { flushed_to stopped 0 ≡ 2 }
-    ensures kept { IsKept 2 (durable_entries ++ last_entry ∷ []) durable_entries }
+    ensures kept { LogKeeps 2 (durable_entries ++ last_entry ∷ []) durable_entries }
     ensures given { (redo : Redo) → redo.stream ≡ 0 → redo.size ≡ 8192 → redo.valid ≡ 8192 → IsGivenAs 0 8192 stopped redo }
     ensures first_page { first_bytes stopped 0 ≡ 90 ∷ 171 ∷ [] }
     ensures second_page { first_bytes stopped 1 ≡ 90 ∷ [] }

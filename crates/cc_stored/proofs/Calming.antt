@@ -26,7 +26,7 @@ use Rattle.cc_model.specs.Flushed.{settled_since}
 use Rattle.cc_model.specs.Good.{IsGoodSoFar}
 use Rattle.cc_model.specs.History.{Effect, Did, CameIn, WentOut, Began, Ended, Synced, effect_of, history}
 use Rattle.cc_model.specs.Passes.{is_mine}
-use Rattle.cc_model.specs.Records.{MayTell}
+use Rattle.cc_model.specs.Records.{MayTellValid}
 use Rattle.cc_model.specs.Setup.{Setup}
 use Rattle.cc_model.specs.Sizes.{ended_ok}
 use Rattle.cc_model.specs.Touches.{valid_of}
@@ -198,9 +198,9 @@ module _ (u : Setup) (me s : ℕ) (file : File) (same : file.stream ≡ s) (old 
       ∙ sym (append_assoc left.placed.later (done ∷ left.has_done.after) (sync ∷ (left.has_done.before ++ old))))))
       ∙ sym (append_assoc later (left.placed.later ++ done ∷ left.has_done.after) (sync ∷ (left.has_done.before ++ old)))
 
-  pub told-behind : (later : List Entry) → is_quiet (Device s) later ≡ true → IsGoodSoFar u (later ++ new) → (valid : ℕ) → valid ≤ valid_of (history old s) → valid ≤ valid_of (history (later ++ new) s) → MayTell (history (later ++ new) s) valid
+  pub told-behind : (later : List Entry) → is_quiet (Device s) later ≡ true → IsGoodSoFar u (later ++ new) → (valid : ℕ) → valid ≤ valid_of (history old s) → valid ≤ valid_of (history (later ++ new) s) → MayTellValid (history (later ++ new) s) valid
   told-behind later quiet good valid before now =
-      subst (λ (past : List Entry). MayTell (history past s) valid) (sym (whole later))
+      subst (λ (past : List Entry). MayTellValid (history past s) valid) (sym (whole later))
       (may-tell u me s old left.has_done.before (since later) (subst (λ (past : List Entry). IsGoodSoFar u past) (whole later) good) calm_before (calm_since later quiet)
       (subst (λ (n : ℕ). settled_since (length (history old n)) (history (left.has_done.before ++ old) n) None ≡ true) same left.has_done.settled) valid before
       (subst (λ (past : List Entry). valid ≤ valid_of (history past s)) (whole later) now))

@@ -28,7 +28,7 @@ use Rattle.cc_model.specs.Room.{owed_by_stream, stores_unfinished, reserved_in}
 use Rattle.cc_model.specs.Setup.{Setup}
 use Rattle.cc_model.specs.Turns.{Turn, Device, Book, Log, Journal, needs, is_quiet}
 use Rattle.cc_step.proofs.Placed.{so-far}
-use Rattle.cc_turns.specs.Standing.{Standing, Held, holds}
+use Rattle.cc_turns.specs.Standing.{Standing, TurnsHeld, holds}
 use Rattle.cc_turns.specs.Takes.{Grows, may_be_of}
 use Rattle.cc_writes.proofs.OneVisit.{Visiting, Visited, visited, stepping-none}
 use Rattle.cc_writes.proofs.Placed.{quiet-page}
@@ -83,7 +83,7 @@ may_note-own w other may = absurd may
 clash : true ≡ false → ⊥
 clash e = absurd (cc)
 
-quiet-disk : (h : Held) (s : ℕ) (e : Entry) → ((t : Turn) → needs e t ≡ needs (entry.RecordFailed 0 s) t) → h.device ≡ Some s → h.journal ≡ true → (t : Turn) → holds h t ≡ false → is_quiet t (e ∷ []) ≡ true
+quiet-disk : (h : TurnsHeld) (s : ℕ) (e : Entry) → ((t : Turn) → needs e t ≡ needs (entry.RecordFailed 0 s) t) → h.device ≡ Some s → h.journal ≡ true → (t : Turn) → holds h t ≡ false → is_quiet t (e ∷ []) ≡ true
 quiet-disk h s e same device journal t free = is_quiet-unneeded t e [] (same t ∙ unneeded t free) ∙ is_quiet-none t
   where
     unneeded : (x : Turn) → holds h x ≡ false → needs (entry.RecordFailed 0 s) x ≡ false

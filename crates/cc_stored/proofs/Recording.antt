@@ -22,7 +22,7 @@ use Rattle.cc_traits.specs.declared.stop.Stop.TheVariants as stop
 use Rattle.cc_turns.specs.Disk.{DiskStands, HasGone}
 use Rattle.cc_turns.specs.RecordPage.{record_number, record_image, all_records_stored, RecordHasGone}
 use Rattle.cc_turns.specs.Standing.{DiskAtFirst}
-use Rattle.cc_turns.specs.Transfers.{end_of}
+use Rattle.cc_turns.specs.Transfers.{transfer_end}
 use Rattle.cc_turns.proofs.DiskGrows.{both_same}
 use Rattle.cc_turns.proofs.PageWritten.{both_through}
 
@@ -153,7 +153,7 @@ record_gone-no_memory pass s size valid past opening old gone = record {
 
 -- ---- the disk
 
-failures-wrote : (pass s size valid : ℕ) (written : Result (Unit {0}) Stop) (past : List Entry) → failures s (entry.Record pass s size valid (end_of written) ∷ past) ≡ failures s past + faults_in written
+failures-wrote : (pass s size valid : ℕ) (written : Result (Unit {0}) Stop) (past : List Entry) → failures s (entry.Record pass s size valid (transfer_end written) ∷ past) ≡ failures s past + faults_in written
 unfolding failures
 failures-wrote pass s size valid (Ok done) past = rw (eq-eqb s s refl) (omega arith)
 failures-wrote pass s size valid (Err stop.Failed) past = rw (eq-eqb s s refl) (omega arith)
@@ -167,7 +167,7 @@ pages-wrote h bytes (Err stop.Failed) first old new wrote failed no_memory gone 
 pages-wrote h bytes (Err stop.NoMemory) first old new wrote failed no_memory gone =
     subst (λ (now : Option Disk). Both first now (HasGone h)) (sym no_memory) gone
 
-page-wrote : (pass s size valid : ℕ) (past : List Entry) (bytes : List ℕ) (written : Result (Unit {0}) Stop) (first old new : Option Disk) → bytes ≡ record_page size valid → OnOk written (Both old new (Wrote (2 ^ 51) bytes)) → OnFailed written (Both old new (WriteFailed (2 ^ 51) bytes)) → OnNoMemory written (new ≡ old) → Both first old (RecordHasGone past s) → Both first new (RecordHasGone (entry.Record pass s size valid (end_of written) ∷ past) s)
+page-wrote : (pass s size valid : ℕ) (past : List Entry) (bytes : List ℕ) (written : Result (Unit {0}) Stop) (first old new : Option Disk) → bytes ≡ record_page size valid → OnOk written (Both old new (Wrote (2 ^ 51) bytes)) → OnFailed written (Both old new (WriteFailed (2 ^ 51) bytes)) → OnNoMemory written (new ≡ old) → Both first old (RecordHasGone past s) → Both first new (RecordHasGone (entry.Record pass s size valid (transfer_end written) ∷ past) s)
 page-wrote pass s size valid past bytes (Ok done) first old new spelled wrote failed no_memory gone =
     both_through (RecordHasGone past s) (Wrote (2 ^ 51) bytes) (RecordHasGone (entry.Record pass s size valid how.Good ∷ past) s) first old new
     (λ x y z is stood it. record_gone-good pass s size valid past bytes spelled x y z stood it) gone wrote
@@ -182,9 +182,9 @@ page-wrote pass s size valid past bytes (Err stop.NoMemory) first old new spelle
 -- With its entry the disk stands for the past again.
 pub DiskStands-recorded : {D : Type 0} (told : D → Option Disk) (faults : D → ℕ) (first : DiskAtFirst) (past : List Entry) (pass s size valid : ℕ) (bytes : List ℕ) (written : Result (Unit {0}) Stop) (old new : D) → bytes ≡ record_page size valid →
     OnOk written (Both (told old) (told new) (Wrote (2 ^ 51) bytes)) → OnFailed written (Both (told old) (told new) (WriteFailed (2 ^ 51) bytes)) → OnNoMemory written (told new ≡ told old) → faults new ≡ faults old + faults_in written →
-    DiskStands told faults first past s old → DiskStands told faults first (entry.Record pass s size valid (end_of written) ∷ past) s new
+    DiskStands told faults first past s old → DiskStands told faults first (entry.Record pass s size valid (transfer_end written) ∷ past) s new
 DiskStands-recorded told faults first past pass s size valid bytes written old new spelled wrote failed no_memory counted stands = record {
-  has_gone = rw (history-no_effect (entry.Record pass s size valid (end_of written)) past s refl)
+  has_gone = rw (history-no_effect (entry.Record pass s size valid (transfer_end written)) past s refl)
       (pages-wrote (history past s) bytes written first.told (told old) (told new) wrote failed no_memory stands.has_gone);
   record_has_gone = page-wrote pass s size valid past bytes written first.told (told old) (told new) spelled wrote failed no_memory stands.record_has_gone;
   counted =

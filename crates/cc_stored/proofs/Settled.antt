@@ -19,7 +19,7 @@ use Rattle.cc_model.specs.History.{history}
 use Rattle.cc_model.specs.Setup.{Setup}
 use Rattle.cc_model.specs.Touches.{valid_of}
 use Rattle.cc_records.specs.Left.{SettleLeft}
-use Rattle.cc_turns.specs.Standing.{Standing, Held}
+use Rattle.cc_turns.specs.Standing.{Standing, TurnsHeld}
 use Rattle.cc_turns.specs.Takes.{Grows, Takes, with_device, without_device}
 use Rattle.cc_writes.specs.Calls.{IsFullWriting}
 use Rattle.cc_writes.specs.Fetch.{CanCall}
@@ -124,8 +124,8 @@ stated w v y z file state told answer can took went given answer_is good left fu
     is =
         ap without_device went.same
         ∙ (ap (λ (a : Standing). without_device (record a { seen = y.seen; others = y.others; in_flight = a.in_flight })) took.same
-        ∙ (ap (λ (h : Held). record w { held = record h { device = None }; seen = y.seen; others = y.others; device_turns = turns }) can.free
-        ∙ ap (λ (h : Held). record w { held = h; seen = y.seen; others = y.others; device_turns = turns }) (sym can.free)))
+        ∙ (ap (λ (h : TurnsHeld). record w { held = record h { device = None }; seen = y.seen; others = y.others; device_turns = turns }) can.free
+        ∙ ap (λ (h : TurnsHeld). record w { held = h; seen = y.seen; others = y.others; device_turns = turns }) (sym can.free)))
 
 -- ---- behind the state
 

@@ -22,7 +22,7 @@ use Rattle.cc_traits.specs.Disk.{Disk, Found}
 use Rattle.cc_traits.specs.Told.{Both, IfTold}
 use Rattle.cc_turns.specs.Disk.{DiskStands, HasGone}
 use Rattle.cc_turns.specs.RecordPage.{RecordHasGone}
-use Rattle.cc_turns.specs.Standing.{DiskAtFirst, Standing, Held, nothing}
+use Rattle.cc_turns.specs.Standing.{DiskAtFirst, Standing, TurnsHeld, nothing}
 use Rattle.cc_turns.specs.Takes.{Grows, Takes, with_device, without_device}
 use Rattle.cc_turns.proofs.DiskGrows.{both_same, disk_grows}
 use Rattle.cc_turns.proofs.PageRead.{DiskStands-told}
@@ -34,7 +34,8 @@ use Rattle.cc_writes.specs.Ways.{IsFull}
 use Rattle.cc_writes.proofs.Quiet.{is_held}
 use Rattle.cc_writes.proofs.Resting.{disk-held, rest-same}
 use Rattle.cc_records.specs.Left.{LoadLeft}
-use Rattle.cc_stored.specs.Stored.{IsKnownRecord, IsNotFull, LoadEnds}
+use Rattle.cc_stored.specs.Stored.{IsKnownRecord, LoadEnds}
+use Rattle.cc_calls.specs.Logs.{IsNotFull}
 
 -- ---- the disk
 
@@ -64,7 +65,7 @@ module _ {D : Type 0} (told : D → Option Disk) (faults : D → ℕ) (w x : Sta
     (held : w.held ≡ record nothing { device = Some s }) (rest : open_of (history w.seen s) ≡ None)
     (stands : DiskStands told faults (w.disks s) w.seen s disk) (went : WentWith n w x) where
   device : w.held.device ≡ Some s
-  device = ap (λ (h : Held). h.device) held
+  device = ap (λ (h : TurnsHeld). h.device) held
 
   disks : x.disks s ≡ w.disks s
   disks = ap (λ (y : Standing). y.disks s) went.same
@@ -170,11 +171,11 @@ loaded w v y z s answer can took went given good left full read =
 
     again : without_device (record (with_device s w) { seen = y.seen; others = y.others }) ≡ record w { seen = y.seen; others = y.others; device_turns = y.device_turns }
     again =
-        ap (λ (h : Held). record w { seen = y.seen; others = y.others; held = h; device_turns = (with_device s w).device_turns }) (free can.free)
+        ap (λ (h : TurnsHeld). record w { seen = y.seen; others = y.others; held = h; device_turns = (with_device s w).device_turns }) (free can.free)
         ∙ ap (λ (m : ℕ). record w { seen = y.seen; others = y.others; device_turns = m }) (sym turns)
       where
         free : w.held ≡ nothing → record w.held { device = None } ≡ w.held
-        free is = subst (λ (h : Held). record h { device = None } ≡ h) (sym is) refl
+        free is = subst (λ (h : TurnsHeld). record h { device = None } ≡ h) (sym is) refl
 
 -- a count that did not rise
 pub none-more : (n : ℕ) → n ≡ n + 0

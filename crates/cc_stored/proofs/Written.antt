@@ -20,7 +20,7 @@ use Rattle.cc_laws.proofs.SoundFacts.{valid_of-good, size_of-good}
 use Rattle.cc_model.specs.Good.{IsGood, IsGoodSoFar}
 use Rattle.cc_model.specs.History.{history}
 use Rattle.cc_model.specs.Images.{open_of}
-use Rattle.cc_model.specs.Records.{MayRecord, MayTell, record_page}
+use Rattle.cc_model.specs.Records.{MayRecord, MayTellValid, record_page}
 use Rattle.cc_model.specs.Setup.{Setup}
 use Rattle.cc_model.specs.Touches.{size_of, valid_of}
 use Rattle.cc_model.specs.Turns.{Turn, Device, needs, is_quiet}
@@ -33,9 +33,9 @@ use Rattle.cc_traits.specs.declared.stop.Stop.{Stop}
 use Rattle.cc_turns.proofs.DiskGrows.{disk_grows}
 use Rattle.cc_turns.proofs.Taking.{disk_kept, transfer_kept}
 use Rattle.cc_turns.specs.Disk.{DiskStands, opening_of}
-use Rattle.cc_turns.specs.Standing.{DiskAtFirst, Standing, Held, nothing}
+use Rattle.cc_turns.specs.Standing.{DiskAtFirst, Standing, TurnsHeld, nothing}
 use Rattle.cc_turns.specs.Takes.{Grows, Takes, with_book, without_book}
-use Rattle.cc_turns.specs.Transfers.{end_of, synced as synced_past}
+use Rattle.cc_turns.specs.Transfers.{transfer_end, synced as synced_past}
 use Rattle.cc_writes.proofs.Quiet.{history-kept, is_held}
 use Rattle.cc_writes.proofs.Resting.{disk-held, rest-same}
 use Rattle.cc_writes.specs.Hands.{WentWith}
@@ -43,9 +43,9 @@ use Rattle.cc_writes.specs.Logs.{IsWant}
 use Rattle.cc_writes.specs.Visits.{HasPlaced}
 use Rattle.cc_calls.specs.Flushes.{HasDisk}
 use Rattle.cc_stored.specs.declared.record.Lengths.{Lengths}
-use Rattle.cc_stored.specs.Settle.{TellsAfter, WriteLeft, SyncLeft, recorded, synced}
-use Rattle.cc_stored.specs.Stored.{IsNotFull}
+use Rattle.cc_stored.specs.Settle.{TellsAfter, RecordWriteLeft, SyncLeft, record_answer, sync_answer}
 use Rattle.cc_stored.proofs.Recording.{DiskStands-recorded}
+use Rattle.cc_calls.specs.Logs.{IsNotFull}
 
 is_quiet-append : (t : Turn) (xs ys : List Entry) → is_quiet t xs ≡ true → is_quiet t ys ≡ true → is_quiet t (xs ++ ys) ≡ true
 unfolding is_quiet
@@ -63,7 +63,7 @@ grows-idle w past grows = record { during = grows.later; grew = grows.grew; othe
 module _ {D : Type 0} (told : D → Option Disk) (faults : D → ℕ) (w x : Standing) (s size valid : ℕ) (bytes : List ℕ) (written : Result (Unit {0}) Stop) (end : End) (old new : D)
     (device : w.held.device ≡ Some s) (went : WentWith 0 w x) (spelled : bytes ≡ record_page size valid) (wrote : OnOk written (Both (told old) (told new) (Wrote (2 ^ 51) bytes)))
     (failed : OnFailed written (Both (told old) (told new) (WriteFailed (2 ^ 51) bytes))) (no_memory : OnNoMemory written (told new ≡ told old)) (counted : faults new ≡ faults old + faults_in written)
-    (ended : end ≡ end_of written) (placed : HasPlaced w (entry.Record w.number s size valid end) x.seen) (stands : DiskStands told faults (w.disks s) w.seen s old) where
+    (ended : end ≡ transfer_end written) (placed : HasPlaced w (entry.Record w.number s size valid end) x.seen) (stands : DiskStands told faults (w.disks s) w.seen s old) where
   pub written-stands : DiskStands told faults (x.disks s) x.seen s new
   written-stands =
       subst (λ (first : DiskAtFirst). DiskStands told faults first x.seen s new) (sym (ap (λ (y : Standing). y.disks s) went.same))
@@ -89,10 +89,10 @@ module _ {D : Type 0} (told : D → Option Disk) (faults : D → ℕ) (w x : Sta
     (has : HasDisk told faults w s old) (took : Takes (with_book s) w x) (b_is : b.stream ≡ s) (b_stands : BookStands (x.setup.opening s) x.seen b) (tells : TellsAfter w s first)
     (size_is : size ≡ size_of (history x.seen b.stream)) (now_is : now ≡ valid_of (history x.seen b.stream)) where
   device : w.held.device ≡ Some s
-  device = ap (λ (h : Held). h.device) has.held
+  device = ap (λ (h : TurnsHeld). h.device) has.held
 
   pub both_held : x.held ≡ record nothing { device = Some s; book = Some s }
-  both_held = ap (λ (y : Standing). y.held) took.same ∙ ap (λ (h : Held). record h { book = Some s }) has.held
+  both_held = ap (λ (y : Standing). y.held) took.same ∙ ap (λ (h : TurnsHeld). record h { book = Some s }) has.held
 
   setup_is : x.setup ≡ w.setup
   setup_is = ap (λ (y : Standing). y.setup) took.same
@@ -120,7 +120,7 @@ module _ {D : Type 0} (told : D → Option Disk) (faults : D → ℕ) (w x : Sta
     no_transfer = transfer_kept (with_book s) w x s took device ∙ has.rest;
     its_size = its_size;
     within = least;
-    told = subst (λ (past : List Entry). MayTell (history past s) (min first now)) (sym took.grows.grew)
+    told = subst (λ (past : List Entry). MayTellValid (history past s) (min first now)) (sym took.grows.grew)
         (tells took.grows.later (took.grows.quiet (Device s) (is_held s w.held.device device))
         (subst (λ (past : List Entry). IsGoodSoFar w.setup past) took.grows.grew good) (min first now) (omega arith)
         (subst (λ (past : List Entry). min first now ≤ valid_of (history past s)) took.grows.grew least));
@@ -135,10 +135,10 @@ module _ {D : Type 0} (told : D → Option Disk) (faults : D → ℕ) (w x : Sta
     held_y = ap (λ (a : Standing). a.held) went.same ∙ both_held
 
     pub book_held : y.held ≡ record nothing { device = y.held.device; book = Some s }
-    book_held = held_y ∙ ap (λ (o : Option ℕ). record nothing { device = o; book = Some s }) (sym (ap (λ (h : Held). h.device) held_y))
+    book_held = held_y ∙ ap (λ (o : Option ℕ). record nothing { device = o; book = Some s }) (sym (ap (λ (h : TurnsHeld). h.device) held_y))
 
     same_front : history placed.front s ≡ history x.seen s
-    same_front = history-kept x s placed.front (ap (λ (h : Held). h.book) both_held) (ap (λ (h : Held). h.device) both_held) placed.grows
+    same_front = history-kept x s placed.front (ap (λ (h : TurnsHeld). h.book) both_held) (ap (λ (h : TurnsHeld). h.device) both_held) placed.grows
 
     same_now : history y.seen s ≡ history x.seen s
     same_now =
@@ -159,7 +159,7 @@ module _ {D : Type 0} (told : D → Option Disk) (faults : D → ℕ) (w x : Sta
     pub disk_z : HasDisk told faults z s new
     disk_z = subst (λ (a : Standing). HasDisk told faults a s new) (sym given) (record {
       known = subst (λ (n : ℕ). s < n) (sym (ap (λ (a : Standing). a.streams) went.same ∙ ap (λ (a : Standing). a.streams) took.same)) has.known;
-      held = ap (λ (h : Held). record h { book = None }) held_y;
+      held = ap (λ (h : TurnsHeld). record h { book = None }) held_y;
       rest = ap open_of same_now ∙ may.no_transfer;
       stands = stands;
       opening =
@@ -183,11 +183,11 @@ module _ {D : Type 0} (told : D → Option Disk) (faults : D → ℕ) (w x : Sta
             ∙ ap (λ (a : Standing). without_book (record a { seen = y.seen; others = y.others; in_flight = 0 })) took.same)
 
         unheld : record w.held { book = None } ≡ w.held
-        unheld = ap (λ (h : Held). record h { book = None }) has.held ∙ sym has.held
+        unheld = ap (λ (h : TurnsHeld). record h { book = None }) has.held ∙ sym has.held
 
         again : record w { held = record w.held { book = None }; seen = y.seen; others = y.others; in_flight = 0 } ≡ record w { seen = z.seen; others = z.others; in_flight = 0 }
         again =
-            ap (λ (h : Held). record w { held = h; seen = y.seen; others = y.others; in_flight = 0 }) unheld
+            ap (λ (h : TurnsHeld). record w { held = h; seen = y.seen; others = y.others; in_flight = 0 }) unheld
             ∙ (ap (λ (l : List Entry). record w { seen = l; others = y.others; in_flight = 0 }) (sym seen_z)
             ∙ ap (λ (n : ℕ). record w { seen = z.seen; others = n; in_flight = 0 }) (sym (ap (λ (a : Standing). a.others) given)))
 
@@ -205,20 +205,20 @@ module _ {D : Type 0} (told : D → Option Disk) (faults : D → ℕ) (w x : Sta
       };
     }
 
-    pub left_z : WriteLeft w.number s first (recorded end (record { size = size; valid = min first now })) w.seen z.seen
+    pub left_z : RecordWriteLeft w.number s first (record_answer end (record { size = size; valid = min first now })) w.seen z.seen
     left_z = go end wrote_z
       where
-        go : (how : End) → WroteRecord w.number s first size (min first now) how w.seen z.seen → WriteLeft w.number s first (recorded how (record { size = size; valid = min first now })) w.seen z.seen
+        go : (how : End) → WroteRecord w.number s first size (min first now) how w.seen z.seen → RecordWriteLeft w.number s first (record_answer how (record { size = size; valid = min first now })) w.seen z.seen
         go how.Good wrote = wrote
         go how.Failed wrote = (refl, record { size = size; valid = min first now; wrote = wrote })
         go how.NoMemory wrote = inr (record { size = size; valid = min first now; wrote = wrote })
 
-pub recorded-room : (end : End) (lengths : Lengths) → IsNotFull (recorded end lengths)
+pub recorded-room : (end : End) (lengths : Lengths) → IsNotFull (record_answer end lengths)
 recorded-room how.Good lengths = tt
 recorded-room how.Failed lengths = tt
 recorded-room how.NoMemory lengths = tt
 
-pub synced-room : (end : End) → IsNotFull (synced end)
+pub synced-room : (end : End) → IsNotFull (sync_answer end)
 synced-room how.Good = tt
 synced-room how.Failed = tt
 synced-room how.NoMemory = tt
@@ -240,11 +240,11 @@ disk-on told faults n s w x disk has went grows = record {
 }
   where
     device : w.held.device ≡ Some s
-    device = ap (λ (h : Held). h.device) has.held
+    device = ap (λ (h : TurnsHeld). h.device) has.held
 
 pub tells-on : (n s first : ℕ) (w x : Standing) → w.held.device ≡ Some s → WentWith n w x → Grows w x.seen → TellsAfter w s first → TellsAfter x s first
 tells-on n s first w x device went grows tells later quiet good valid below within =
-    subst (λ (past : List Entry). MayTell (history past s) valid) (sym longer)
+    subst (λ (past : List Entry). MayTellValid (history past s) valid) (sym longer)
     (tells (later ++ grows.later) (both later quiet (grows.quiet (Device s) (is_held s w.held.device device)))
     (subst (λ (past : List Entry). IsGoodSoFar w.setup past) longer (subst (λ (u : Setup). IsGoodSoFar u (later ++ x.seen)) (ap (λ (a : Standing). a.setup) went.same) good))
     valid below (subst (λ (past : List Entry). valid ≤ valid_of (history past s)) longer within))
@@ -259,7 +259,7 @@ module _ {D : Type 0} (told : D → Option Disk) (faults : D → ℕ) (w x : Sta
     (has : HasDisk told faults w s old) (went : WentWith 0 w x) (placed : HasPlaced w (entry.Sync w.number s end) x.seen)
     (synced_so : (first : DiskAtFirst) (past later : List Entry) (s pass : ℕ) → DiskStands told faults first past s old → open_of (history past s) ≡ None → is_quiet (Device s) later ≡ true → DiskStands told faults first (synced_past pass s end later past) s new) where
   sync_device : w.held.device ≡ Some s
-  sync_device = ap (λ (h : Held). h.device) has.held
+  sync_device = ap (λ (h : TurnsHeld). h.device) has.held
 
   quiet : is_quiet (Device s) placed.grows.later ≡ true
   quiet = placed.grows.quiet (Device s) (is_held s w.held.device sync_device)
@@ -292,10 +292,10 @@ module _ {D : Type 0} (told : D → Option Disk) (faults : D → ℕ) (w x : Sta
     quiet_before = placed.grows.others;
   }
 
-  pub left_synced : SyncLeft w.number s (synced end) w.seen x.seen
+  pub left_synced : SyncLeft w.number s (sync_answer end) w.seen x.seen
   left_synced = go end sync_only
     where
-      go : (how : End) → PlacedOnly w.number (entry.Sync w.number s how) w.seen x.seen → SyncLeft w.number s (synced how) w.seen x.seen
+      go : (how : End) → PlacedOnly w.number (entry.Sync w.number s how) w.seen x.seen → SyncLeft w.number s (sync_answer how) w.seen x.seen
       go how.Good only = only
       go how.Failed only = (refl, only)
       go how.NoMemory only = inr only
@@ -320,7 +320,7 @@ wrote-after me s first size valid end old new newer wrote idle = record {
   after = idle-then me (entry.Record me s size valid end ∷ wrote.front) new newer wrote.after idle;
 }
 
-pub write-before : (me s first : ℕ) (answer : Result Lengths CcError) (older old new : List Entry) → IsIdle me older old → WriteLeft me s first answer old new → WriteLeft me s first answer older new
+pub write-before : (me s first : ℕ) (answer : Result Lengths CcError) (older old new : List Entry) → IsIdle me older old → RecordWriteLeft me s first answer old new → RecordWriteLeft me s first answer older new
 write-before me s first (Ok lengths) older old new idle left = wrote-before me s first lengths.size lengths.valid how.Good older old new idle left
 write-before me s first (Err (error.JournalFull entries)) older old new idle left = idle-then me older old new idle left
 write-before me s first (Err error.NoMemory) older old new idle (inl none) = inl (idle-then me older old new idle none)
@@ -337,7 +337,7 @@ sync-before me s (Err (error.WriteFault page)) older old new idle left = (left.0
 sync-before me s (Err other) older old new idle left = absurd left
 
 -- an error of the sync behind a record that was written
-pub unsynced : (me s first : ℕ) (lengths : Lengths) (e : CcError) (old mid new : List Entry) → WriteLeft me s first (Ok lengths) old mid → SyncLeft me s (Err e) mid new → RecordStopped me s first e old new
+pub unsynced : (me s first : ℕ) (lengths : Lengths) (e : CcError) (old mid new : List Entry) → RecordWriteLeft me s first (Ok lengths) old mid → SyncLeft me s (Err e) mid new → RecordStopped me s first e old new
 unsynced me s first lengths (error.JournalFull entries) old mid new wrote left =
     inr (record { size = lengths.size; valid = lengths.valid; wrote = wrote-after me s first lengths.size lengths.valid how.Good old mid new wrote left })
 unsynced me s first lengths error.NoMemory old mid new wrote (inl none) =
@@ -349,7 +349,7 @@ unsynced me s first lengths (error.WriteFault page) old mid new wrote left =
 unsynced me s first lengths other old mid new wrote left = absurd left
 
 -- an error of the write
-pub unwritten : (me s first : ℕ) (e : CcError) (old new : List Entry) → WriteLeft me s first (Err e) old new → RecordStopped me s first e old new
+pub unwritten : (me s first : ℕ) (e : CcError) (old new : List Entry) → RecordWriteLeft me s first (Err e) old new → RecordStopped me s first e old new
 unwritten me s first (error.JournalFull entries) old new left = inl left
 unwritten me s first error.NoMemory old new (inl none) = inl (inl none)
 unwritten me s first error.NoMemory old new (inr some) = inl (inr some)
@@ -357,7 +357,7 @@ unwritten me s first (error.WriteFault page) old new left = (left.0, inl left.1)
 unwritten me s first other old new left = absurd left
 
 -- nothing was placed, as room or memory was wanting
-pub want-written : (me s first : ℕ) (e : CcError) (old new : List Entry) → IsWant e → IsIdle me old new → WriteLeft me s first (Err e) old new
+pub want-written : (me s first : ℕ) (e : CcError) (old new : List Entry) → IsWant e → IsIdle me old new → RecordWriteLeft me s first (Err e) old new
 want-written me s first (error.JournalFull entries) old new want idle = idle
 want-written me s first error.NoMemory old new want idle = inl idle
 want-written me s first other old new want idle = absurd want

@@ -16,7 +16,7 @@ use Rattle.cc_effects.specs.Calls.{CallLeft}
 use Rattle.cc_effects.specs.Moments.{IsIdle, PlacedOnly, Between}
 use Rattle.cc_model.specs.Good.{IsGood, IsGoodSoFar}
 use Rattle.cc_model.specs.History.{history}
-use Rattle.cc_model.specs.Records.{MayTell}
+use Rattle.cc_model.specs.Records.{MayTellValid}
 use Rattle.cc_model.specs.Setup.{Setup}
 use Rattle.cc_model.specs.Touches.{valid_of}
 use Rattle.cc_model.specs.Turns.{Device, is_quiet}
@@ -31,26 +31,26 @@ use Rattle.cc_stored.specs.declared.record.Lengths.{Lengths}
 abbrev pub TellsAfter : Standing → ℕ → ℕ → Type 0
 TellsAfter w s first =
     (later : List Entry) → is_quiet (Device s) later ≡ true → IsGoodSoFar w.setup (later ++ w.seen) → (valid : ℕ) → valid ≤ first →
-    valid ≤ valid_of (history (later ++ w.seen) s) → MayTell (history (later ++ w.seen) s) valid
+    valid ≤ valid_of (history (later ++ w.seen) s) → MayTellValid (history (later ++ w.seen) s) valid
 
 -- what is answered where a write of the record, or the sync behind it, ended so
-abbrev pub recorded : End → Lengths → Result Lengths CcError
-recorded how.Good lengths = Ok lengths
-recorded how.Failed lengths = Err (error.WriteFault (2 ^ 51))
-recorded how.NoMemory lengths = Err error.NoMemory
+abbrev pub record_answer : End → Lengths → Result Lengths CcError
+record_answer how.Good lengths = Ok lengths
+record_answer how.Failed lengths = Err (error.WriteFault (2 ^ 51))
+record_answer how.NoMemory lengths = Err error.NoMemory
 
-abbrev pub synced : End → Result (Unit {0}) CcError
-synced how.Good = Ok tt
-synced how.Failed = Err (error.WriteFault (2 ^ 51))
-synced how.NoMemory = Err error.NoMemory
+abbrev pub sync_answer : End → Result (Unit {0}) CcError
+sync_answer how.Good = Ok tt
+sync_answer how.Failed = Err (error.WriteFault (2 ^ 51))
+sync_answer how.NoMemory = Err error.NoMemory
 
 -- The record was written, or not.
-abbrev pub WriteLeft : ℕ → ℕ → ℕ → Result Lengths CcError → Between
-WriteLeft me s first (Ok lengths) old new = WroteRecord me s first lengths.size lengths.valid how.Good old new
-WriteLeft me s first (Err (error.JournalFull entries)) old new = IsIdle me old new
-WriteLeft me s first (Err error.NoMemory) old new = IsIdle me old new ⊎ WroteSome me s first how.NoMemory old new
-WriteLeft me s first (Err (error.WriteFault page)) old new = (page ≡ 2 ^ 51) × WroteSome me s first how.Failed old new
-WriteLeft me s first (Err other) old new = ⊥
+abbrev pub RecordWriteLeft : ℕ → ℕ → ℕ → Result Lengths CcError → Between
+RecordWriteLeft me s first (Ok lengths) old new = WroteRecord me s first lengths.size lengths.valid how.Good old new
+RecordWriteLeft me s first (Err (error.JournalFull entries)) old new = IsIdle me old new
+RecordWriteLeft me s first (Err error.NoMemory) old new = IsIdle me old new ⊎ WroteSome me s first how.NoMemory old new
+RecordWriteLeft me s first (Err (error.WriteFault page)) old new = (page ≡ 2 ^ 51) × WroteSome me s first how.Failed old new
+RecordWriteLeft me s first (Err other) old new = ⊥
 
 -- The disk was synced, or not.
 abbrev pub SyncLeft : ℕ → ℕ → Result (Unit {0}) CcError → Between
@@ -66,7 +66,7 @@ RecordLeft me s first (Ok lengths) old new = SyncedRecord me s first lengths.siz
 RecordLeft me s first (Err e) old new = RecordStopped me s first e old new
 
 -- From the moment `begun` on, behind others' entries, the stream was flushed.
-pub record IsFlushed (u : Setup) (me : ℕ) (file : File) (begun old new : List Entry) : Type 0 where
+pub record StreamIsFlushed (u : Setup) (me : ℕ) (file : File) (begun old new : List Entry) : Type 0 where
   pub idle : IsIdle me old begun
   pub flush : CallLeft u me (call.Flush file None) (outcome.Done reply.Unit) begun new
 
@@ -74,7 +74,7 @@ pub record IsFlushed (u : Setup) (me : ℕ) (file : File) (begun old new : List 
 pub record IsRecorded (u : Setup) (me : ℕ) (file : File) (answer : Result Lengths CcError) (old new : List Entry) : Type 0 where
   pub begun : List Entry
   pub flushed : List Entry
-  pub is_flushed : IsFlushed u me file begun old flushed
+  pub is_flushed : StreamIsFlushed u me file begun old flushed
   pub left : RecordLeft me file.stream (valid_of (history begun file.stream)) answer flushed new
 
 -- The flush failed.

@@ -56,9 +56,3 @@ pub record LoadEnds (old new : Standing) (s : ℕ) (answer : Result (Option Stre
   pub full : IsFull 1 new answer
   pub goes_on : WentOn old new
   pub good : IsGood old.setup new.seen
-
--- the answer is no want of room
-abbrev pub IsNotFull : {A : Type 0} → Result A CcError → Type 0
-IsNotFull (Ok a) = Unit {0}
-IsNotFull (Err (error.JournalFull entries)) = ⊥
-IsNotFull (Err other) = Unit {0}

@@ -10,7 +10,8 @@ ghost use Rattle.cc_writes.specs.Fetch.{CanCall};
 ghost use Rattle.cc_writes.specs.Hands.{Went, WentWith};
 ghost use Rattle.cc_writes.specs.Ways.{IsFull};
 ghost use Rattle.cc_records.specs.Left.{LoadLeft};
-ghost use Rattle.cc_stored.specs.Stored.{IsKnownRecord, IsNotFull, LoadEnds};
+ghost use Rattle.cc_stored.specs.Stored.{IsKnownRecord, LoadEnds};
+ghost use Rattle.cc_calls.specs.Logs.{IsNotFull};
 
 use crate::visits::{place_held, reserve_one};
 use cc_entry::{CcError, Entry, StreamId};

@@ -7,13 +7,13 @@ ghost use Rattle.cc_model.specs.History.{history};
 ghost use Rattle.cc_model.specs.Records.{MayRecord};
 ghost use Rattle.cc_turns.specs.Disk.{DiskStands};
 ghost use Rattle.cc_turns.specs.Standing.{nothing};
-ghost use Rattle.cc_turns.specs.Transfers.{end_of};
+ghost use Rattle.cc_turns.specs.Transfers.{transfer_end};
 ghost use Rattle.cc_writes.specs.Hands.{Went, WentWith};
 ghost use Rattle.cc_writes.specs.Visits.{HasPlaced};
 ghost use Rattle.cc_writes.specs.Ways.{IsFull};
 ghost use Rattle.cc_calls.specs.Flushes.{HasDisk};
-ghost use Rattle.cc_stored.specs.Settle.{RecordLeft, SyncLeft, TellsAfter, WriteLeft, recorded, synced};
-ghost use Rattle.cc_stored.specs.Stored.{IsNotFull};
+ghost use Rattle.cc_stored.specs.Settle.{RecordLeft, SyncLeft, TellsAfter, RecordWriteLeft, record_answer, sync_answer};
+ghost use Rattle.cc_calls.specs.Logs.{IsNotFull};
 
 use crate::load::RECORD_PAGE;
 use crate::visits::{place_held, reserve_one};
@@ -71,7 +71,7 @@ fn write_one<T: Turns>(
     ensures disk { HasDisk T.Disk.told T.Disk.faults (T.standing turns.new) stream disk.new }
     ensures good { IsGood (T.standing turns.new).setup (T.standing turns.new).seen }
     ensures went { Went (T.standing turns.old) (T.standing turns.new) }
-    ensures left { WriteLeft (T.standing turns.old).number stream first result
+    ensures left { RecordWriteLeft (T.standing turns.old).number stream first result
         (T.standing turns.old).seen (T.standing turns.new).seen }
     ensures full { IsFull 1 (T.standing turns.new) result }
 {
@@ -95,7 +95,7 @@ fn write_reserved<T: Turns>(
     ensures disk { HasDisk T.Disk.told T.Disk.faults (T.standing turns.new) stream disk.new }
     ensures good { IsGood (T.standing turns.new).setup (T.standing turns.new).seen }
     ensures went { WentWith 0 (T.standing turns.old) (T.standing turns.new) }
-    ensures left { WriteLeft (T.standing turns.old).number stream first result
+    ensures left { RecordWriteLeft (T.standing turns.old).number stream first result
         (T.standing turns.old).seen (T.standing turns.new).seen }
     ensures room { IsNotFull result }
 {
@@ -190,7 +190,7 @@ fn lesser(one: u64, other: u64) -> u64
 
 // What is answered where the write of the record ended so.
 fn recorded(how: End, lengths: Lengths) -> Result<Lengths, CcError>
-    ensures { result ≡ recorded how lengths }
+    ensures { result ≡ record_answer how lengths }
 {
     match how {
         End::Good => Ok(lengths),
@@ -201,7 +201,7 @@ fn recorded(how: End, lengths: Lengths) -> Result<Lengths, CcError>
 
 // What is answered where the sync behind it ended so.
 fn synced(how: End) -> Result<(), CcError>
-    ensures { result ≡ synced how }
+    ensures { result ≡ sync_answer how }
 {
     match how {
         End::Good => Ok(()),
@@ -212,7 +212,7 @@ fn synced(how: End) -> Result<(), CcError>
 
 // How the write ended that the disk answered so.
 fn end_of(answered: Result<(), Stop>) -> End
-    ensures { result ≡ end_of answered }
+    ensures { result ≡ transfer_end answered }
 {
     match answered {
         Ok(()) => End::Good,

@@ -17,7 +17,7 @@ use Rattle.cc_events.proofs.ObjectEvents.{objects-event}
 use Rattle.cc_events.proofs.SizeEvents.{size-event}
 use Rattle.cc_laws.proofs.QuotaSteps.{quota_of-opens_mapped, quota_of-opens_anew, is_temporary-opens_mapped, is_temporary-opens_anew, allocation_of-opens_mapped, allocation_of-opens_anew}
 use Rattle.cc_stream.specs.Stream.{Stream, StreamStands, is_open_in, any_open, is_done}
-use Rattle.cc_stream.specs.After.{after_act, after, IsNumbered}
+use Rattle.cc_stream.specs.After.{after_act, after, ObjectIsNumbered}
 use Rattle.cc_stream.proofs.Flags.{is_open_in-none, is_open_in-opens, is_open_in-closes, cut_of-is}
 
 -- a stream of which nothing happened
@@ -65,13 +65,13 @@ stands-other (Began pass page) h s other stands = stands-same _ h s refl refl re
 stands-other (Ended pass page how) h s other stands = stands-same _ h s refl refl refl refl refl refl refl refl refl refl stands
 stands-other (Synced pass how) h s other stands = stands-same _ h s refl refl refl refl refl refl refl refl refl refl stands
 
-opened-after : (a : Act) (mapped : Bool) (s : Stream) (ns : List ℕ) → IsNumbered a → length s.opened ≡ 16 → ((k : ℕ) → is_open_in s.opened k ≡ is_among k ns) → (k : ℕ) → is_open_in (after_act a mapped s).opened k ≡ is_among k (objects_after (event_of_act a) ns)
+opened-after : (a : Act) (mapped : Bool) (s : Stream) (ns : List ℕ) → ObjectIsNumbered a → length s.opened ≡ 16 → ((k : ℕ) → is_open_in s.opened k ≡ is_among k ns) → (k : ℕ) → is_open_in (after_act a mapped s).opened k ≡ is_among k (objects_after (event_of_act a) ns)
 opened-after (Opens file given quota temporary) true s ns below sixteen flags = is_open_in-opens s.opened ns file.object (omega arith) flags
 opened-after (Opens file given quota temporary) false s ns below sixteen flags = is_open_in-opens s.opened ns file.object (omega arith) flags
 opened-after (Closes file truncate) mapped s ns below sixteen flags = is_open_in-closes s.opened ns file.object flags
 opened-after other mapped s ns below sixteen flags = flags
 
-numbered-after : (a : Act) (ns : List ℕ) → IsNumbered a → All (λ n. n < 16) ns → All (λ n. n < 16) (objects_after (event_of_act a) ns)
+numbered-after : (a : Act) (ns : List ℕ) → ObjectIsNumbered a → All (λ n. n < 16) ns → All (λ n. n < 16) (objects_after (event_of_act a) ns)
 numbered-after (Opens file given quota temporary) ns below all = All-cons (λ n. n < 16) _ _ below (All-filter _ (λ n. n < 16) ns all)
 numbered-after (Closes file truncate) ns below all = All-filter _ (λ n. n < 16) ns all
 numbered-after other ns below all = all
@@ -114,7 +114,7 @@ temporary-after (Opens file given quota temporary) false s pass call reply h act
 temporary-after other mapped s pass call reply h act is same = rw (act, is_temporary) same
 
 -- a call that was done
-pub stands-done : (call : Call) (mapped : Bool) (s : Stream) → IsNumbered (act_of call) → length s.opened ≡ 16 → (h : List Effect) (pass : ℕ) (reply : Reply) → StreamStands h s → mapped ≡ is_mapped h → StreamStands (Did pass call reply ∷ h) (after call mapped s)
+pub stands-done : (call : Call) (mapped : Bool) (s : Stream) → ObjectIsNumbered (act_of call) → length s.opened ≡ 16 → (h : List Effect) (pass : ℕ) (reply : Reply) → StreamStands h s → mapped ≡ is_mapped h → StreamStands (Did pass call reply ∷ h) (after call mapped s)
 unfolding log_of has_no_read_ahead has_no_write_behind threshold_of
 stands-done call mapped s below sixteen h pass reply stands is =
     record {

@@ -38,6 +38,6 @@ after call mapped s =
     }
 
 -- an object that is opened is one of sixteen
-abbrev pub IsNumbered : Act → Type 0
-IsNumbered (Opens file sizes quota temporary) = file.object < 16
-IsNumbered other = Unit {0}
+abbrev pub ObjectIsNumbered : Act → Type 0
+ObjectIsNumbered (Opens file sizes quota temporary) = file.object < 16
+ObjectIsNumbered other = Unit {0}

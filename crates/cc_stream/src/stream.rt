@@ -10,7 +10,7 @@ ghost use Rattle.cc_model.specs.Touches.{size_of, is_mapped};
 ghost use Rattle.cc_model.specs.Settings.{allocation_of, quota_of, is_temporary, log_of, has_no_read_ahead, has_no_write_behind, threshold_of};
 ghost use Rattle.cc_events.specs.Events.{truncation_by};
 ghost use Rattle.cc_stream.specs.Stream.{StreamStands, any_open, is_open_in, cut_of};
-ghost use Rattle.cc_stream.specs.After.{after, IsNumbered};
+ghost use Rattle.cc_stream.specs.After.{after, ObjectIsNumbered};
 
 use cc_entry::Call;
 use std::marker::Model;
@@ -202,7 +202,7 @@ impl StreamState {
     // The state after a call.
     fn after(self, call: &Call, mapped: bool) -> StreamState
         ensures after { result ≡ after call.now mapped self }
-        ensures numbered { IsNumbered (act_of call.now) }
+        ensures numbered { ObjectIsNumbered (act_of call.now) }
         ensures sixteen { length self.opened ≡ 16 }
     {
         match call {

@@ -4,7 +4,6 @@ use crate::desk::desk;
 use cc_ahead::PrivateMaps;
 use cc_calls::read_ahead_step;
 use cc_entry::{AheadDone, Bytes, Call, Entry, FileId, Outcome, Reply, Request};
-use cc_journal::Parts;
 use cc_queue::Queue;
 use std::test::Fail;
 
@@ -43,7 +42,7 @@ fn a_request_of_no_stream_brings_nothing_in(rt: HostRuntime) -> Result<(), Fail>
     assert!(rt; matches!(stepped, Ok(Some(AheadDone { whole: false, .. }))));
     let again = read_ahead_step(&rt, alloc, &mut desk, &queue, &mut place);
     assert!(rt; matches!(again, Ok(None)));
-    let Parts { journal, .. } = desk.end();
+    let journal = desk.journal();
     assert_eq!(rt; journal.len(), 1);
     assert!(rt;
         matches!(
@@ -55,5 +54,6 @@ fn a_request_of_no_stream_brings_nothing_in(rt: HostRuntime) -> Result<(), Fail>
             })
         )
     );
+    desk.leave();
     Ok(())
 }

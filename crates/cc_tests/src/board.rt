@@ -7,7 +7,7 @@ ghost use Rattle.cc_tests.specs.Boards.{IsNewBoard};
 use crate::desk::desk;
 use crate::devices::Routine;
 use cc_board::{Board, FirstPass, StillOut};
-use cc_journal::Parts;
+use cc_journal::Left;
 use cc_memdev::{MemDisk, MemLog};
 use cc_turns::Desk;
 use std::alloc::Global;
@@ -29,7 +29,7 @@ fn board(
     match Board::new(alloc, desk(alloc)?, passes) {
         Ok(made) => Ok(made),
         Err((desk, _)) => {
-            desk.end();
+            desk.leave();
             Err(Fail::from("no memory"))
         }
     }
@@ -70,14 +70,14 @@ fn a_board_closes_once_its_passes_are_joined(rt: HostRuntime) -> Result<(), Fail
     let (board, first) = board(rt.alloc(), 1)?;
     assert_eq!(rt; (board.streams(), board.logs()), (1, 4));
     let (out, desk) = closed_in_the_end(board, first);
-    let Parts {
+    let entries = desk.journal().len();
+    let Left {
         disks,
         logs,
-        journal,
         queued,
-    } = desk.end();
+    } = desk.leave();
     assert_eq!(rt;
-        (out, disks.len(), logs.len(), journal.len(), queued.len()),
+        (out, disks.len(), logs.len(), entries, queued.len()),
         (1, 1, 4, 0, 0)
     );
     Ok(())

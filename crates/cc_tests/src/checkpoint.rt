@@ -4,7 +4,7 @@
 ghost use Rattle.std.specs.Prelude.{◌≡◌, ◌≤◌, Some, length};
 ghost use Rattle.std.specs.Thread.{IsSync};
 ghost use Rattle.cc_calls.specs.Answers.{CanCall};
-ghost use Rattle.cc_board.specs.Board.{IsFirstOf, IsOf, IsSplit};
+ghost use Rattle.cc_board.specs.Board.{IsFirstOf, IsOfBoard, IsSplit};
 ghost use Rattle.cc_turns.specs.Standing.{nothing};
 ghost use Rattle.cc_tests.specs.Boards.{IsNewBoard, MayAct};
 
@@ -13,7 +13,7 @@ use crate::devices::Routine;
 use cc_board::{Board, FirstPass, Pass, Seated};
 use cc_calls::{copy_write, flush, initialize, set_log_handle, uninitialize};
 use cc_entry::{CcError, FileId, FileSizes, Quota};
-use cc_journal::Parts;
+use cc_journal::Left;
 use cc_memdev::MemDisk;
 use cc_shim::checkpoint_streams;
 use cc_traits::{LogFile, PageDisk, PostRoutine, Stop, Told};
@@ -142,7 +142,7 @@ fn act_seated<R: Wait, D: PageDisk, L: LogFile, Q: PostRoutine>(
     part: Part,
 ) -> (Pass<D, L, Q>, Result<(), CcError>)
     requires may { MayAct board.now pass }
-    ensures { IsOf board.now result.0 }
+    ensures { IsOfBoard board.now result.0 }
 {
     let mut seated = Seated::new(rt, board, pass);
     let answer = act(alloc, &mut seated, stage, part);
@@ -187,24 +187,24 @@ fn play<R: Threads + Wait + Sync, D: PageDisk + Send, L: LogFile + Send, Q: Post
         rt,
         move || -> (Pass<D, L, Q>, Result<(), CcError>)
             requires { IsSync R.row × MayAct on.now one }
-            ensures { IsOf on.entry.now result.0 }
+            ensures { IsOfBoard on.entry.now result.0 }
         { act_seated(rt, alloc, on, stage, one, Part::Flush) },
         move || -> (
             (Pass<D, L, Q>, Result<(), CcError>),
             (Pass<D, L, Q>, Result<(), CcError>),
         )
             requires { IsSync R.row × MayAct on.now two × MayAct on.now three }
-            ensures { IsOf on.entry.now result.0.0 × IsOf on.entry.now result.1.0 }
+            ensures { IsOfBoard on.entry.now result.0.0 × IsOfBoard on.entry.now result.1.0 }
         {
             join(
                 rt,
                 move || -> (Pass<D, L, Q>, Result<(), CcError>)
                     requires { IsSync R.row × MayAct on.now two }
-                    ensures { IsOf on.entry.now result.0 }
+                    ensures { IsOfBoard on.entry.now result.0 }
                 { act_seated(rt, alloc, on, stage, two, Part::Checkpoint) },
                 move || -> (Pass<D, L, Q>, Result<(), CcError>)
                     requires { IsSync R.row × MayAct on.now three }
-                    ensures { IsOf on.entry.now result.0 }
+                    ensures { IsOfBoard on.entry.now result.0 }
                 { act_seated(rt, alloc, on, stage, three, Part::Close) },
             )
         },
@@ -240,11 +240,11 @@ fn an_object_closes_between_its_state_and_its_flush(rt: HostRuntime) -> Result<(
     let (desk, answer) = match Board::new(alloc, desk, 3) {
         Ok((board, first)) => play(&rt, alloc, board, first, &stage),
         Err((desk, _)) => {
-            desk.end();
+            desk.leave();
             return Err(Fail::from("no memory"));
         }
     };
-    let Parts { logs, .. } = desk.end();
+    let Left { logs, .. } = desk.leave();
     assert_eq!(rt; answer, Err(CcError::NotCached));
     assert!(rt; logs.iter().all(|log| log.entries().is_empty()));
     Ok(())

@@ -7,7 +7,7 @@ ghost use Rattle.cc_turns.specs.Desk.{standing_of};
 use crate::desk::{desk_of, disk, object};
 use cc_calls::{defer, initialize};
 use cc_entry::{CcError, FileId, FileSizes, Quota};
-use cc_journal::Parts;
+use cc_journal::Left;
 use cc_traits::{LogFile, PageDisk, PostRoutine};
 use cc_turns::Desk;
 use std::test::Fail;
@@ -70,11 +70,8 @@ fn a_routine_comes_back_from_a_full_queue(rt: HostRuntime) -> Result<(), Fail> {
     let begun = initialize(alloc, &mut desk, file, sizes, quota, false);
     let deferred = defer_pages(&mut desk, file, 64);
     let refused = defer(&mut desk, file, 4096, false, unposted(65));
-    let Parts {
-        journal,
-        queued,
-        ..
-    } = desk.end();
+    let entries = desk.journal().len();
+    let Left { queued, .. } = desk.leave();
     let (routine, error) = refused.err().ok_or("it was deferred")?;
     let back = queued
         .iter()
@@ -82,6 +79,6 @@ fn a_routine_comes_back_from_a_full_queue(rt: HostRuntime) -> Result<(), Fail> {
     assert_eq!(rt; (begun, deferred, back), (Ok(()), true, true));
     assert_eq!(rt; (routine.number, routine.posted), (65, false));
     assert_eq!(rt; error, CcError::QueueFull);
-    assert_eq!(rt; (journal.len(), queued.len()), (65, 64));
+    assert_eq!(rt; (entries, queued.len()), (65, 64));
     Ok(())
 }

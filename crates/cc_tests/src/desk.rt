@@ -1,14 +1,14 @@
 //! A test of a desk that is made, acted on and ended, and of a log that it has not, which no script names.
 
 ghost use Rattle.std.specs.Prelude.{◌≡◌, ◌≤◌, length, IfOk};
-ghost use Rattle.cc_turns.specs.Desk.{IsFresh};
+ghost use Rattle.cc_turns.specs.Desk.{DeskIsFresh};
 
 use crate::devices::Routine;
 use cc_calls::{initialize, set_log_handle};
 use cc_entry::{CcError, FileId, FileSizes, Quota};
-use cc_journal::Parts;
+use cc_journal::Left;
 use cc_memdev::{DiskFails, LogFails, MemDisk, MemLog};
-use cc_traits::{PageDisk, PostRoutine, Setup};
+use cc_traits::{JournalKind, PageDisk, PostRoutine, Setup};
 use cc_turns::{Desk, Turns};
 use std::alloc::Global;
 use std::test::Fail;
@@ -33,7 +33,7 @@ fn log(alloc: Global) -> MemLog {
 
 /// A desk of one disk and four logs, with a journal of 64 entries.
 pub(crate) fn desk(alloc: Global) -> Result<Desk<MemDisk, MemLog, Routine>, Fail>
-    ensures { IfOk result (λ desk. IsFresh desk.begun desk × (length desk.begun.disks ≡ 1)) }
+    ensures { IfOk result (λ desk. DeskIsFresh desk.begun desk × (length desk.begun.disks ≡ 1)) }
 {
     desk_of(alloc, vec![in alloc; disk(alloc)]?, 64)
 }
@@ -42,16 +42,16 @@ pub(crate) fn desk(alloc: Global) -> Result<Desk<MemDisk, MemLog, Routine>, Fail
 pub(crate) fn desk_of<D: PageDisk + Drop, Q: PostRoutine>(
     alloc: Global,
     disks: Vec<D>,
-    journal: u64,
+    journal: u32,
 ) -> Result<Desk<D, MemLog, Q>, Fail>
     requires few { length disks.items ≤ 2 }
     requires room { (64 ≤ journal) × (journal ≤ 128) }
-    ensures { IfOk result (λ desk. IsFresh desk.begun desk × (length desk.begun.disks ≡ length disks.items)) }
+    ensures { IfOk result (λ desk. DeskIsFresh desk.begun desk × (length desk.begun.disks ≡ length disks.items)) }
 {
     let setup = Setup {
         disks,
         logs: vec![in alloc; log(alloc), log(alloc), log(alloc), log(alloc)]?,
-        journal,
+        journal: JournalKind::Recorded(journal),
         threshold: 4,
     };
     match Desk::new(alloc, setup) {
@@ -82,15 +82,14 @@ fn a_desk_is_made_acted_on_and_ended(rt: HostRuntime) -> Result<(), Fail> {
     let made = (desk.me(), desk.streams(), desk.logs());
     let begun = initialize(alloc, &mut desk, file, sizes, quota, false);
     let refused = set_log_handle(alloc, &mut desk, file, 4);
-    let entries = desk.journal().entries().len();
-    let Parts {
+    let entries = desk.journal().len();
+    let Left {
         disks,
         logs,
-        journal,
         queued,
-    } = desk.end();
-    let ended = (disks.len(), logs.len(), journal.len(), queued.len());
-    assert_eq!(rt; (made, entries, ended), ((3, 1, 4), 2, (1, 4, 2, 0)));
+    } = desk.leave();
+    let left = (disks.len(), logs.len(), queued.len());
+    assert_eq!(rt; (made, entries, left), ((3, 1, 4), 2, (1, 4, 0)));
     assert_eq!(rt; begun, Ok(()));
     assert_eq!(rt; refused, Err(CcError::NoLog { handle: 4 }));
     Ok(())

@@ -1,6 +1,6 @@
 //! Tests of files and printers that fail on request, behind the devices of the program.
 
-use cc_filedev::{Output, Place, ScriptFile};
+use cc_filedev::{FilePlace, Output, ScriptFile};
 use cc_traits::{Sink, Source, Stop};
 use std::cell::Cell;
 use std::fmt::Display;
@@ -38,7 +38,7 @@ struct TestPlace {
     reads: u32,
 }
 
-impl Place for TestPlace {
+impl FilePlace for TestPlace {
     type File = TestFile;
 
     fn open(&self) -> io::Result<TestFile> {

@@ -1,7 +1,7 @@
 //! A test of the writing of one page over a desk, which no line of a script makes.
 
 use crate::desk::{desk, object};
-use cc_calls::{PageWrite, copy_write, initialize, write_one};
+use cc_calls::{PageWriteAnswer, copy_write, initialize, write_one};
 use cc_entry::{FileSizes, PageId, Quota};
 use std::test::Fail;
 
@@ -20,9 +20,9 @@ fn a_page_is_written_and_then_skipped(rt: HostRuntime) -> Result<(), Fail> {
     desk.act_as(1);
     let begun = initialize(alloc, &mut desk, file, sizes, quota, false);
     let copied = copy_write(alloc, &mut desk, file, 0, b"bytes");
-    let written = matches!(write_one(&mut desk, page), Ok(PageWrite::Written));
-    let skipped = matches!(write_one(&mut desk, page), Ok(PageWrite::Skipped));
-    desk.end();
+    let written = matches!(write_one(&mut desk, page), Ok(PageWriteAnswer::Written));
+    let skipped = matches!(write_one(&mut desk, page), Ok(PageWriteAnswer::Skipped));
+    desk.leave();
     assert_eq!(rt; (begun, copied), (Ok(()), Ok(())));
     assert_eq!(rt; (written, skipped), (true, true));
     Ok(())

@@ -3,7 +3,7 @@
 use crate::desk::{desk, object};
 use cc_calls::{initialize, set_log_handle};
 use cc_entry::{FileSizes, Lsn, Quota};
-use cc_journal::Parts;
+use cc_journal::Left;
 use cc_shim::{Volume, checkpoint};
 use std::test::Fail;
 
@@ -25,7 +25,7 @@ fn a_checkpoint_of_a_volume_is_logged(rt: HostRuntime) -> Result<(), Fail> {
     let begun = initialize(alloc, &mut desk, file, sizes, quota, false);
     let set = set_log_handle(alloc, &mut desk, file, 0);
     let answer = checkpoint(alloc, &mut desk, &volume, 0);
-    let Parts { logs, .. } = desk.end();
+    let Left { logs, .. } = desk.leave();
     let log = logs.first().ok_or("log")?;
     let is_empty_table = log.entries().iter().all(|(_, bytes)| bytes.as_slice()
         == [0xFF, 0, 0, 0, 0].as_slice());

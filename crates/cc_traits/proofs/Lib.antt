@@ -1,1 +1,2 @@
 pub mod DiskLemmas
+mod Walks

@@ -1,6 +1,6 @@
 -- What the contracts cite.
 pub mod Stop
 pub mod Told
-pub mod Given
+pub mod Setup
 pub mod Disk
 pub mod Log

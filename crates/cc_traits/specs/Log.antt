@@ -17,7 +17,7 @@ pub record Appended (lsn : ℕ) (bytes : List ℕ) (old new : Log) : Type 0 wher
   pub durable : old.durable ≤ new.durable
 
 -- the entries stayed, and what is on the medium stays there
-pub record Kept (old new : Log) : Type 0 where
+pub record LogKept (old new : Log) : Type 0 where
   pub entries : new.entries ≡ old.entries
   pub durable : old.durable ≤ new.durable
 
@@ -28,10 +28,10 @@ pub record Flushed (lsn : ℕ) (old new : Log) : Type 0 where
   pub reached : lsn ≤ new.durable
 
 -- an entry has this LSN and these bytes; where there is none, there is no LSN
-abbrev pub IsRead : Option LogEntry → Option ℕ → List ℕ → Type 0
-IsRead (Some entry) lsn bytes = (lsn ≡ Some entry.lsn) × (bytes ≡ entry.bytes)
-IsRead None lsn bytes = lsn ≡ None
+abbrev pub LogEntryIsRead : Option LogEntry → Option ℕ → List ℕ → Type 0
+LogEntryIsRead (Some entry) lsn bytes = (lsn ≡ Some entry.lsn) × (bytes ≡ entry.bytes)
+LogEntryIsRead None lsn bytes = lsn ≡ None
 
 -- the n-th entry, counted from 0, has this LSN and these bytes, or there is none
-abbrev pub Holds : ℕ → Option ℕ → List ℕ → Log → Type 0
-Holds n lsn bytes log = IsRead (slice_get log.entries n) lsn bytes
+abbrev pub HoldsEntry : ℕ → Option ℕ → List ℕ → Log → Type 0
+HoldsEntry n lsn bytes log = LogEntryIsRead (slice_get log.entries n) lsn bytes

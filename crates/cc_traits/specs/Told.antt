@@ -19,5 +19,5 @@ abbrev pub Gave : List ℕ → List ℕ → List ℕ → Type 0
 Gave bytes old new = old ≡ bytes ++ new
 
 -- bytes were put behind those that a sink has taken
-abbrev pub Took : List ℕ → List ℕ → List ℕ → Type 0
-Took bytes old new = new ≡ old ++ bytes
+abbrev pub SinkTook : List ℕ → List ℕ → List ℕ → Type 0
+SinkTook bytes old new = new ≡ old ++ bytes

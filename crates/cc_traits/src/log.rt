@@ -3,7 +3,7 @@
 ghost use Rattle.std.specs.Prelude.{◌≡◌, ℕ, ◌+◌, ◌-◌, ◌^◌, Option, IfOk, OnOk, OnErr};
 ghost use Rattle.cc_traits.specs.Stop.{faults_in, OnFailed, OnNoMemory};
 ghost use Rattle.cc_traits.specs.Told.{Both, IfTold};
-ghost use Rattle.cc_traits.specs.Log.{Log, Appended, Kept, Flushed, Holds};
+ghost use Rattle.cc_traits.specs.Log.{Log, Appended, LogKept, Flushed, HoldsEntry};
 
 use crate::Stop;
 
@@ -19,7 +19,7 @@ pub trait LogFile: Drop {
     fn append(&mut self, lsn: u64, bytes: &[u8]) -> Result<(), Stop>
         ensures appended { OnOk result
             (Both (told self.old) (told self.new) (Appended lsn bytes.now)) }
-        ensures failed { OnFailed result (Both (told self.old) (told self.new) Kept) }
+        ensures failed { OnFailed result (Both (told self.old) (told self.new) LogKept) }
         ensures no_memory { OnNoMemory result (told self.new ≡ told self.old) }
         ensures counted { faults self.new ≡ faults self.old + faults_in result };
 
@@ -27,7 +27,7 @@ pub trait LogFile: Drop {
     /// [`Stop::NoMemory`] only where the count of faults is at its end.
     fn flush(&mut self, lsn: u64) -> Result<(), Stop>
         ensures flushed { OnOk result (Both (told self.old) (told self.new) (Flushed lsn)) }
-        ensures failed { OnFailed result (Both (told self.old) (told self.new) Kept) }
+        ensures failed { OnFailed result (Both (told self.old) (told self.new) LogKept) }
         ensures no_memory { OnNoMemory result (told self.new ≡ told self.old) }
         ensures takes_no_memory { OnNoMemory result (faults self.old ≡ 2 ^ 64 - 1) }
         ensures counted { faults self.new ≡ faults self.old + faults_in result };
@@ -35,7 +35,7 @@ pub trait LogFile: Drop {
     /// Reads the `n`-th entry, counted from 0. Answers its LSN, and `out` has its bytes then; or `None`, where
     /// there is no such entry. What `out` has where it answers anything else is left open.
     fn entry(&mut self, n: u64, out: &mut Vec<u8>) -> Result<Option<u64>, Stop>
-        ensures held { IfOk result (λ lsn. IfTold (told self.old) (Holds n lsn out.new.items)) }
+        ensures held { IfOk result (λ lsn. IfTold (told self.old) (HoldsEntry n lsn out.new.items)) }
         ensures stays { told self.new ≡ told self.old }
         ensures counted { faults self.new ≡ faults self.old + faults_in result };
 }

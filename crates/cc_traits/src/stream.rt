@@ -2,7 +2,7 @@
 
 ghost use Rattle.std.specs.Prelude.{◌≡◌, ℕ, ◌+◌, ◌<◌, ◌≤◌, Bool, Option, List, [], ◌++◌, length, take, Ok, IfOk, OnErr};
 ghost use Rattle.cc_traits.specs.Stop.{faults_in, stalls_in, given_in, is_end};
-ghost use Rattle.cc_traits.specs.Told.{Both, IfTold, Gave, Took};
+ghost use Rattle.cc_traits.specs.Told.{Both, IfTold, Gave, SinkTook};
 
 use crate::Stop;
 
@@ -56,7 +56,7 @@ pub trait Sink {
     fn put(&mut self, bytes: &[u8]) -> Result<usize, Stop>
         ensures within { IfOk result (λ n. n ≤ length bytes.now) }
         ensures taken { IfOk result
-            (λ n. Both (told self.old) (told self.new) (Took (take n bytes.now))) }
+            (λ n. Both (told self.old) (told self.new) (SinkTook (take n bytes.now))) }
         ensures err { OnErr result (told self.new ≡ told self.old) }
         ensures counted { faults self.new ≡ faults self.old + faults_in result }
         ensures stalled { stalls self.new ≡ stalls self.old + stalls_in bytes.now result };

@@ -11,7 +11,7 @@ use Rattle.cc_entry.specs.declared.entry.Entry.{Entry}
 use Rattle.cc_entry.specs.declared.entry.Entry.TheVariants as entry
 use Rattle.cc_journal.specs.Journal.{JournalState}
 use Rattle.cc_laws.proofs.LogSteps.{flushed_to-entry}
-use Rattle.cc_log.specs.Turn.{Holds, LogState, appended}
+use Rattle.cc_log.specs.Turn.{HoldsLogEntries, LogTurnState, appended}
 use Rattle.cc_model.specs.Covered.{FlushedUpTo, IsCovered, IsCoveredEntry, IsLogged}
 use Rattle.cc_model.specs.History.{history}
 use Rattle.cc_model.specs.Logs.{flushed_to}
@@ -24,7 +24,7 @@ use Rattle.cc_turns.specs.Standing.{LogAtFirst, nothing}
 use Rattle.cc_turns.specs.Disk.{DiskStands}
 use Rattle.cc_turns.specs.Log.{FileStands}
 use Rattle.cc_turns.specs.Places.{AreHome, at_home}
-use Rattle.cc_turns.specs.Desk.{DeskState, DeskStands, DisksEnded, LogsEnded, Tells, disk_at_first, log_at_first}
+use Rattle.cc_turns.specs.Desk.{DeskState, DeskStands, DeskDisksEnded, DeskLogsEnded, Tells, disk_at_first, log_at_first}
 use Rattle.cc_turns.specs.Crash.{DiskIsCrashSafe, IsCrashSafe, IsDurableForBegins}
 use Rattle.cc_turns.proofs.RowSteps.{all_home}
 use Rattle.cc_turns.proofs.Fresh.{disks_end, logs_end}
@@ -65,7 +65,7 @@ durable-begins past handle log covered durable later front pass s p lsn is of ne
     omega (arith, up, here, grown, whole, durable)
 
 -- of a log that tells what it holds
-if-told : (past : List Entry) (handle flushed : ℕ) (begun now : Option Log) (entries : List LogEntry) → IsCovered past → flushed ≡ flushed_to past handle → Both begun now (Holds entries flushed) → IfTold now (IsDurableForBegins past handle)
+if-told : (past : List Entry) (handle flushed : ℕ) (begun now : Option Log) (entries : List LogEntry) → IsCovered past → flushed ≡ flushed_to past handle → Both begun now (HoldsLogEntries entries flushed) → IfTold now (IsDurableForBegins past handle)
 if-told past handle flushed None None entries covered is holds = tt
 if-told past handle flushed None (Some now) entries covered is holds = absurd holds
 if-told past handle flushed (Some begun) None entries covered is holds = absurd holds
@@ -112,14 +112,14 @@ files_home {A} {B} f row places is = row_home row (map (option_map f) places) is
     inside (Some a ∷ places) = ap (λ (r : List B). f a ∷ r) (inside places)
 
 -- the desk is
-pub desk_safe : {D L Q : Type 0} (tells : Tells D L Q) (d : DeskState D L Q) (disks : List (Option D)) (books : List (Option BookState)) (logs : List (Option (LogState L))) (journal : Option (JournalState Q)) → d.held ≡ nothing → d.disks ≡ at_home disks → d.logs ≡ map (λ log. log.file) (at_home logs) → DeskStands tells d disks books logs journal → IsCrashSafe tells d
+pub desk_safe : {D L Q : Type 0} (tells : Tells D L Q) (d : DeskState D L Q) (disks : List (Option D)) (books : List (Option BookState)) (logs : List (Option (LogTurnState L))) (journal : Option (JournalState Q)) → d.held ≡ nothing → d.disks ≡ at_home disks → d.logs ≡ map (λ log. log.file) (at_home logs) → DeskStands tells d disks books logs journal → IsCrashSafe tells d
 desk_safe {D} {L} {Q} tells d disks books logs journal free disks_are logs_are stands =
-    let rows : DisksEnded tells.disk tells.disk_faults d d.disks =
+    let rows : DeskDisksEnded tells.disk tells.disk_faults d d.disks =
     disks_end tells.disk tells.disk_faults d disks d.disks d.held.device stands.disks_are
     (ap (λ (l : List D). map (λ (a : D). Some a) l) disks_are ∙ home_is disks (all_home _ _ disks (ap (λ held. held.device) free) stands.disks_are)) in
-    let files : LogsEnded tells.log tells.log_faults d d.logs =
+    let files : DeskLogsEnded tells.log tells.log_faults d d.logs =
     logs_end tells.log tells.log_faults d logs d.logs d.held.log stands.logs_are
-    (ap (λ (l : List L). map (λ (a : L). Some a) l) logs_are ∙ files_are (λ (log : LogState L). log.file) logs (all_home _ _ logs (ap (λ held. held.log) free) stands.logs_are)) in
+    (ap (λ (l : List L). map (λ (a : L). Some a) l) logs_are ∙ files_are (λ (log : LogTurnState L). log.file) logs (all_home _ _ logs (ap (λ held. held.log) free) stands.logs_are)) in
     record {
       all = (rows.counted, files.counted);
       disks = λ s disk is. disk_safe tells d.begun.disks d.last.entries s disk (rows.each s disk is).stands;

@@ -11,14 +11,14 @@ use Rattle.cc_traits.specs.Log.{Log}
 use Rattle.cc_book.specs.Book.{BookState}
 use Rattle.cc_journal.specs.Capacity.{IsWithinCapacity}
 use Rattle.cc_journal.specs.Journal.{JournalState}
-use Rattle.cc_log.specs.Turn.{LogState}
+use Rattle.cc_log.specs.Turn.{LogTurnState}
 use Rattle.cc_model.specs.Good.{IsGood}
 use Rattle.cc_model.specs.Room.{reserved_in}
 use Rattle.cc_model.specs.Turns.{Device, Book, Log as log_turn}
 use Rattle.cc_laws.proofs.TurnSteps.{is_quiet-none}
 use Rattle.cc_turns.specs.Standing.{Standing}
 use Rattle.cc_turns.specs.Journal.{JournalStands}
-use Rattle.cc_turns.specs.Takes.{Takes, Adds, HasActed, may_be_of, without_journal}
+use Rattle.cc_turns.specs.Takes.{Takes, AddsEvent, HasActed, may_be_of, without_journal}
 use Rattle.cc_turns.specs.Places.{AreHome}
 use Rattle.cc_turns.specs.Desk.{DeskState, DeskStands, Tells, DiskIsHome, BookIsHome, LogIsHome, openings, disk_at_first, log_at_first, standing_of}
 use Rattle.cc_turns.proofs.Capacity.{journal_within}
@@ -36,12 +36,12 @@ takes_alone now old new is same good = subst (λ w. Takes now old w) (sym is) (r
 })
 
 -- a desk's pass has seen a good journal
-pub seen_good : {D L Q : Type 0} (tells : Tells D L Q) (d old : DeskState D L Q) (disks : List (Option D)) (books : List (Option BookState)) (logs : List (Option (LogState L))) (journal : Option (JournalState Q)) → d ≡ old → DeskStands tells d disks books logs journal → IsGood (standing_of tells.disk tells.disk_faults tells.log tells.log_faults old).setup (standing_of tells.disk tells.disk_faults tells.log tells.log_faults old).seen
+pub seen_good : {D L Q : Type 0} (tells : Tells D L Q) (d old : DeskState D L Q) (disks : List (Option D)) (books : List (Option BookState)) (logs : List (Option (LogTurnState L))) (journal : Option (JournalState Q)) → d ≡ old → DeskStands tells d disks books logs journal → IsGood (standing_of tells.disk tells.disk_faults tells.log tells.log_faults old).setup (standing_of tells.disk tells.disk_faults tells.log tells.log_faults old).seen
 seen_good tells d old disks books logs journal is stands =
     subst (λ x. IsGood (standing_of tells.disk tells.disk_faults tells.log tells.log_faults x).setup x.last.entries) is stands.journal_was.good
 
 -- which was always within the capacity
-pub seen_within : {D L Q : Type 0} (tells : Tells D L Q) (d old : DeskState D L Q) (disks : List (Option D)) (books : List (Option BookState)) (logs : List (Option (LogState L))) (journal : Option (JournalState Q)) → d ≡ old → DeskStands tells d disks books logs journal → IsWithinCapacity old.begun.capacity old.last.entries
+pub seen_within : {D L Q : Type 0} (tells : Tells D L Q) (d old : DeskState D L Q) (disks : List (Option D)) (books : List (Option BookState)) (logs : List (Option (LogTurnState L))) (journal : Option (JournalState Q)) → d ≡ old → DeskStands tells d disks books logs journal → IsWithinCapacity old.begun.capacity old.last.entries
 seen_within tells d old disks books logs journal is stands = subst (λ x. IsWithinCapacity x.begun.capacity x.last.entries) is stands.within
 
 -- the journal stands for all that knows as much of it
@@ -102,7 +102,7 @@ acted-more me since seen now added grew own acted = record {
   own = own-both me added acted.added own acted.own;
 }
 
-module _ {D L Q : Type 0} (tells : Tells D L Q) (d : DeskState D L Q) (disks : List (Option D)) (books : List (Option BookState)) (logs : List (Option (LogState L))) (journal : Option (JournalState Q)) where
+module _ {D L Q : Type 0} (tells : Tells D L Q) (d : DeskState D L Q) (disks : List (Option D)) (books : List (Option BookState)) (logs : List (Option (LogTurnState L))) (journal : Option (JournalState Q)) where
   -- the desk acts as another pass
   pub acts_as : (pass : ℕ) (since : List Entry) → since ≡ d.last.entries → DeskStands tells d disks books logs journal → DeskStands tells (record d { pass = pass; since = since }) disks books logs journal
   acts_as pass since is stands = record {
@@ -167,7 +167,7 @@ module _ {D L Q : Type 0} (tells : Tells D L Q) (d : DeskState D L Q) (disks : L
   }
 
   -- a log is held
-  pub log_taken : (at s : ℕ) (now : Option (LogState L)) (left : List L) → at ≡ s → now ≡ None → s < length d.begun.logs → d.held.log ≡ None → DeskStands tells d disks books logs journal → DeskStands tells (record d { logs = left; held = record d.held { log = Some s } }) disks books (slice_set logs at now) journal
+  pub log_taken : (at s : ℕ) (now : Option (LogTurnState L)) (left : List L) → at ≡ s → now ≡ None → s < length d.begun.logs → d.held.log ≡ None → DeskStands tells d disks books logs journal → DeskStands tells (record d { logs = left; held = record d.held { log = Some s } }) disks books (slice_set logs at now) journal
   log_taken at s now left same none within free stands = record {
     disks_are = stands.disks_are;
     books_are = stands.books_are;
@@ -179,7 +179,7 @@ module _ {D L Q : Type 0} (tells : Tells D L Q) (d : DeskState D L Q) (disks : L
     acted = stands.acted;
   }
 
-  pub log_given : (at s : ℕ) (now : Option (LogState L)) (log : LogState L) (left : List L) → at ≡ s → now ≡ Some log → d.held.log ≡ Some s → LogIsHome tells.log tells.log_faults d.begun.logs d.last.entries s log → DeskStands tells d disks books logs journal → DeskStands tells (record d { logs = left; held = record d.held { log = None } }) disks books (slice_set logs at now) journal
+  pub log_given : (at s : ℕ) (now : Option (LogTurnState L)) (log : LogTurnState L) (left : List L) → at ≡ s → now ≡ Some log → d.held.log ≡ Some s → LogIsHome tells.log tells.log_faults d.begun.logs d.last.entries s log → DeskStands tells d disks books logs journal → DeskStands tells (record d { logs = left; held = record d.held { log = None } }) disks books (slice_set logs at now) journal
   log_given at s now log left same put is is_home stands = record {
     disks_are = stands.disks_are;
     books_are = stands.books_are;
@@ -217,7 +217,7 @@ module _ {D L Q : Type 0} (tells : Tells D L Q) (d : DeskState D L Q) (disks : L
       at_home t is = rw is refl
 
   -- The journal comes home with what the pass placed: all that is not held goes on standing.
-  pub journal_given : (j last : JournalState Q) → last ≡ j → length j.entries + j.reserved ≤ j.capacity → Adds (standing_of tells.disk tells.disk_faults tells.log tells.log_faults d) j.entries → JournalStands tells.posted (without_journal j (standing_of tells.disk tells.disk_faults tells.log tells.log_faults d)) j → DeskStands tells d disks books logs journal → DeskStands tells (record d { last = last; held = record d.held { journal = false } }) disks books logs (Some j)
+  pub journal_given : (j last : JournalState Q) → last ≡ j → length j.entries + j.reserved ≤ j.capacity → AddsEvent (standing_of tells.disk tells.disk_faults tells.log tells.log_faults d) j.entries → JournalStands tells.posted (without_journal j (standing_of tells.disk tells.disk_faults tells.log tells.log_faults d)) j → DeskStands tells d disks books logs journal → DeskStands tells (record d { last = last; held = record d.held { journal = false } }) disks books logs (Some j)
   journal_given j last same fits adds stood stands = subst (λ l. DeskStands tells (record d { last = l; held = record d.held { journal = false } }) disks books logs (Some j)) (sym same) (record {
     disks_are = grow (length d.begun.disks) d.held.device disks (λ s disk there free home. rw adds.grew (record {
       stands = disk_grows tells.disk tells.disk_faults (disk_at_first tells.disk tells.disk_faults (slice_get d.begun.disks s)) adds.added d.last.entries s disk (adds.held (Device s) there free) home.stands;

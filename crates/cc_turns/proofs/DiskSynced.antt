@@ -28,7 +28,7 @@ use Rattle.cc_turns.specs.Disk.{DiskStands, HasGone, all_ended_well}
 use Rattle.cc_turns.specs.RecordPage.{record_number, RecordHasGone}
 use Rattle.cc_turns.proofs.DiskGrows.{disk_grows, has_gone_same}
 use Rattle.cc_turns.proofs.RecordPage.{only_one, record-left, record_gone-same, record_gone-synced}
-use Rattle.cc_turns.specs.Transfers.{end_of, faults_by, synced}
+use Rattle.cc_turns.specs.Transfers.{transfer_end, transfer_faults, synced}
 use Rattle.cc_turns.proofs.Keeping.{both_so}
 use Rattle.cc_turns.proofs.PageWritten.{both_through, faults_by-end}
 
@@ -86,7 +86,7 @@ gone_unsettled h pass how opening now bad gone =
     has_gone_same h (Synced pass how ∷ h) opening now (SameImages-synced pass how h)
     (record { same_crash = λ pages p. crash_pages-synced_bad pages pass how h p bad }) (λ p. refl) gone
 
-both_synced : (h : List Effect) (pass : ℕ) (answered : Result (Unit {0}) Stop) (first old new : Option Disk) → OnOk answered (Both old new Settled) → OnErr answered (new ≡ old) → Both first old (HasGone h) → Both first new (HasGone (Synced pass (end_of answered) ∷ h))
+both_synced : (h : List Effect) (pass : ℕ) (answered : Result (Unit {0}) Stop) (first old new : Option Disk) → OnOk answered (Both old new Settled) → OnErr answered (new ≡ old) → Both first old (HasGone h) → Both first new (HasGone (Synced pass (transfer_end answered) ∷ h))
 both_synced h pass (Ok done) first old new settled same gone =
     both_through (HasGone h) Settled (HasGone (Synced pass end.Good ∷ h)) first old new
     (λ x y z is stood it. gone_settled h pass x y z it stood) gone settled
@@ -105,7 +105,7 @@ record_unsettled past pass s how first old new bad same gone =
     (λ x y is. record_gone-same past (entry.Sync pass s how ∷ past) s x y (record-left (entry.Sync pass s how) past s (rw (eq-eqb s s refl, bad) refl)))
     gone)
 
-record_synced : (past : List Entry) (pass s : ℕ) (answered : Result (Unit {0}) Stop) (first old new : Option Disk) → OnOk answered (Both old new Settled) → OnErr answered (new ≡ old) → Both first old (RecordHasGone past s) → Both first new (RecordHasGone (entry.Sync pass s (end_of answered) ∷ past) s)
+record_synced : (past : List Entry) (pass s : ℕ) (answered : Result (Unit {0}) Stop) (first old new : Option Disk) → OnOk answered (Both old new Settled) → OnErr answered (new ≡ old) → Both first old (RecordHasGone past s) → Both first new (RecordHasGone (entry.Sync pass s (transfer_end answered) ∷ past) s)
 record_synced past pass s (Ok done) first old new settled same gone =
     both_through (RecordHasGone past s) Settled (RecordHasGone (entry.Sync pass s end.Good ∷ past) s) first old new
     (λ x y z is stood it. record_gone-synced past pass s x y z it stood) gone settled
@@ -115,22 +115,22 @@ record_synced past pass s (Err stop.NoMemory) first old new settled same gone =
     record_unsettled past pass s end.NoMemory first old new refl same gone
 
 -- a sync shows a failure of its disk where its end says so
-failures-synced : (pass s : ℕ) (how : End) (past : List Entry) → failures s (entry.Sync pass s how ∷ past) ≡ failures s past + faults_by how
+failures-synced : (pass s : ℕ) (how : End) (past : List Entry) → failures s (entry.Sync pass s how ∷ past) ≡ failures s past + transfer_faults how
 unfolding failures
 failures-synced pass s end.Good past = rw (eq-eqb s s refl) (omega arith)
 failures-synced pass s end.Failed past = rw (eq-eqb s s refl) (omega arith)
 failures-synced pass s end.NoMemory past = rw (eq-eqb s s refl) (omega arith)
 
 -- After a sync the disk stands for it.
-pub DiskStands-synced : {D : Type 0} (told : D → Option Disk) (faults : D → ℕ) (first : DiskAtFirst) (past later : List Entry) (s pass : ℕ) (answered : Result (Unit {0}) Stop) (old new : D) → OnOk answered (Both (told old) (told new) Settled) → OnErr answered (told new ≡ told old) → faults new ≡ faults old + faults_in answered → DiskStands told faults first past s old → is_quiet (Device s) later ≡ true → DiskStands told faults first (synced pass s (end_of answered) later past) s new
+pub DiskStands-synced : {D : Type 0} (told : D → Option Disk) (faults : D → ℕ) (first : DiskAtFirst) (past later : List Entry) (s pass : ℕ) (answered : Result (Unit {0}) Stop) (old new : D) → OnOk answered (Both (told old) (told new) Settled) → OnErr answered (told new ≡ told old) → faults new ≡ faults old + faults_in answered → DiskStands told faults first past s old → is_quiet (Device s) later ≡ true → DiskStands told faults first (synced pass s (transfer_end answered) later past) s new
 DiskStands-synced told faults first past later s pass answered old new settled same counted stands quiet =
     let stood = disk_grows told faults first later past s old quiet stands in
     record {
-      has_gone = rw (history-sync pass s (end_of answered) (later ++ past) s (eq-eqb s s refl))
+      has_gone = rw (history-sync pass s (transfer_end answered) (later ++ past) s (eq-eqb s s refl))
           (both_synced (history (later ++ past) s) pass answered first.told (told old) (told new) settled same stood.has_gone);
       record_has_gone = record_synced (later ++ past) pass s answered first.told (told old) (told new) settled same stood.record_has_gone;
       counted =
           let was = stood.counted in
           let told_by = faults_by-end answered in
-          rw (failures-synced pass s (end_of answered) (later ++ past), counted) (omega (arith, was, told_by));
+          rw (failures-synced pass s (transfer_end answered) (later ++ past), counted) (omega (arith, was, told_by));
     }

@@ -15,7 +15,7 @@ use Rattle.cc_book.specs.Book.{BookState}
 use Rattle.cc_entry.specs.declared.entry.Entry.{Entry}
 use Rattle.cc_effects.specs.Failures.{failures}
 use Rattle.cc_journal.specs.Journal.{JournalState}
-use Rattle.cc_log.specs.Turn.{LogState, Stands}
+use Rattle.cc_log.specs.Turn.{LogTurnState, Stands}
 use Rattle.cc_model.specs.Allowed.{IsAllowed, IsAllowedSoFar}
 use Rattle.cc_model.specs.Covered.{IsCovered}
 use Rattle.cc_model.specs.Good.{IsGood}
@@ -30,7 +30,7 @@ use Rattle.cc_turns.specs.Disk.{HasGone}
 use Rattle.cc_turns.specs.RecordPage.{RecordHasGone}
 use Rattle.cc_turns.specs.Log.{FileStands, log_failures}
 use Rattle.cc_turns.specs.Places.{AreHome, IsRoomFor}
-use Rattle.cc_turns.specs.Desk.{Begun, DeskState, DeskStands, Tells, DiskIsHome, BookIsHome, LogIsHome, DisksEnded, LogsEnded, IsNew, made_from, openings, log_at_first}
+use Rattle.cc_turns.specs.Desk.{Begun, DeskState, DeskStands, Tells, DiskIsHome, BookIsHome, LogIsHome, DeskDisksEnded, DeskLogsEnded, IsNew, made_from, openings, log_at_first}
 use Rattle.cc_turns.proofs.Capacity.{within_none}
 use Rattle.cc_turns.proofs.RecordPage.{record_gone-none}
 use Rattle.cc_turns.proofs.RowSteps.{all_at_home}
@@ -74,7 +74,7 @@ disks_fresh : {D : Type 0} (told : D → Option Disk) (faults : D → ℕ) (disk
 disks_fresh told faults disks = all_at_home _ (length disks) disks refl (disk_fresh told faults disks)
 
 -- a log as the run begins
-pub log_fresh : {L : Type 0} (told : L → Option Log) (faults : L → ℕ) (logs : List L) (handle at : ℕ) (file : L) (log : LogState L) → slice_get logs handle ≡ Some file → at ≡ handle → log ≡ record { handle = at; floor = 0; flushed = 0; file = file } → Stands told (told file) [] log → LogIsHome told faults logs [] handle log
+pub log_fresh : {L : Type 0} (told : L → Option Log) (faults : L → ℕ) (logs : List L) (handle at : ℕ) (file : L) (log : LogTurnState L) → slice_get logs handle ≡ Some file → at ≡ handle → log ≡ record { handle = at; floor = 0; flushed = 0; file = file } → Stands told (told file) [] log → LogIsHome told faults logs [] handle log
 unfolding log_failures
 log_fresh told faults logs handle at file log is same new stands = record {
   handle_is = ap (λ l. l.handle) new ∙ same;
@@ -82,7 +82,7 @@ log_fresh told faults logs handle at file log is same new stands = record {
 }
 
 -- a run as it begins stands
-fresh_stands : {D L Q : Type 0} (tells : Tells D L Q) (begun : Begun D L) (j last : JournalState Q) (disks : List (Option D)) (books : List (Option BookState)) (logs : List (Option (LogState L))) (home : List D) (files : List L) → length begun.disks ≤ 16 → length begun.logs ≤ 4 → last ≡ j → IsNew begun j → disks ≡ map (λ a. Some a) begun.disks → ((opening : ℕ → Option (ℕ → List ℕ)) → AreHome (length begun.disks) None (BookIsHome opening []) books) → AreHome (length begun.logs) None (LogIsHome tells.log tells.log_faults begun.logs []) logs → DeskStands tells (record { begun = begun; disks = home; logs = files; last = last; since = last.entries; pass = 0; held = nothing; device_turns = 0 }) disks books logs (Some j)
+fresh_stands : {D L Q : Type 0} (tells : Tells D L Q) (begun : Begun D L) (j last : JournalState Q) (disks : List (Option D)) (books : List (Option BookState)) (logs : List (Option (LogTurnState L))) (home : List D) (files : List L) → length begun.disks ≤ 16 → length begun.logs ≤ 4 → last ≡ j → IsNew begun j → disks ≡ map (λ a. Some a) begun.disks → ((opening : ℕ → Option (ℕ → List ℕ)) → AreHome (length begun.disks) None (BookIsHome opening []) books) → AreHome (length begun.logs) None (LogIsHome tells.log tells.log_faults begun.logs []) logs → DeskStands tells (record { begun = begun; disks = home; logs = files; last = last; since = last.entries; pass = 0; held = nothing; device_turns = 0 }) disks books logs (Some j)
 fresh_stands {D} {L} {Q} tells begun j last disks books logs home files few_disks few_logs same new moved books_new logs_new = subst (λ l. DeskStands tells (record { begun = begun; disks = home; logs = files; last = l; since = l.entries; pass = 0; held = nothing; device_turns = 0 }) disks books logs (Some j)) (sym same) (record {
   disks_are = rw (new.empty.0, moved) (disks_fresh tells.disk tells.disk_faults begun.disks);
   books_are = rw new.empty.0 (books_new (openings tells.disk tells.disk_faults begun.disks));
@@ -102,34 +102,34 @@ fresh_stands {D} {L} {Q} tells begun j last disks books logs home files few_disk
   acted = record { added = []; grew = refl; own = tt };
 })
 
-pub fresh_desk : {D L Q : Type 0} (tells : Tells D L Q) (setup made : Setup D L) (j last : JournalState Q) (since : List Entry) (disks : List (Option D)) (books : List (Option BookState)) (logs : List (Option (LogState L))) (home : List D) (files : List L) (disk_room : List D) (log_room : List L) (disks_most logs_most : ℕ) → made ≡ setup → last ≡ j → since ≡ last.entries → length setup.disks.items ≤ 16 → length setup.logs.items ≤ 4 → IsNew (made_from setup) j → disks ≡ map (λ a. Some a) setup.disks.items → ((opening : ℕ → Option (ℕ → List ℕ)) → AreHome (length setup.disks.items) None (BookIsHome opening []) books) → AreHome (length setup.logs.items) None (LogIsHome tells.log tells.log_faults setup.logs.items []) logs → IsRoomFor (length setup.disks.items) disk_room disks_most → IsRoomFor (length setup.logs.items) log_room logs_most → DeskStands tells (record { begun = made_from made; disks = home; logs = files; last = last; since = since; pass = 0; held = nothing; device_turns = 0 }) disks books logs (Some j) × IsRoomFor (length made.disks.items) disk_room disks_most × IsRoomFor (length made.logs.items) log_room logs_most
+pub fresh_desk : {D L Q : Type 0} (tells : Tells D L Q) (setup made : Setup D L) (j last : JournalState Q) (since : List Entry) (disks : List (Option D)) (books : List (Option BookState)) (logs : List (Option (LogTurnState L))) (home : List D) (files : List L) (disk_room : List D) (log_room : List L) (disks_most logs_most : ℕ) → made ≡ setup → last ≡ j → since ≡ last.entries → length setup.disks.items ≤ 16 → length setup.logs.items ≤ 4 → IsNew (made_from setup) j → disks ≡ map (λ a. Some a) setup.disks.items → ((opening : ℕ → Option (ℕ → List ℕ)) → AreHome (length setup.disks.items) None (BookIsHome opening []) books) → AreHome (length setup.logs.items) None (LogIsHome tells.log tells.log_faults setup.logs.items []) logs → IsRoomFor (length setup.disks.items) disk_room disks_most → IsRoomFor (length setup.logs.items) log_room logs_most → DeskStands tells (record { begun = made_from made; disks = home; logs = files; last = last; since = since; pass = 0; held = nothing; device_turns = 0 }) disks books logs (Some j) × IsRoomFor (length made.disks.items) disk_room disks_most × IsRoomFor (length made.logs.items) log_room logs_most
 fresh_desk tells setup made j last since disks books logs home files disk_room log_room disks_most logs_most is same begun few_disks few_logs new moved books_new logs_new room log_space =
     subst (λ s. DeskStands tells (record { begun = made_from s; disks = home; logs = files; last = last; since = since; pass = 0; held = nothing; device_turns = 0 }) disks books logs (Some j)
     × IsRoomFor (length s.disks.items) disk_room disks_most × IsRoomFor (length s.logs.items) log_room logs_most) (sym is)
     (rw begun (fresh_stands tells (made_from setup) j last disks books logs home files few_disks few_logs same new moved books_new logs_new), room, log_space)
 
 -- what the disks are that a run gives back
-pub disks_end : {D L Q : Type 0} (told : D → Option Disk) (faults : D → ℕ) (d : DeskState D L Q) (places : List (Option D)) (disks : List D) (held : Option ℕ) → AreHome (length d.begun.disks) held (DiskIsHome told faults d.begun.disks d.last.entries) places → map (λ a. Some a) disks ≡ places → DisksEnded told faults d disks
+pub disks_end : {D L Q : Type 0} (told : D → Option Disk) (faults : D → ℕ) (d : DeskState D L Q) (places : List (Option D)) (disks : List D) (held : Option ℕ) → AreHome (length d.begun.disks) held (DiskIsHome told faults d.begun.disks d.last.entries) places → map (λ a. Some a) disks ≡ places → DeskDisksEnded told faults d disks
 disks_end {D} told faults d places disks held are back = record {
   counted = sym (length-map disks (λ (a : D). Some a)) ∙ ap length back ∙ are.counted;
   each = λ s disk is. are.home s disk (ap (λ ps. slice_get ps s) (sym back) ∙ slice_get-map (λ (a : D). Some a) disks s ∙ ap (option_map (λ (a : D). Some a)) is);
 }
 
 -- what the logs are
-log_at : {L : Type 0} (o : Option (Option (LogState L))) (file : L) → Some (Some file) ≡ option_map (option_map (λ (l : LogState L). l.file)) o → (log : LogState L) × (o ≡ Some (Some log)) × (log.file ≡ file)
+log_at : {L : Type 0} (o : Option (Option (LogTurnState L))) (file : L) → Some (Some file) ≡ option_map (option_map (λ (l : LogTurnState L). l.file)) o → (log : LogTurnState L) × (o ≡ Some (Some log)) × (log.file ≡ file)
 log_at None file is = absurd (cc)
 log_at (Some None) file is = absurd (cc)
 log_at (Some (Some log)) file is = (log, refl, cc)
 
-pub logs_end : {D L Q : Type 0} (told : L → Option Log) (faults : L → ℕ) (d : DeskState D L Q) (places : List (Option (LogState L))) (logs : List L) (held : Option ℕ) → AreHome (length d.begun.logs) held (LogIsHome told faults d.begun.logs d.last.entries) places → map (λ a. Some a) logs ≡ map (option_map (λ (l : LogState L). l.file)) places → LogsEnded told faults d logs
+pub logs_end : {D L Q : Type 0} (told : L → Option Log) (faults : L → ℕ) (d : DeskState D L Q) (places : List (Option (LogTurnState L))) (logs : List L) (held : Option ℕ) → AreHome (length d.begun.logs) held (LogIsHome told faults d.begun.logs d.last.entries) places → map (λ a. Some a) logs ≡ map (option_map (λ (l : LogTurnState L). l.file)) places → DeskLogsEnded told faults d logs
 logs_end {D} {L} {Q} told faults d places logs held are back = record {
-  counted = sym (length-map logs (λ (a : L). Some a)) ∙ ap length back ∙ length-map places (option_map (λ (l : LogState L). l.file)) ∙ are.counted;
+  counted = sym (length-map logs (λ (a : L). Some a)) ∙ ap length back ∙ length-map places (option_map (λ (l : LogTurnState L). l.file)) ∙ are.counted;
   each = λ handle file is. ends handle file (log_at (slice_get places handle) file
       (sym (slice_get-map (λ (a : L). Some a) logs handle ∙ ap (option_map (λ (a : L). Some a)) is) ∙ ap (λ ps. slice_get ps handle) back
-      ∙ slice_get-map (option_map (λ (l : LogState L). l.file)) places handle));
+      ∙ slice_get-map (option_map (λ (l : LogTurnState L). l.file)) places handle));
 }
   where
-    ends : (handle : ℕ) (file : L) → (log : LogState L) × (slice_get places handle ≡ Some (Some log)) × (log.file ≡ file) → FileStands told faults (log_at_first told faults (slice_get d.begun.logs handle)) d.last.entries handle file
+    ends : (handle : ℕ) (file : L) → (log : LogTurnState L) × (slice_get places handle ≡ Some (Some log)) × (log.file ≡ file) → FileStands told faults (log_at_first told faults (slice_get d.begun.logs handle)) d.last.entries handle file
     ends handle file at = (at.0, (are.home handle at.0 at.1).stands, (are.home handle at.0 at.1).handle_is, at.2)
 
 -- nothing happened to any stream

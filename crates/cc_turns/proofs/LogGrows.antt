@@ -7,12 +7,12 @@ use Rattle.cc_traits.specs.Log.{Log}
 use Rattle.cc_model.specs.Turns.{Log as log_turn, needs, is_quiet}
 use Rattle.cc_laws.proofs.LogSteps.{flushed_to-quiet, floor_of-quiet}
 use Rattle.cc_laws.proofs.QuietSteps.{eqb-swapped, is_quiet-first, is_quiet-rest}
-use Rattle.cc_log.specs.Turn.{LogState, appended}
+use Rattle.cc_log.specs.Turn.{LogTurnState, appended}
 use Rattle.cc_turns.specs.Standing.{LogAtFirst}
-use Rattle.cc_turns.specs.Log.{LogStands, log_failures, is_log_failure}
+use Rattle.cc_turns.specs.Log.{LogStands, log_failures, is_failure_of_log}
 
 -- an entry that does not need the log shows no failure of it
-is_log_failure-unneeded : (e : Entry) (log : ℕ) → needs e (log_turn log) ≡ false → is_log_failure log e ≡ false
+is_log_failure-unneeded : (e : Entry) (log : ℕ) → needs e (log_turn log) ≡ false → is_failure_of_log log e ≡ false
 is_log_failure-unneeded (entry.LogFailed pass handle) log unneeded = eqb-swapped log handle unneeded
 is_log_failure-unneeded other log unneeded = refl
 
@@ -38,7 +38,7 @@ appended-quiet (e ∷ later) past log quiet =
     ∙ appended-quiet later past log (is_quiet-rest (log_turn log) e later quiet)
 
 -- entries that do not need the log's turn leave what it stands for
-pub log_grows : {L : Type 0} (told : L → Option Log) (faults : L → ℕ) (first : LogAtFirst) (later past : List Entry) (log : LogState L) → is_quiet (log_turn log.handle) later ≡ true → LogStands told faults first past log → LogStands told faults first (later ++ past) log
+pub log_grows : {L : Type 0} (told : L → Option Log) (faults : L → ℕ) (first : LogAtFirst) (later past : List Entry) (log : LogTurnState L) → is_quiet (log_turn log.handle) later ≡ true → LogStands told faults first past log → LogStands told faults first (later ++ past) log
 log_grows told faults first later past log quiet stands = record {
   stands = record {
     floor_is = stands.stands.floor_is ∙ sym (floor_of-quiet later past log.handle quiet);

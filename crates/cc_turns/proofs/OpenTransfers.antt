@@ -23,7 +23,7 @@ use Rattle.cc_turns.specs.Standing.{DiskAtFirst}
 use Rattle.cc_turns.specs.Disk.{DiskStands, HasGone, all_ended_well, is_transferred}
 use Rattle.cc_turns.specs.RecordPage.{RecordHasGone}
 use Rattle.cc_turns.proofs.RecordPage.{record-left, record_gone-same}
-use Rattle.cc_turns.specs.Transfers.{CanTransfer, IsUnderWay, fill_failed, leaves_transfer}
+use Rattle.cc_turns.specs.Transfers.{CanTransfer, TransferIsUnderWay, fill_failed, leaves_transfer}
 use Rattle.cc_turns.proofs.Keeping.{DiskStands-kept, both_so, kept_by_entries, leaves_disk, leaves_disk-transfer, open_of-left}
 
 -- nothing is under way at the begin
@@ -68,7 +68,7 @@ DiskStands-begun told faults first before pass s page disk at_rest stands = reco
 }
 
 -- A transfer is under way from its begin on.
-pub IsUnderWay-begun : {D : Type 0} (told : D → Option Disk) (faults : D → ℕ) (first : DiskAtFirst) (before : List Entry) (pass s page : ℕ) (bytes : List ℕ) (disk : D) → CanTransfer told faults first before s page bytes disk → IsUnderWay told faults first (entry.WriteBegin pass (record { stream = s; page = page }) ∷ before) pass s page bytes disk
+pub IsUnderWay-begun : {D : Type 0} (told : D → Option Disk) (faults : D → ℕ) (first : DiskAtFirst) (before : List Entry) (pass s page : ℕ) (bytes : List ℕ) (disk : D) → CanTransfer told faults first before s page bytes disk → TransferIsUnderWay told faults first (entry.WriteBegin pass (record { stream = s; page = page }) ∷ before) pass s page bytes disk
 IsUnderWay-begun told faults first before pass s page bytes disk can = record {
   stands = DiskStands-begun told faults first before pass s page disk can.at_rest can.stands;
   before = before;
@@ -79,7 +79,7 @@ IsUnderWay-begun told faults first before pass s page bytes disk can = record {
 }
 
 -- It is the open one of the stream.
-pub IsUnderWay-open : {D : Type 0} (told : D → Option Disk) (faults : D → ℕ) (first : DiskAtFirst) (past : List Entry) (pass s page : ℕ) (bytes : List ℕ) (disk : D) → IsUnderWay told faults first past pass s page bytes disk → open_of (history past s) ≡ Some (record { pass = pass; page = page })
+pub IsUnderWay-open : {D : Type 0} (told : D → Option Disk) (faults : D → ℕ) (first : DiskAtFirst) (past : List Entry) (pass s page : ℕ) (bytes : List ℕ) (disk : D) → TransferIsUnderWay told faults first past pass s page bytes disk → open_of (history past s) ≡ Some (record { pass = pass; page = page })
 IsUnderWay-open told faults first past pass s page bytes disk way =
     let begin : Entry = entry.WriteBegin pass (record { stream = s; page = page }) in
     ap (λ (entries : List Entry). open_of (history entries s)) way.began
@@ -88,7 +88,7 @@ IsUnderWay-open told faults first past pass s page bytes disk way =
     ∙ open_of-began pass page (history way.before s)))
 
 -- an entry more that leaves it, for which the disk stands
-more : {D : Type 0} (told : D → Option Disk) (faults : D → ℕ) (first : DiskAtFirst) (e : Entry) (past : List Entry) (pass s page : ℕ) (bytes : List ℕ) (disk : D) → leaves_transfer s e ≡ true → DiskStands told faults first (e ∷ past) s disk → IsUnderWay told faults first past pass s page bytes disk → IsUnderWay told faults first (e ∷ past) pass s page bytes disk
+more : {D : Type 0} (told : D → Option Disk) (faults : D → ℕ) (first : DiskAtFirst) (e : Entry) (past : List Entry) (pass s page : ℕ) (bytes : List ℕ) (disk : D) → leaves_transfer s e ≡ true → DiskStands told faults first (e ∷ past) s disk → TransferIsUnderWay told faults first past pass s page bytes disk → TransferIsUnderWay told faults first (e ∷ past) pass s page bytes disk
 more told faults first e past pass s page bytes disk left stands way = record {
   stands = stands;
   before = way.before;
@@ -99,11 +99,11 @@ more told faults first e past pass s page bytes disk left stands way = record {
 }
 
 -- It stays under way with an entry that touches neither the disk's images nor its failures, such as that of any call,
-pub IsUnderWay-kept : {D : Type 0} (told : D → Option Disk) (faults : D → ℕ) (first : DiskAtFirst) (e : Entry) (past : List Entry) (pass s page : ℕ) (bytes : List ℕ) (disk : D) → leaves_disk s e ≡ true → IsUnderWay told faults first past pass s page bytes disk → IsUnderWay told faults first (e ∷ past) pass s page bytes disk
+pub IsUnderWay-kept : {D : Type 0} (told : D → Option Disk) (faults : D → ℕ) (first : DiskAtFirst) (e : Entry) (past : List Entry) (pass s page : ℕ) (bytes : List ℕ) (disk : D) → leaves_disk s e ≡ true → TransferIsUnderWay told faults first past pass s page bytes disk → TransferIsUnderWay told faults first (e ∷ past) pass s page bytes disk
 IsUnderWay-kept told faults first e past pass s page bytes disk left way =
     more told faults first e past pass s page bytes disk (leaves_disk-transfer e s left) (DiskStands-kept told faults first e past s disk left way.stands) way
 
-pub IsUnderWay-called : {D : Type 0} (told : D → Option Disk) (faults : D → ℕ) (first : DiskAtFirst) (me nth : ℕ) (stream : Option ℕ) (call : Call) (ended : Outcome) (past : List Entry) (pass s page : ℕ) (bytes : List ℕ) (disk : D) → IsUnderWay told faults first past pass s page bytes disk → IsUnderWay told faults first (entry.Call me nth stream call ended ∷ past) pass s page bytes disk
+pub IsUnderWay-called : {D : Type 0} (told : D → Option Disk) (faults : D → ℕ) (first : DiskAtFirst) (me nth : ℕ) (stream : Option ℕ) (call : Call) (ended : Outcome) (past : List Entry) (pass s page : ℕ) (bytes : List ℕ) (disk : D) → TransferIsUnderWay told faults first past pass s page bytes disk → TransferIsUnderWay told faults first (entry.Call me nth stream call ended ∷ past) pass s page bytes disk
 IsUnderWay-called told faults first me nth stream call ended past pass s page bytes disk way =
     IsUnderWay-kept told faults first (entry.Call me nth stream call ended) past pass s page bytes disk refl way
 
@@ -117,7 +117,7 @@ leaves_disk-unneeded (entry.Record pass stream size valid how) s unneeded = rw (
 leaves_disk-unneeded (entry.RecordFailed pass stream) s unneeded = rw (eqb-swapped s stream unneeded) refl
 leaves_disk-unneeded other s unneeded = refl
 
-pub IsUnderWay-grown : {D : Type 0} (told : D → Option Disk) (faults : D → ℕ) (first : DiskAtFirst) (added past : List Entry) (pass s page : ℕ) (bytes : List ℕ) (disk : D) → is_quiet (Device s) added ≡ true → IsUnderWay told faults first past pass s page bytes disk → IsUnderWay told faults first (added ++ past) pass s page bytes disk
+pub IsUnderWay-grown : {D : Type 0} (told : D → Option Disk) (faults : D → ℕ) (first : DiskAtFirst) (added past : List Entry) (pass s page : ℕ) (bytes : List ℕ) (disk : D) → is_quiet (Device s) added ≡ true → TransferIsUnderWay told faults first past pass s page bytes disk → TransferIsUnderWay told faults first (added ++ past) pass s page bytes disk
 IsUnderWay-grown told faults first [] past pass s page bytes disk quiet way = way
 IsUnderWay-grown told faults first (e ∷ added) past pass s page bytes disk quiet way =
     IsUnderWay-kept told faults first e (added ++ past) pass s page bytes disk
@@ -129,8 +129,8 @@ IsUnderWay-grown told faults first (e ∷ added) past pass s page bytes disk qui
 module _ {D : Type 0} (told : D → Option Disk) (faults : D → ℕ) (first : DiskAtFirst) (past : List Entry) (pass s page : ℕ)
     (bytes : List ℕ) (old new : D)
     (kept : (first : DiskAtFirst) (past : List Entry) (s : ℕ) → DiskStands told faults first past s old → DiskStands told faults first past s new)
-    (way : IsUnderWay told faults first past pass s page bytes old) where
-  pub IsUnderWay-read : IsUnderWay told faults first past pass s page bytes new
+    (way : TransferIsUnderWay told faults first past pass s page bytes old) where
+  pub IsUnderWay-read : TransferIsUnderWay told faults first past pass s page bytes new
   IsUnderWay-read = record {
     stands = kept first past s way.stands;
     before = way.before;
@@ -146,6 +146,6 @@ module _ {D : Type 0} (told : D → Option Disk) (faults : D → ℕ) (first : D
     };
   }
 
-  pub IsUnderWay-unread : (me p : ℕ) → ((first : DiskAtFirst) (past : List Entry) (s pass : ℕ) → DiskStands told faults first past s old → DiskStands told faults first (fill_failed pass s p ∷ past) s new) → IsUnderWay told faults first (fill_failed me s p ∷ past) pass s page bytes new
+  pub IsUnderWay-unread : (me p : ℕ) → ((first : DiskAtFirst) (past : List Entry) (s pass : ℕ) → DiskStands told faults first past s old → DiskStands told faults first (fill_failed pass s p ∷ past) s new) → TransferIsUnderWay told faults first (fill_failed me s p ∷ past) pass s page bytes new
   IsUnderWay-unread me p failed =
       more told faults first (fill_failed me s p) past pass s page bytes new refl (failed first past s me way.stands) IsUnderWay-read

@@ -17,7 +17,7 @@ use Rattle.cc_traits.specs.Stop.{faults_in, OnFailed, OnNoMemory}
 use Rattle.cc_traits.specs.Told.{Both}
 use Rattle.cc_traits.specs.declared.stop.Stop.{Stop}
 use Rattle.cc_traits.specs.declared.stop.Stop.TheVariants as stop
-use Rattle.cc_content.specs.Contents.{IsByteOf}
+use Rattle.cc_content.specs.Contents.{IsByteOfContents}
 use Rattle.cc_effects.specs.Failures.{failures}
 use Rattle.cc_laws.proofs.HistorySteps.{history-write_begin, history-write_end}
 use Rattle.cc_laws.proofs.ImageSteps.{begun-began_page, image-began, image-ended_good, image-ended_bad, image-ended_other, crash_pages-began_page, crash_pages-began_other, crash_pages-ended}
@@ -28,7 +28,7 @@ use Rattle.cc_model.specs.Sizes.{ended_ok}
 use Rattle.cc_turns.specs.Standing.{DiskAtFirst}
 use Rattle.cc_turns.specs.Disk.{DiskStands, HasGone, all_ended_well, opening_of}
 use Rattle.cc_turns.specs.RecordPage.{record_number, RecordHasGone}
-use Rattle.cc_turns.specs.Transfers.{IsUnderWay, end_of, faults_by, leaves_transfer}
+use Rattle.cc_turns.specs.Transfers.{TransferIsUnderWay, transfer_end, transfer_faults, leaves_transfer}
 use Rattle.cc_turns.proofs.Keeping.{both_so, kept_by_entries, image-left, crash_pages-left, all_ended_well-left, begun-left}
 use Rattle.cc_turns.proofs.RecordPage.{record-left, record_gone-same, record_gone-wrote, record_gone-failed}
 use Rattle.cc_turns.proofs.OpenTransfers.{all_ended_well-began, is_transferred-none}
@@ -238,7 +238,7 @@ both_through P Q R (Some first) None new so gone wrote = absurd gone
 both_through P Q R (Some first) (Some old) None so gone wrote = absurd wrote
 both_through P Q R (Some first) (Some old) (Some new) so gone wrote = so first old new refl gone wrote
 
-both_ended : (h g : List Effect) (pass page : ℕ) (bytes : List ℕ) (written : Result (Unit {0}) Stop) (first old new : Option Disk) → ((opening now : Disk) → first ≡ Some opening → HasGone h opening now → UnderWay h g page bytes opening now) → OnOk written (Both old new (Wrote page bytes)) → OnFailed written (Both old new (WriteFailed page bytes)) → OnNoMemory written (new ≡ old) → Both first old (HasGone h) → Both first new (HasGone (Ended pass page (end_of written) ∷ g))
+both_ended : (h g : List Effect) (pass page : ℕ) (bytes : List ℕ) (written : Result (Unit {0}) Stop) (first old new : Option Disk) → ((opening now : Disk) → first ≡ Some opening → HasGone h opening now → UnderWay h g page bytes opening now) → OnOk written (Both old new (Wrote page bytes)) → OnFailed written (Both old new (WriteFailed page bytes)) → OnNoMemory written (new ≡ old) → Both first old (HasGone h) → Both first new (HasGone (Ended pass page (transfer_end written) ∷ g))
 both_ended h g pass page bytes (Ok done) first old new way wrote failed no_memory gone =
     both_through (HasGone h) (Wrote page bytes) (HasGone (Ended pass page end.Good ∷ g)) first old new
     (λ x y z is stood it. gone_wrote (way x y is stood) it pass) gone wrote
@@ -261,37 +261,37 @@ record_ended past s page bytes (Err stop.NoMemory) first old new numbered wrote 
     subst (λ now. Both first now (RecordHasGone past s)) (sym no_memory) gone
 
 -- the end of a transfer shows a failure of its disk where it says so
-failures-ended : (pass s page : ℕ) (how : End) (past : List Entry) → failures s (entry.WriteEnd pass (record { stream = s; page = page }) how ∷ past) ≡ failures s past + faults_by how
+failures-ended : (pass s page : ℕ) (how : End) (past : List Entry) → failures s (entry.WriteEnd pass (record { stream = s; page = page }) how ∷ past) ≡ failures s past + transfer_faults how
 unfolding failures
 failures-ended pass s page end.Good past = rw (eq-eqb s s refl) (omega arith)
 failures-ended pass s page end.Failed past = rw (eq-eqb s s refl) (omega arith)
 failures-ended pass s page end.NoMemory past = rw (eq-eqb s s refl) (omega arith)
 
-pub faults_by-end : (written : Result (Unit {0}) Stop) → faults_in written ≡ faults_by (end_of written)
+pub faults_by-end : (written : Result (Unit {0}) Stop) → faults_in written ≡ transfer_faults (transfer_end written)
 faults_by-end (Ok done) = refl
 faults_by-end (Err stop.Failed) = refl
 faults_by-end (Err stop.NoMemory) = refl
 
 -- With the end of a transfer that was under way the disk stands for the past again.
-pub DiskStands-ended : {D : Type 0} (told : D → Option Disk) (faults : D → ℕ) (first : DiskAtFirst) (past : List Entry) (pass s page : ℕ) (bytes : List ℕ) (written : Result (Unit {0}) Stop) (old new : D) → OnOk written (Both (told old) (told new) (Wrote page bytes)) → OnFailed written (Both (told old) (told new) (WriteFailed page bytes)) → OnNoMemory written (told new ≡ told old) → faults new ≡ faults old + faults_in written → IsUnderWay told faults first past pass s page bytes old → DiskStands told faults first (entry.WriteEnd pass (record { stream = s; page = page }) (end_of written) ∷ past) s new
+pub DiskStands-ended : {D : Type 0} (told : D → Option Disk) (faults : D → ℕ) (first : DiskAtFirst) (past : List Entry) (pass s page : ℕ) (bytes : List ℕ) (written : Result (Unit {0}) Stop) (old new : D) → OnOk written (Both (told old) (told new) (Wrote page bytes)) → OnFailed written (Both (told old) (told new) (WriteFailed page bytes)) → OnNoMemory written (told new ≡ told old) → faults new ≡ faults old + faults_in written → TransferIsUnderWay told faults first past pass s page bytes old → DiskStands told faults first (entry.WriteEnd pass (record { stream = s; page = page }) (transfer_end written) ∷ past) s new
 DiskStands-ended told faults first past pass s page bytes written old new wrote failed no_memory counted way =
     let h = history way.before s in
     record {
-      has_gone = rw (history-write_end pass (record { stream = s; page = page }) (end_of written) past s (eq-eqb s s refl))
+      has_gone = rw (history-write_end pass (record { stream = s; page = page }) (transfer_end written) past s (eq-eqb s s refl))
           (both_ended h (history past s) pass page bytes written first.told (told old) (told new)
           (λ opening now is stood.
           subst (λ (entries : List Entry). UnderWay h (history entries s) page bytes opening now) (sym way.began)
           (under_way way.before way.later s pass page bytes opening now way.left stood way.can.at_rest
           (whole_page (page_of opening) h page bytes way.can.whole
-          (λ i low. subst (λ o. IsByteOf (opening_of o) h (4096 * page + i) (slice_index bytes i)) is (way.can.bytes_are i low)))))
+          (λ i low. subst (λ o. IsByteOfContents (opening_of o) h (4096 * page + i) (slice_index bytes i)) is (way.can.bytes_are i low)))))
           wrote failed no_memory way.can.stands.has_gone);
       record_has_gone =
-          let ended : Entry = entry.WriteEnd pass (record { stream = s; page = page }) (end_of written) in
+          let ended : Entry = entry.WriteEnd pass (record { stream = s; page = page }) (transfer_end written) in
           both_so (RecordHasGone past s) (RecordHasGone (ended ∷ past) s) first.told (told new)
           (λ opening now is. record_gone-same past (ended ∷ past) s opening now (record-left ended past s refl))
           (record_ended past s page bytes written first.told (told old) (told new) way.can.numbered wrote failed no_memory way.stands.record_has_gone);
       counted =
           let was = way.stands.counted in
           let same = faults_by-end written in
-          rw (failures-ended pass s page (end_of written) past, counted) (omega (arith, was, same));
+          rw (failures-ended pass s page (transfer_end written) past, counted) (omega (arith, was, same));
     }

@@ -10,7 +10,7 @@ use Rattle.std.proofs.lemmas.Option.{slice_get-map}
 use Rattle.cc_entry.specs.declared.entry.Entry.{Entry}
 use Rattle.cc_book.specs.Book.{BookState}
 use Rattle.cc_journal.specs.Journal.{JournalState}
-use Rattle.cc_log.specs.Turn.{LogState}
+use Rattle.cc_log.specs.Turn.{LogTurnState}
 use Rattle.cc_model.specs.Room.{reserved_in}
 use Rattle.cc_model.specs.Turns.{Turn, Device, Book, Log, Journal}
 use Rattle.cc_turns.specs.Standing.{nothing}
@@ -192,10 +192,10 @@ device disk = place.Device disk
 abbrev pub book : {D L Q : Type 0} → BookState → Place D L Q
 book b = place.Book b
 
-abbrev pub log : {D L Q : Type 0} → LogState L → Place D L Q
+abbrev pub log : {D L Q : Type 0} → LogTurnState L → Place D L Q
 log l = place.Log l
 
-module _ {D L Q : Type 0} (tells : Tells D L Q) (d : DeskState D L Q) (disks : List (Option D)) (books : List (Option BookState)) (logs : List (Option (LogState L))) (journal : Option (JournalState Q)) (j : JournalState Q) (slots : List (Option (Place D L Q))) where
+module _ {D L Q : Type 0} (tells : Tells D L Q) (d : DeskState D L Q) (disks : List (Option D)) (books : List (Option BookState)) (logs : List (Option (LogTurnState L))) (journal : Option (JournalState Q)) (j : JournalState Q) (slots : List (Option (Place D L Q))) where
   -- the slots of the disks, of the books behind them, and of the logs behind those
   abbrev device_slots : List (Option (Place D L Q))
   device_slots = map (option_map device) disks
@@ -337,7 +337,7 @@ abbrev pub book_of : {D L Q : Type 0} → Place D L Q → Option BookState
 book_of (place.Book b) = Some b
 book_of other = None
 
-abbrev pub log_of : {D L Q : Type 0} → Place D L Q → Option (LogState L)
+abbrev pub log_of : {D L Q : Type 0} → Place D L Q → Option (LogTurnState L)
 log_of (place.Log l) = Some l
 log_of other = None
 
@@ -346,7 +346,7 @@ journal_of (place.Journal j) = Some j
 journal_of other = None
 
 -- the slots of so many disks, books and logs, and of a journal behind them
-module _ {D L Q : Type 0} (disks : List D) (books : List BookState) (logs : List (LogState L)) (j : JournalState Q) where
+module _ {D L Q : Type 0} (disks : List D) (books : List BookState) (logs : List (LogTurnState L)) (j : JournalState Q) where
   abbrev slots_for : List (Option (Place D L Q))
   slots_for = map (λ disk. Some (device disk)) disks ++ (map (λ b. Some (book b)) books ++ (map (λ l. Some (log l)) logs ++ Some (place.Journal j) ∷ []))
 
@@ -424,10 +424,10 @@ module _ {D L Q : Type 0} (tells : Tells D L Q) (begun : Begun D L) (past : List
       go (place.Log l) there fits = absurd fits
       go (place.Journal j) there fits = absurd fits
 
-  log_in : (handle : ℕ) → IsInSlot tells begun past under_way slots (Log handle) → (l : LogState L) × ((slice_get slots (2 * length begun.disks + handle) ≡ Some (Some (log l))) × LogIsHome tells.log tells.log_faults begun.logs past handle l)
+  log_in : (handle : ℕ) → IsInSlot tells begun past under_way slots (Log handle) → (l : LogTurnState L) × ((slice_get slots (2 * length begun.disks + handle) ≡ Some (Some (log l))) × LogIsHome tells.log tells.log_faults begun.logs past handle l)
   log_in handle is = go is.place is.there is.fits
     where
-      go : (p : Place D L Q) → slice_get slots (2 * length begun.disks + handle) ≡ Some (Some p) → Fits tells begun past under_way (Log handle) p → (l : LogState L) × ((slice_get slots (2 * length begun.disks + handle) ≡ Some (Some (log l))) × LogIsHome tells.log tells.log_faults begun.logs past handle l)
+      go : (p : Place D L Q) → slice_get slots (2 * length begun.disks + handle) ≡ Some (Some p) → Fits tells begun past under_way (Log handle) p → (l : LogTurnState L) × ((slice_get slots (2 * length begun.disks + handle) ≡ Some (Some (log l))) × LogIsHome tells.log tells.log_faults begun.logs past handle l)
       go (place.Device disk) there fits = absurd fits
       go (place.Book b) there fits = absurd fits
       go (place.Log l) there fits = (l, (there, fits))
@@ -504,7 +504,7 @@ one_there : {A : Type 0} (a b : A) → Some a ∷ [] ≡ Some b ∷ [] → a ≡
 one_there a b is = cc
 
 -- A desk that is put together of what is at home stands, of which no turn is held.
-pub put_together : {D L Q : Type 0} (tells : Tells D L Q) (d : DeskState D L Q) (begun : Begun D L) (past : List Entry) (under_way : ℕ) (slots : List (Option (Place D L Q))) (disks : List (Option D)) (books : List (Option BookState)) (logs : List (Option (LogState L))) (j : JournalState Q) → AreInSlots tells begun past under_way slots → AreSorted tells begun past under_way slots → d.begun ≡ begun → d.last ≡ j → d.since ≡ j.entries → d.held ≡ nothing → disks ≡ picked device_of slots → books ≡ picked book_of slots → logs ≡ picked log_of slots → picked journal_of slots ≡ Some j ∷ [] → DeskStands tells d disks books logs (Some j)
+pub put_together : {D L Q : Type 0} (tells : Tells D L Q) (d : DeskState D L Q) (begun : Begun D L) (past : List Entry) (under_way : ℕ) (slots : List (Option (Place D L Q))) (disks : List (Option D)) (books : List (Option BookState)) (logs : List (Option (LogTurnState L))) (j : JournalState Q) → AreInSlots tells begun past under_way slots → AreSorted tells begun past under_way slots → d.begun ≡ begun → d.last ≡ j → d.since ≡ j.entries → d.held ≡ nothing → disks ≡ picked device_of slots → books ≡ picked book_of slots → logs ≡ picked log_of slots → picked journal_of slots ≡ Some j ∷ [] → DeskStands tells d disks books logs (Some j)
 put_together tells d begun past under_way slots disks books logs j are sorted begun_is last_is since_is held_is disks_are books_are logs_are one =
     let same : j ≡ sorted.journal = one_there j sorted.journal (sym one ∙ sorted.one) in
     let entries : d.last.entries ≡ past = ap (λ l. l.entries) (last_is ∙ same) ∙ sorted.home.entries_are in

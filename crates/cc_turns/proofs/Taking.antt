@@ -6,7 +6,7 @@ use Rattle.cc_entry.specs.declared.entry.Entry.{Entry}
 use Rattle.cc_traits.specs.Disk.{Disk}
 use Rattle.cc_traits.specs.Log.{Log}
 use Rattle.cc_book.specs.Book.{BookState, BookStands}
-use Rattle.cc_log.specs.Turn.{LogState}
+use Rattle.cc_log.specs.Turn.{LogTurnState}
 use Rattle.cc_model.specs.History.{history}
 use Rattle.cc_model.specs.Images.{open_of}
 use Rattle.cc_model.specs.Turns.{Device, Book, Log as log_turn}
@@ -14,7 +14,7 @@ use Rattle.cc_laws.proofs.TurnSteps.{is_quiet-none}
 use Rattle.cc_turns.specs.Standing.{Standing, is_the}
 use Rattle.cc_turns.specs.Disk.{DiskStands}
 use Rattle.cc_turns.specs.Log.{LogStands}
-use Rattle.cc_turns.specs.Takes.{Takes, Adds}
+use Rattle.cc_turns.specs.Takes.{Takes, AddsEvent}
 use Rattle.cc_turns.proofs.BookGrows.{book_grows}
 use Rattle.cc_turns.proofs.DiskGrows.{disk_grows, open_of-quiet}
 use Rattle.cc_turns.proofs.LogGrows.{log_grows}
@@ -50,11 +50,11 @@ transfer_kept now w v s takes held =
     ∙ open_of-quiet takes.grows.later w.seen s (takes.grows.quiet (Device s) (is_held s w.held.device held))
 
 -- so does a log
-pub log_kept : {L : Type 0} (told : L → Option Log) (faults : L → ℕ) (now : Standing → Standing) (w v : Standing) (handle : ℕ) (log : LogState L) → Takes now w v → (now w).logs ≡ w.logs → w.held.log ≡ Some handle → log.handle ≡ handle → LogStands told faults (w.logs handle) w.seen log → LogStands told faults (v.logs handle) v.seen log
+pub log_kept : {L : Type 0} (told : L → Option Log) (faults : L → ℕ) (now : Standing → Standing) (w v : Standing) (handle : ℕ) (log : LogTurnState L) → Takes now w v → (now w).logs ≡ w.logs → w.held.log ≡ Some handle → log.handle ≡ handle → LogStands told faults (w.logs handle) w.seen log → LogStands told faults (v.logs handle) v.seen log
 log_kept told faults now w v handle log takes same held is stands =
     rw (logs_kept now w v handle takes same, takes.grows.grew)
     (log_grows told faults (w.logs handle) takes.grows.later w.seen log (rw is (takes.grows.quiet (log_turn handle) (is_held handle w.held.log held))) stands)
 
 -- a journal with no entry more than the pass has seen may be given
-pub adds_nothing : (w : Standing) (entries : List Entry) → entries ≡ w.seen → Adds w entries
+pub adds_nothing : (w : Standing) (entries : List Entry) → entries ≡ w.seen → AddsEvent w entries
 adds_nothing w entries same = record { added = []; grew = same; event = tt; held = λ t there free. is_quiet-none t; own = tt }

@@ -7,19 +7,20 @@ use Rattle.cc_traits.specs.Disk.{Disk}
 use Rattle.cc_traits.specs.Log.{Log}
 use Rattle.cc_journal.specs.Capacity.{IsWithinCapacity}
 use Rattle.cc_journal.specs.Journal.{JournalState}
-use Rattle.cc_log.specs.Turn.{LogState}
+use Rattle.cc_log.specs.Turn.{LogTurnState}
 use Rattle.cc_model.specs.History.{history}
 use Rattle.cc_model.specs.Images.{open_of}
 use Rattle.cc_model.specs.Room.{reserved_in}
+use Rattle.cc_traits.specs.Setup.{capacity_of}
 use Rattle.cc_traits.specs.declared.setup.Setup.{Setup}
 use Rattle.cc_entry.specs.declared.entry.Entry.{Entry}
-use Rattle.cc_turns.specs.Standing.{Standing, Held, DiskAtFirst, LogAtFirst, nothing}
+use Rattle.cc_turns.specs.Standing.{Standing, TurnsHeld, DiskAtFirst, LogAtFirst, nothing}
 use Rattle.cc_turns.specs.Disk.{DiskStands, opening_of}
 use Rattle.cc_turns.specs.Log.{LogStands, FileStands}
 use Rattle.cc_turns.specs.Journal.{JournalStands}
 use Rattle.cc_turns.specs.Takes.{HasActed}
 use Rattle.cc_turns.specs.Places.{AreHome, IsRoomFor, at_home}
-use Rattle.cc_turns.specs.declared.desk.Held.{Held as HeldTurns}
+use Rattle.cc_turns.specs.declared.desk.TurnsOut.{TurnsOut as HeldTurns}
 use Rattle.cc_turns.specs.declared.desk.Rows.{Rows}
 
 -- what a run was made from
@@ -33,7 +34,7 @@ abbrev pub made_from : {D L : Type 0} → Setup D L → Begun D L
 made_from setup = record {
   disks = setup.disks.items;
   logs = setup.logs.items;
-  capacity = setup.journal;
+  capacity = capacity_of setup.journal;
   threshold = setup.threshold;
 }
 
@@ -65,13 +66,13 @@ pub record DeskState (D L Q : Type 0) : Type 0 where
   pub last : JournalState Q
   pub since : List Entry
   pub pass : ℕ
-  pub held : Held
+  pub held : TurnsHeld
   pub device_turns : ℕ
 
 -- the desk of these fields
-abbrev pub state_of : {D L Q : Type 0} → Setup D L → List (Option D) → List (Option (LogState L)) → JournalState Q
+abbrev pub desk_state : {D L Q : Type 0} → Setup D L → List (Option D) → List (Option (LogTurnState L)) → JournalState Q
     → List Entry → ℕ → HeldTurns → ℕ → DeskState D L Q
-state_of begun disks logs last since pass held device_turns = record {
+desk_state begun disks logs last since pass held device_turns = record {
   begun = made_from begun;
   disks = at_home disks;
   logs = map (λ log. log.file) (at_home logs);
@@ -119,7 +120,7 @@ pub record BookIsHome (opening : ℕ → Option (ℕ → List ℕ)) (past : List
 
 -- A log at home stands for its handle.
 pub record LogIsHome {L : Type 0} (told : L → Option Log) (faults : L → ℕ) (logs : List L) (past : List Entry)
-    (handle : ℕ) (log : LogState L) : Type 0 where
+    (handle : ℕ) (log : LogTurnState L) : Type 0 where
   pub handle_is : log.handle ≡ handle
   pub stands : LogStands told faults (log_at_first told faults (slice_get logs handle)) past log
 
@@ -144,7 +145,7 @@ tells_of told faults log_told log_faults posted = record {
 -- home; the journal is at home itself, or held; it was always within the capacity; and what was placed since the desk
 -- acts as its pass is that pass's.
 pub record DeskStands {D L Q : Type 0} (tells : Tells D L Q) (d : DeskState D L Q) (disks : List (Option D))
-    (books : List (Option BookState)) (logs : List (Option (LogState L))) (journal : Option (JournalState Q)) : Type 0 where
+    (books : List (Option BookState)) (logs : List (Option (LogTurnState L))) (journal : Option (JournalState Q)) : Type 0 where
   pub disks_are : AreHome (length d.begun.disks) d.held.device
       (DiskIsHome tells.disk tells.disk_faults d.begun.disks d.last.entries) disks
   pub books_are : AreHome (length d.begun.disks) d.held.book
@@ -160,14 +161,14 @@ pub record DeskStands {D L Q : Type 0} (tells : Tells D L Q) (d : DeskState D L 
 
 -- Rows have room for the disks and logs that a run is made from, the book of each stream is at home, and the journal is
 -- empty.
-pub record AreRowsFor {D L Q : Type 0} (begun : Begun D L) (rows : Rows D L Q) : Type 0 where
+pub record AreDeskRowsFor {D L Q : Type 0} (begun : Begun D L) (rows : Rows D L Q) : Type 0 where
   pub disks : IsRoomFor (length begun.disks) rows.disks.items (vec_capacity rows.disks)
   pub books : (opening : ℕ → Option (ℕ → List ℕ)) → AreHome (length begun.disks) None (BookIsHome opening []) rows.books.items
   pub logs : IsRoomFor (length begun.logs) rows.logs.items (vec_capacity rows.logs)
   pub journal : IsNew begun rows.journal
 
 -- A run as it begins: made from this, and nothing was done yet.
-pub record IsFresh {D L Q : Type 0} (begun : Begun D L) (d : DeskState D L Q) : Type 0 where
+pub record DeskIsFresh {D L Q : Type 0} (begun : Begun D L) (d : DeskState D L Q) : Type 0 where
   pub begun_is : d.begun ≡ begun
   pub journal_is : IsNew begun d.last
   pub since_is : d.since ≡ []
@@ -176,12 +177,12 @@ pub record IsFresh {D L Q : Type 0} (begun : Begun D L) (d : DeskState D L Q) : 
   pub turns_are : d.device_turns ≡ 0
 
 -- Each of the disks that a run gives back stands for the whole journal, and has no transfer under way.
-pub record DisksEnded {D L Q : Type 0} (told : D → Option Disk) (faults : D → ℕ) (d : DeskState D L Q) (disks : List D) : Type 0 where
+pub record DeskDisksEnded {D L Q : Type 0} (told : D → Option Disk) (faults : D → ℕ) (d : DeskState D L Q) (disks : List D) : Type 0 where
   pub counted : length disks ≡ length d.begun.disks
   pub each : (s : ℕ) (disk : D) → slice_get disks s ≡ Some disk → DiskIsHome told faults d.begun.disks d.last.entries s disk
 
 -- So does each of the logs.
-pub record LogsEnded {D L Q : Type 0} (told : L → Option Log) (faults : L → ℕ) (d : DeskState D L Q) (logs : List L) : Type 0 where
+pub record DeskLogsEnded {D L Q : Type 0} (told : L → Option Log) (faults : L → ℕ) (d : DeskState D L Q) (logs : List L) : Type 0 where
   pub counted : length logs ≡ length d.begun.logs
   pub each : (handle : ℕ) (file : L) → slice_get logs handle ≡ Some file →
       FileStands told faults (log_at_first told faults (slice_get d.begun.logs handle)) d.last.entries handle file

@@ -10,14 +10,14 @@ use Rattle.cc_model.specs.Turns.{Turn, Device, Book, Log as log_turn, Journal}
 
 -- The turns that a pass holds: of a stream's disk, of a stream's book, of a log, and of the journal. At most one
 -- of each kind is held.
-pub record Held : Type 0 where
+pub record TurnsHeld : Type 0 where
   pub device : Option ℕ
   pub book : Option ℕ
   pub log : Option ℕ
   pub journal : Bool
 
 -- no turn
-abbrev pub nothing : Held
+abbrev pub nothing : TurnsHeld
 nothing = record { device = None; book = None; log = None; journal = false }
 
 -- whether a number is the one that may be there
@@ -26,7 +26,7 @@ is_the n None = false
 is_the n (Some m) = m == n
 
 -- whether a turn is held
-abbrev pub holds : Held → Turn → Bool
+abbrev pub holds : TurnsHeld → Turn → Bool
 holds held (Device stream) = is_the stream held.device
 holds held (Book stream) = is_the stream held.book
 holds held (log_turn handle) = is_the handle held.log
@@ -55,7 +55,7 @@ pub record Standing : Type 0 where
   pub number : ℕ
   pub seen : List Entry
   pub since : List Entry
-  pub held : Held
+  pub held : TurnsHeld
   pub in_flight : ℕ
   pub others : ℕ
   pub most_others : ℕ

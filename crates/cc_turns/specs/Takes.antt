@@ -79,7 +79,7 @@ IsThere streams (Log handle) = Unit {0}
 IsThere streams Journal = Unit {0}
 
 -- The pass placed one event, of entries of its own, none of which needs a turn that there is and that it does not hold.
-pub record Adds (w : Standing) (seen : List Entry) : Type 0 where
+pub record AddsEvent (w : Standing) (seen : List Entry) : Type 0 where
   pub added : List Entry
   pub grew : seen ≡ added ++ w.seen
   pub event : IsOneEvent added

@@ -10,7 +10,7 @@ use Rattle.cc_entry.specs.declared.entry.End.TheVariants as how
 use Rattle.cc_traits.specs.Disk.{Disk}
 use Rattle.cc_traits.specs.declared.stop.Stop.{Stop}
 use Rattle.cc_traits.specs.declared.stop.Stop.TheVariants as stop
-use Rattle.cc_content.specs.Contents.{IsByteOf}
+use Rattle.cc_content.specs.Contents.{IsByteOfContents}
 use Rattle.cc_model.specs.Good.{IsGoodSoFar}
 use Rattle.cc_model.specs.History.{history}
 use Rattle.cc_model.specs.Images.{open_of}
@@ -37,7 +37,7 @@ pub record CanTransfer {D : Type 0} (told : D → Option Disk) (faults : D → �
   pub at_rest : open_of (history before s) ≡ None
   pub whole : length bytes ≡ 4096
   pub bytes_are : (i : ℕ) → i < 4096 →
-      IsByteOf (opening_of first.told) (history before s) (4096 * page + i) (slice_index bytes i)
+      IsByteOfContents (opening_of first.told) (history before s) (4096 * page + i) (slice_index bytes i)
 
 -- Whether an entry changes neither which transfer of the stream is open, nor an image of its pages, nor what a crash
 -- may leave of them: it begins and ends no transfer of the stream, and is no good sync of it.
@@ -49,7 +49,7 @@ leaves_transfer s other = true
 
 -- A transfer of a page is under way: a pass began it, and the entries since leave it so. The disk stands for the past.
 -- It was not written since the begin, so the page may be transferred to it as before that.
-pub record IsUnderWay {D : Type 0} (told : D → Option Disk) (faults : D → ℕ) (first : DiskAtFirst)
+pub record TransferIsUnderWay {D : Type 0} (told : D → Option Disk) (faults : D → ℕ) (first : DiskAtFirst)
     (past : List Entry) (pass s page : ℕ) (bytes : List ℕ) (disk : D) : Type 0 where
   pub stands : DiskStands told faults first past s disk
   pub before : List Entry
@@ -74,13 +74,13 @@ abbrev pub synced : ℕ → ℕ → End → List Entry → List Entry → List E
 synced pass s how later before = entry.Sync pass s how ∷ (later ++ before)
 
 -- how a transfer or a sync ended that the disk answered so
-abbrev pub end_of : Result (Unit {0}) Stop → End
-end_of (Ok done) = how.Good
-end_of (Err stop.Failed) = how.Failed
-end_of (Err stop.NoMemory) = how.NoMemory
+abbrev pub transfer_end : Result (Unit {0}) Stop → End
+transfer_end (Ok done) = how.Good
+transfer_end (Err stop.Failed) = how.Failed
+transfer_end (Err stop.NoMemory) = how.NoMemory
 
 -- by how much a transfer or a sync that ended so raises its disk's count of faults: by one exactly where it failed
-abbrev pub faults_by : End → ℕ
-faults_by how.Good = 0
-faults_by how.Failed = 1
-faults_by how.NoMemory = 0
+abbrev pub transfer_faults : End → ℕ
+transfer_faults how.Good = 0
+transfer_faults how.Failed = 1
+transfer_faults how.NoMemory = 0

@@ -1,6 +1,6 @@
 //! The turns of one thread, over which nobody else goes on.
 
-ghost use Rattle.std.specs.Prelude.{◌≡◌, ℕ, List, length, reverse, map, IfOk, IfErr, Some, true, false};
+ghost use Rattle.std.specs.Prelude.{◌≡◌, ◌<◌, ◌^◌, ℕ, List, length, reverse, map, IfOk, IfErr, Some, true, false};
 ghost use Rattle.cc_entry.specs.declared.error.CcError.TheVariants as error;
 ghost use Rattle.cc_journal.specs.Capacity.{IsWithinCapacity};
 ghost use Rattle.cc_model.specs.Good.{IsGood};
@@ -8,8 +8,8 @@ ghost use Rattle.cc_model.specs.Throttle.{queue};
 ghost use Rattle.cc_turns.specs.Standing.{Standing, nothing};
 ghost use Rattle.cc_turns.specs.Log.{LogStands};
 ghost use Rattle.cc_turns.specs.Journal.{JournalStands};
-ghost use Rattle.cc_turns.specs.Takes.{Adds, HasActed, without_log, without_journal};
-ghost use Rattle.cc_turns.specs.Desk.{AreRowsFor, DisksEnded, LogsEnded, IsFresh, made_from, standing_of, tells_of};
+ghost use Rattle.cc_turns.specs.Takes.{AddsEvent, HasActed, without_log, without_journal};
+ghost use Rattle.cc_turns.specs.Desk.{AreDeskRowsFor, DeskDisksEnded, DeskLogsEnded, DeskIsFresh, made_from, standing_of, tells_of};
 ghost use Rattle.cc_turns.specs.Crash.{IsCrashSafe};
 
 use crate::held::{AtTake, HeldDisk};
@@ -17,7 +17,7 @@ use crate::places;
 use crate::turns::Turns;
 use cc_book::Book;
 use cc_entry::{CcError, NoMemory, StreamId};
-use cc_journal::{Journal, Parts};
+use cc_journal::{Journal, Left, Parts};
 use cc_log::LogTurn;
 use cc_traits::{LogFile, PageDisk, PostRoutine, Setup};
 use std::alloc::Global;
@@ -26,7 +26,7 @@ use std::snapshot::Snapshot;
 
 /// The turns that are out.
 #[derive(Clone, Copy)]
-pub(crate) struct Held {
+pub(crate) struct TurnsOut {
     pub(crate) device: Option<StreamId>,
     pub(crate) book: Option<StreamId>,
     pub(crate) log: Option<u8>,
@@ -44,7 +44,7 @@ pub struct Desk<D: PageDisk, L: LogFile, Q: PostRoutine> {
     /// The same for the logs.
     pub(crate) log_room: Vec<L>,
     pub(crate) pass: u32,
-    pub(crate) held: Held,
+    pub(crate) held: TurnsOut,
     pub(crate) device_turns: u64,
     /// What the run was made from.
     pub(crate) begun: Snapshot<Setup<D, L>>,
@@ -65,16 +65,16 @@ struct Rows<D, L, Q> {
 impl<D: PageDisk, L: LogFile, Q: PostRoutine> Model for Desk<D, L, Q> {
     ghost use Rattle.std.specs.Prelude.{length, vec_capacity};
     ghost use Rattle.cc_turns.specs.Places.{IsRoomFor};
-    ghost use Rattle.cc_turns.specs.Desk.{DeskState, DeskStands, state_of, tells_of};
+    ghost use Rattle.cc_turns.specs.Desk.{DeskState, DeskStands, desk_state, tells_of};
 
     ghost Value = { DeskState D L Q };
 
-    ghost view = { λ d. state_of d.begun.value d.disks.items d.logs.items d.last.value d.since.value.value.entries
+    ghost view = { λ d. desk_state d.begun.value d.disks.items d.logs.items d.last.value d.since.value.value.entries
         d.pass d.held d.device_turns };
 
     ghost invariant = { λ d.
         DeskStands (tells_of D.told D.faults L.told L.faults Q.posted)
-        (state_of d.begun.value d.disks.items d.logs.items d.last.value d.since.value.value.entries
+        (desk_state d.begun.value d.disks.items d.logs.items d.last.value d.since.value.value.entries
         d.pass d.held d.device_turns)
         d.disks.items d.books.items d.logs.items d.journal
         × IsRoomFor (length d.begun.value.disks.items) d.disk_room.items (vec_capacity d.disk_room)
@@ -83,12 +83,12 @@ impl<D: PageDisk, L: LogFile, Q: PostRoutine> Model for Desk<D, L, Q> {
 
 impl<D: PageDisk, L: LogFile, Q: PostRoutine> Rows<D, L, Q> {
     fn new(alloc: Global, setup: &Setup<D, L>) -> Result<Rows<D, L, Q>, NoMemory>
-        ensures { IfOk result (λ rows. AreRowsFor (made_from setup.now) rows) }
+        ensures { IfOk result (λ rows. AreDeskRowsFor (made_from setup.now) rows) }
     {
         let streams = setup.disks.len();
         let logs = setup.logs.len();
         Ok(Rows {
-            journal: Journal::new(alloc, setup.journal, setup.threshold, logs as u8)?,
+            journal: Journal::new(alloc, setup.journal.capacity(), setup.threshold, logs as u8)?,
             books: places::of_books(alloc, streams as u8)?,
             logs: Vec::with_capacity(alloc, logs)?,
             disks: Vec::with_capacity(alloc, streams)?,
@@ -100,7 +100,7 @@ impl<D: PageDisk, L: LogFile, Q: PostRoutine> Desk<D, L, Q> {
     /// The desk of a run of which nothing happened yet, acting as pass 0. Where memory is wanting the setup comes
     /// back.
     pub fn new(alloc: Global, setup: Setup<D, L>) -> Result<Desk<D, L, Q>, (Setup<D, L>, CcError)>
-        ensures fresh { IfOk result (λ desk. IsFresh (made_from setup) desk) }
+        ensures fresh { IfOk result (λ desk. DeskIsFresh (made_from setup) desk) }
         ensures err { IfErr result (λ back. (back.0 ≡ setup) × (back.1 ≡ error.NoMemory)) }
     {
         match Rows::new(alloc, &setup) {
@@ -111,8 +111,8 @@ impl<D: PageDisk, L: LogFile, Q: PostRoutine> Desk<D, L, Q> {
 
     // The desk of a setup, over rows with room for it. It takes no memory.
     fn over(setup: Setup<D, L>, rows: Rows<D, L, Q>) -> Desk<D, L, Q>
-        requires { AreRowsFor (made_from setup) rows }
-        ensures { IsFresh (made_from setup) result }
+        requires { AreDeskRowsFor (made_from setup) rows }
+        ensures { DeskIsFresh (made_from setup) result }
     {
         let begun = Snapshot::of(&setup);
         let Setup {
@@ -136,7 +136,7 @@ impl<D: PageDisk, L: LogFile, Q: PostRoutine> Desk<D, L, Q> {
             disk_room: disks,
             log_room: logs,
             pass: 0,
-            held: Held {
+            held: TurnsOut {
                 device: None,
                 book: None,
                 log: None,
@@ -188,18 +188,61 @@ impl<D: PageDisk, L: LogFile, Q: PostRoutine> Desk<D, L, Q> {
         self.journal.as_ref().unwrap()
     }
 
-    /// Gives all back. It takes no memory.
+    /// Gives all back, where the journal is recorded. It takes no memory.
     pub fn end(self) -> Parts<D, L, Q>
-        requires { self.held ≡ nothing }
+        requires free { self.held ≡ nothing }
+        requires recorded { self.begun.capacity < 2 ^ 32 }
         ensures journal { reverse result.journal.items ≡ self.last.entries }
         ensures good { IsGood (standing_of D.told D.faults L.told L.faults self).setup self.last.entries }
         ensures within { IsWithinCapacity self.begun.capacity self.last.entries }
         ensures crash { IsCrashSafe (tells_of D.told D.faults L.told L.faults Q.posted) self }
         ensures same { (result.disks.items ≡ self.disks) × (result.logs.items ≡ self.logs) }
-        ensures disks { DisksEnded D.told D.faults self result.disks.items }
-        ensures logs { LogsEnded L.told L.faults self result.logs.items }
+        ensures disks { DeskDisksEnded D.told D.faults self result.disks.items }
+        ensures logs { DeskLogsEnded L.told L.faults self result.logs.items }
         ensures queued { map (λ waiting. waiting.0) result.queued.items
             ≡ map (λ d. d.id) (queue self.last.entries) }
+    {
+        let (disks, logs, journal) = self.into_all();
+        let (journal, queued) = journal.end();
+        Parts {
+            disks,
+            logs,
+            journal,
+            queued,
+        }
+    }
+
+    /// Gives back all but the entries, whether the journal is recorded or not. It takes no memory.
+    pub fn leave(self) -> Left<D, L, Q>
+        requires { self.held ≡ nothing }
+        ensures good { IsGood (standing_of D.told D.faults L.told L.faults self).setup self.last.entries }
+        ensures within { IsWithinCapacity self.begun.capacity self.last.entries }
+        ensures crash { IsCrashSafe (tells_of D.told D.faults L.told L.faults Q.posted) self }
+        ensures same { (result.disks.items ≡ self.disks) × (result.logs.items ≡ self.logs) }
+        ensures disks { DeskDisksEnded D.told D.faults self result.disks.items }
+        ensures logs { DeskLogsEnded L.told L.faults self result.logs.items }
+        ensures queued { map (λ waiting. waiting.0) result.queued.items
+            ≡ map (λ d. d.id) (queue self.last.entries) }
+    {
+        let (disks, logs, journal) = self.into_all();
+        Left {
+            disks,
+            logs,
+            queued: journal.leave(),
+        }
+    }
+
+    // The disks, the logs and the journal. It takes no memory.
+    fn into_all(self) -> (Vec<D>, Vec<L>, Journal<Q>)
+        requires { self.held ≡ nothing }
+        ensures journal { result.2 ≡ self.last }
+        ensures capacity { self.last.capacity ≡ self.begun.capacity }
+        ensures good { IsGood (standing_of D.told D.faults L.told L.faults self).setup self.last.entries }
+        ensures within { IsWithinCapacity self.begun.capacity self.last.entries }
+        ensures crash { IsCrashSafe (tells_of D.told D.faults L.told L.faults Q.posted) self }
+        ensures same { (result.0.items ≡ self.disks) × (result.1.items ≡ self.logs) }
+        ensures disks { DeskDisksEnded D.told D.faults self result.0.items }
+        ensures logs { DeskLogsEnded L.told L.faults self result.1.items }
     {
         let Desk {
             disks,
@@ -215,13 +258,11 @@ impl<D: PageDisk, L: LogFile, Q: PostRoutine> Desk<D, L, Q> {
             last: _,
             since: _,
         } = self;
-        let (journal, queued) = journal.unwrap().end();
-        Parts {
-            disks: places::back_to(disks, disk_room),
-            logs: places::back_to_logs(logs, log_room),
-            journal,
-            queued,
-        }
+        (
+            places::back_to(disks, disk_room),
+            places::back_to_logs(logs, log_room),
+            journal.unwrap(),
+        )
     }
 }
 
@@ -305,7 +346,7 @@ impl<D: PageDisk, L: LogFile, Q: PostRoutine> Turns for Desk<D, L, Q> {
 
     fn give_journal(&mut self, journal: Journal<Q>)
         requires held { self.old.held.journal ≡ true }
-        requires adds { Adds (standing_of D.told D.faults L.told L.faults self.old) journal.entries }
+        requires adds { AddsEvent (standing_of D.told D.faults L.told L.faults self.old) journal.entries }
         requires stands { JournalStands Q.posted
             (without_journal journal (standing_of D.told D.faults L.told L.faults self.old)) journal }
         ensures { standing_of D.told D.faults L.told L.faults self.new

@@ -10,7 +10,7 @@ ghost use Rattle.cc_turns.specs.Desk.{tells_of, made_from};
 ghost use Rattle.cc_turns.specs.declared.slots.Place.TheVariants as place;
 ghost use Rattle.cc_turns.specs.Slots.{AreInSlots, IsPutTogether, slots_of, under_way_in};
 
-use crate::desk::{Desk, Held};
+use crate::desk::{Desk, TurnsOut};
 use cc_book::Book;
 use cc_entry::NoMemory;
 use cc_journal::Journal;
@@ -183,7 +183,7 @@ impl<D: PageDisk, L: LogFile> Emptied<D, L> {
             disk_room,
             log_room,
             pass: 0,
-            held: Held {
+            held: TurnsOut {
                 device: None,
                 book: None,
                 log: None,

@@ -12,7 +12,7 @@ ghost use Rattle.cc_model.specs.Setup.{Setup};
 ghost use Rattle.cc_model.specs.Turns.{Device, is_quiet};
 ghost use Rattle.cc_turns.specs.Standing.{DiskAtFirst};
 ghost use Rattle.cc_turns.specs.Disk.{DiskStands, opening_of};
-ghost use Rattle.cc_turns.specs.Transfers.{CanRead, CanTransfer, IsUnderWay, end_of, faults_by, fill_failed, synced, transferred};
+ghost use Rattle.cc_turns.specs.Transfers.{CanRead, CanTransfer, TransferIsUnderWay, transfer_end, transfer_faults, fill_failed, synced, transferred};
 
 use cc_entry::End;
 use cc_traits::{PageDisk, Stop};
@@ -37,12 +37,12 @@ pub fn read<D: PageDisk>(disk: &mut D, page: u64, raw: &mut [u8; 4096]) -> Resul
 /// Writes a page to the disk, and says how that ended. The bytes are those that the page had as its transfer began.
 pub fn transfer<D: PageDisk>(disk: &mut D, page: u64, bytes: &[u8; 4096]) -> End
     ensures under_way { (first : DiskAtFirst) (past : List Entry) (pass s : ℕ) →
-        IsUnderWay D.told D.faults first past pass s page bytes.now disk.old →
+        TransferIsUnderWay D.told D.faults first past pass s page bytes.now disk.old →
         DiskStands D.told D.faults first (entry.WriteEnd pass (record { stream = s; page = page }) result ∷ past) s disk.new }
     ensures ended { (first : DiskAtFirst) (before later : List Entry) (s pass : ℕ) →
         CanTransfer D.told D.faults first before s page bytes.now disk.old → is_quiet (Device s) later ≡ true →
         DiskStands D.told D.faults first (transferred pass s page result later before) s disk.new }
-    ensures counted { D.faults disk.new ≡ D.faults disk.old + faults_by result }
+    ensures counted { D.faults disk.new ≡ D.faults disk.old + transfer_faults result }
 {
     end_of(disk.write_page(page, bytes))
 }
@@ -53,14 +53,14 @@ pub fn sync<D: PageDisk>(disk: &mut D) -> End
         DiskStands D.told D.faults first past s disk.old → open_of (history past s) ≡ None →
         is_quiet (Device s) later ≡ true →
         DiskStands D.told D.faults first (synced pass s result later past) s disk.new }
-    ensures counted { D.faults disk.new ≡ D.faults disk.old + faults_by result }
+    ensures counted { D.faults disk.new ≡ D.faults disk.old + transfer_faults result }
 {
     end_of(disk.sync())
 }
 
 // how a transfer or a sync ended that the disk answered so
 fn end_of(answered: Result<(), Stop>) -> End
-    ensures { result ≡ end_of answered }
+    ensures { result ≡ transfer_end answered }
 {
     match answered {
         Ok(()) => End::Good,

@@ -9,7 +9,7 @@ ghost use Rattle.cc_turns.specs.Disk.{DiskStands, opening_of};
 ghost use Rattle.cc_turns.specs.Log.{LogStands};
 ghost use Rattle.cc_turns.specs.Held.{DiskFaultsAreTold};
 ghost use Rattle.cc_turns.specs.Journal.{JournalStands};
-ghost use Rattle.cc_turns.specs.Takes.{Takes, Adds, with_device, with_book, with_log, with_journal, without_device, without_book, without_log, without_journal};
+ghost use Rattle.cc_turns.specs.Takes.{Takes, AddsEvent, with_device, with_book, with_log, with_journal, without_device, without_book, without_log, without_journal};
 
 use cc_book::Book;
 use cc_entry::StreamId;
@@ -115,7 +115,7 @@ pub trait Turns {
     /// are held. The pass has one entry at most reserved for what it has under way.
     fn give_journal(&mut self, journal: Journal<Self::Post>)
         requires held { (standing self.old).held.journal ≡ true }
-        requires adds { Adds (standing self.old) journal.entries }
+        requires adds { AddsEvent (standing self.old) journal.entries }
         requires stands { JournalStands Self.Post.posted (without_journal journal (standing self.old)) journal }
         requires few { (without_journal journal (standing self.old)).in_flight ≤ 1 }
         ensures { standing self.new ≡ without_journal journal (standing self.old) };

@@ -27,7 +27,7 @@ use Rattle.cc_effects.specs.Calls.{CallLeft}
 use Rattle.cc_effects.specs.LogCalls.{FlushRefused, WasFlushed}
 use Rattle.cc_effects.specs.Moments.{PlacedOnly}
 use Rattle.cc_pieces.proofs.Walks.{walked-idle, walked-then}
-use Rattle.cc_pieces.specs.Checkpoints.{CheckpointLeft, RecordFlushed, RecordLogged, RowsLogged, StateAsked, StatesAsked, SyncedLogged, first_object, has_log, record_of_rows, sync_call, with_stream}
+use Rattle.cc_pieces.specs.Checkpoints.{CheckpointLeft, RecordFlushed, RecordLogged, RowsLogged, StateAsked, StatesAsked, SyncedLogged, first_object, state_has_log, record_of_rows, sync_call, with_stream_of_log}
 use Rattle.cc_pieces.specs.Shim.{CallsLeft}
 use Rattle.cc_redo.specs.Reading.{said_by}
 use Rattle.cc_redo.specs.declared.record.LogRecord.{LogRecord}
@@ -36,20 +36,20 @@ use Rattle.cc_redo.proofs.Spelled.{said-spelled}
 use Rattle.cc_restart_laws.proofs.Contents.{had-more}
 use Rattle.cc_restart_laws.proofs.Entries.{updated-rest}
 use Rattle.cc_restart_laws.proofs.Records.{log-stays}
-use Rattle.cc_restart_laws.specs.Updates.{HasSynced, IsCheckpoint, IsUpdated, MayLog, row_told}
+use Rattle.cc_restart_laws.specs.Updates.{HasSyncedSince, IsCheckpoint, IsUpdated, MayLogRecord, row_told}
 use Rattle.cc_update_laws.proofs.Growing.{IsGrown, call-grown, good-grown, grown-then, idle-grown, only-grown}
 use Rattle.cc_update_laws.proofs.Keeping.{KeepsAll, all-failed, all-idle, all-looks, all-only, all-then, stays-open}
 use Rattle.cc_update_laws.proofs.LogCalls.{append-refused, log-flush}
 use Rattle.cc_update_laws.proofs.Replies.{state-open, table-stream, told-rows, told-state}
 use Rattle.cc_update_laws.proofs.Unlisted.{IsNeither, Unlisted, neither-each, unlisted-call, unlisted-grown, unlisted-others}
-use Rattle.cc_update_laws.specs.Keeping.{HasCheckpoint, HasNoneOpen, IsCalm, RowsFit, lists_or_appends}
+use Rattle.cc_update_laws.specs.Keeping.{HasCheckpoint, HasNoneOpen, IsCalmForCheckpoint, RowsFit, lists_or_appends}
 
 -- a stream is one of those that were found
 abbrev IsFound : ℕ → List ℕ → Type 0
 IsFound s found = (before : List ℕ) × (after : List ℕ) × (found ≡ before ++ s ∷ after)
 
-found-more : (s n handle : ℕ) (state : Option FileState) (found : List ℕ) → IsFound s found → IsFound s (with_stream handle n state found)
-found-more s n handle state found is = go (has_log handle state)
+found-more : (s n handle : ℕ) (state : Option FileState) (found : List ℕ) → IsFound s found → IsFound s (with_stream_of_log handle n state found)
+found-more s n handle state found is = go (state_has_log handle state)
   where
     go : (b : Bool) → IsFound s (if b then found ++ n ∷ [] else found)
     go true = (is.0, is.1 ++ n ∷ [], ap (λ (l : List ℕ). l ++ n ∷ []) is.2 ∙ append_assoc is.0 (s ∷ is.1) (n ∷ []))
@@ -140,12 +140,12 @@ module _ (u : Setup) (s log me : ℕ) where
 
   -- ---- a stream with a map is found
 
-  module _ (begun whole : List Entry) (has_log : (log_of (history begun s) ≡ Some log) ⊎ (had_map (history whole s) ≡ false)) where
+  module _ (begun whole : List Entry) (state_has_log : (log_of (history begun s) ≡ Some log) ⊎ (had_map (history whole s) ≡ false)) where
     clash : {b : Bool} → b ≡ true → b ≡ false → ⊥
     clash a b = cc
 
     its-log : (front : List Entry) → IsGrown begun front → IsGrown front whole → IsUpdated s log front → had_map (history front s) ≡ true → log_of (history front s) ≡ Some log
-    its-log front grown to_end updated had = go has_log
+    its-log front grown to_end updated had = go state_has_log
       where
         go : (log_of (history begun s) ≡ Some log) ⊎ (had_map (history whole s) ≡ false) → log_of (history front s) ≡ Some log
         go (inl its) =
@@ -156,7 +156,7 @@ module _ (u : Setup) (s log me : ℕ) where
 
     -- the state of a stream that has a map
     state-found : (n : ℕ) (o : Option FileState) (earlier : List ℕ) (old new : List Entry) → n ≡ s → IsGrown begun old → IsGrown new whole → IsGoodSoFar u new → IsUpdated s log new → had_map (history old s) ≡ true →
-        StateAsked u me n o old new → IsFound s (with_stream log n o earlier)
+        StateAsked u me n o old new → IsFound s (with_stream_of_log log n o earlier)
     state-found n None earlier old new same grown to_end good updated had left =
         absurd
         (state-open u me (first_object n) old new left good
@@ -182,7 +182,7 @@ module _ (u : Setup) (s log me : ℕ) where
         let told : state.log ≡ Some log = ap (λ (x : FileState). x.log) is ∙ subst (λ (m : ℕ). log_of (history front m) ≡ Some log) (sym same) its in
         with_log state told
       where
-        with_log : (x : FileState) → x.log ≡ Some log → IsFound s (with_stream log n (Some x) earlier)
+        with_log : (x : FileState) → x.log ≡ Some log → IsFound s (with_stream_of_log log n (Some x) earlier)
         with_log x told = rw (told, eq-eqb log log refl) (earlier, [], ap (λ (m : ℕ). earlier ++ m ∷ []) same)
 
     found-among : (n : ℕ) (found : List ℕ) (old new : List Entry) → s < n → IsGrown begun old → IsGrown new whole → IsGoodSoFar u new → IsUpdated s log new → had_map (history old s) ≡ true →
@@ -212,13 +212,13 @@ module _ (u : Setup) (s log me : ℕ) where
         had_between : had_map (history between s) ≡ true
         had_between = ap (λ (l : List Entry). had_map (history l s)) from_old.1 ∙ had-more u s log from_old.0 old had
 
-        by : (b : Bool) → (n == s) ≡ b → (s < n → IsFound s earlier) → IsFound s (with_stream log n state earlier)
+        by : (b : Bool) → (n == s) ≡ b → (s < n → IsFound s earlier) → IsFound s (with_stream_of_log log n state earlier)
         by true same rest = state-found n state earlier between new (eqb-true n s same) (grown-then begun old between grown from_old) to_end good updated had_between last
         by false other rest = let apart = eqb-false n s other in found-more s n log state earlier (rest (omega (arith, below, apart)))
 
     -- ---- the record of the checkpoint
 
-    module _ (calm : IsCalm s log me begun whole) (fit : (later during : List Entry) → whole ≡ later ++ (during ++ begun) → RowsFit log (during ++ begun)) where
+    module _ (calm : IsCalmForCheckpoint s log me begun whole) (fit : (later during : List Entry) → whole ≡ later ++ (during ++ begun) → RowsFit log (during ++ begun)) where
       abbrev listing : ℕ → List DirtyRow → Entry
       listing nth rows = entry.Call me nth None (call.DirtyPages log) (outcome.Done (reply.Rows rows))
 
@@ -252,7 +252,7 @@ module _ (u : Setup) (s log me : ℕ) where
             alone = alone;
           }
 
-          sync : WasSynced (listing nth rows ∷ (since ++ begun)) (later ++ listing nth rows ∷ (since ++ begun)) → HasSynced s (listing nth rows ∷ (since ++ begun)) (later ++ listing nth rows ∷ (since ++ begun))
+          sync : WasSynced (listing nth rows ∷ (since ++ begun)) (later ++ listing nth rows ∷ (since ++ begun)) → HasSyncedSince s (listing nth rows ∷ (since ++ begun)) (later ++ listing nth rows ∷ (since ++ begun))
           sync k =
               let it : Entry = entry.Sync me s how.Good in
               let inside : later ≡ k.later ++ it ∷ k.since =
@@ -268,7 +268,7 @@ module _ (u : Setup) (s log me : ℕ) where
 
       append-form : (streams lsn : ℕ) (rows : List DirtyRow) (found : List ℕ) (between asked_end sync_end after : List Entry) → s < streams → CallLeft u me (call.DirtyPages log) (outcome.Done (reply.Rows rows)) begun between →
           StatesAsked u me log streams found between asked_end → CallsLeft u me (map sync_call found) (Ok tt) asked_end sync_end → (only : PlacedOnly me (entry.Append me log lsn (record_of_rows rows)) sync_end after) → IsGrown after whole → IsGoodSoFar u whole →
-          IsUpdated s log (only.earlier ++ sync_end) → MayLog s log me (said_by (record_of_rows rows)) (only.earlier ++ sync_end)
+          IsUpdated s log (only.earlier ++ sync_end) → MayLogRecord s log me (said_by (record_of_rows rows)) (only.earlier ++ sync_end)
       append-form streams lsn rows found between asked_end sync_end after below listed asked calls only to_end good updated =
           let p = listed.placed in
           let e : Entry = listing p.nth rows in
@@ -307,7 +307,7 @@ module _ (u : Setup) (s log me : ℕ) where
           synced-later (e ∷ (since ++ begun)) sync_end f
           (synced-more (e ∷ (since ++ begun)) asked_end sync_end (grown-then (e ∷ (since ++ begun)) between asked_end from_e to_asked)
           (found-synced at.0 at.1 asked_end sync_end (subst (λ (l : List ℕ). CallsLeft u me (map sync_call l) (Ok tt) asked_end sync_end) at.2 calls))) to_f in
-          subst (λ (o : Option LogRecord). MayLog s log me o f) (sym (said-rows rows since_whole.0 since since_whole.1 is))
+          subst (λ (o : Option LogRecord). MayLogRecord s log me o f) (sym (said-rows rows since_whole.0 since since_whole.1 is))
           (subst (λ (l : List Entry). IsCheckpoint s log (map row_told (dirty_table (since ++ begun) log)) l) (sym e_f.1)
           (is-checkpoint p.nth lsn rows (record_of_rows rows) f_whole.0 e_f.0 since whole_is (said-rows rows since_whole.0 since since_whole.1 is)
           (neither-each me log w.during (e ∷ (since ++ begun)) w.each) (λ had. subst (λ (l : List Entry). WasSynced (e ∷ (since ++ begun)) l) e_f.1 (synced had))))
@@ -343,7 +343,7 @@ module _ (u : Setup) (s log me : ℕ) where
           to_end : IsGrown after whole
           to_end = flushed-grown handle lsn answered after whole flushed
 
-          form : IsUpdated s log (appended.1.earlier ++ sync_end) → handle ≡ log → MayLog s log me (said_by (record_of_rows rows)) (appended.1.earlier ++ sync_end)
+          form : IsUpdated s log (appended.1.earlier ++ sync_end) → handle ≡ log → MayLogRecord s log me (said_by (record_of_rows rows)) (appended.1.earlier ++ sync_end)
           form updated same =
               let only = appended.1 in
               append-form streams lsn rows found between asked_end sync_end after below

@@ -6,7 +6,7 @@ use Rattle.std.proofs.lemmas.Bool.{le-leb, leb-false, leb-true}
 use Rattle.cc_entry.specs.declared.entry.Entry.{Entry}
 use Rattle.cc_entry.specs.declared.entry.Entry.TheVariants as entry
 use Rattle.cc_laws.proofs.LogSteps.{floor_of-appended_other, floor_of-flushed, floor_of-flushed_other, floor_of-other, flushed_to-flushed, flushed_to-flushed_other, flushed_to-other}
-use Rattle.cc_log.specs.Turn.{Holds, appended}
+use Rattle.cc_log.specs.Turn.{HoldsLogEntries, appended}
 use Rattle.cc_model.specs.Good.{IsGoodSoFar}
 use Rattle.cc_model.specs.History.{history}
 use Rattle.cc_model.specs.Images.{crash_pages}
@@ -18,9 +18,9 @@ use Rattle.cc_traits.specs.Disk.{Disk, page_of}
 use Rattle.cc_traits.specs.Log.{Log, LogEntry}
 use Rattle.cc_turns.specs.Disk.{HasGone}
 use Rattle.cc_turns.proofs.RecordPage.{apart}
-use Rattle.cc_redo.specs.Disks.{IsMade}
-use Rattle.cc_redo.specs.Ends.{made_from}
-use Rattle.cc_redo.specs.Heard.{last_behind, last_of, lsn_read, reading, readings, valid_of}
+use Rattle.cc_redo.specs.Disks.{DiskIsMade}
+use Rattle.cc_redo.specs.Ends.{made_by_log}
+use Rattle.cc_redo.specs.Heard.{last_behind, last_lsn_of, lsn_read, reading, readings, redone_valid}
 use Rattle.cc_redo.specs.Reading.{said_by}
 use Rattle.cc_redo.specs.declared.redo.Redo.{Redo}
 use Rattle.cc_restart_laws.proofs.Again.{made-file, valid-more}
@@ -29,7 +29,7 @@ use Rattle.cc_restart_laws.proofs.Left.{log-left}
 use Rattle.cc_restart_laws.proofs.Logs.{all-among, all-both, all-first, among-all, among-cases, are-rising, is-appended, is-listed, lsn-fits, rising-first}
 use Rattle.cc_restart_laws.proofs.Records.{IsAppended, appended-before, flushed-grows}
 use Rattle.cc_restart_laws.proofs.Redoing.{IsAmong}
-use Rattle.cc_restart_laws.specs.Stops.{AreAscending, HadBegun, IsGivenAs, IsKept, MakesFile, file_byte, redone_byte, updated_byte, updates_in}
+use Rattle.cc_restart_laws.specs.Stops.{AreAscending, HadBegun, IsGivenAs, LogKeeps, MakesFile, file_byte, redone_byte, updated_byte, updates_in}
 use Rattle.cc_restart_laws.specs.Updates.{IsUpdated}
 use Rattle.cc_update_laws.specs.Devices.{AreLeft, GoesOnFrom, IsWholeDisk}
 use Rattle.cc_update_laws.specs.Logs.{EndsWithin, IsLogOf}
@@ -38,26 +38,26 @@ use Rattle.cc_update_laws.proofs.Within.{appended-within}
 -- ---- a stop
 
 module _ (u : Setup) (past : List Entry) (s log first : ℕ) (opening now : Disk) (begun after : Log) (below : s < 16) (good : IsGoodSoFar u past) (updated : IsUpdated s log past) (whole : IsWholeDisk opening) (gone : HasGone (history past s) opening now)
-    (holds : Holds (appended past log) (flushed_to past log) begun after) (streams : List Redo) (redo : Redo) (handed : Contains streams redo) (given : IsGivenAs s first past redo) where
+    (holds : HoldsLogEntries (appended past log) (flushed_to past log) begun after) (streams : List Redo) (redo : Redo) (handed : Contains streams redo) (given : IsGivenAs s first past redo) where
   crash-left : (disk : ℕ → List ℕ) → AreLeft now redo.size disk → (p : ℕ) → 4096 * p < redo.size → Contains (crash_pages (page_of opening) (history past s) p) (disk p)
   crash-left disk left p in_size =
       let fits : redo.size < 2 ^ 63 = redo.in_range in
       gone.crash p (disk p) (apart p (omega (arith, in_size, fits))) (whole.alone p) (left p in_size)
 
-  kept-of : (kept : List LogEntry) → begun.entries ≡ [] → IsKept after.durable after.entries kept → IsKept after.durable (appended past log) kept
+  kept-of : (kept : List LogEntry) → begun.entries ≡ [] → LogKeeps after.durable after.entries kept → LogKeeps after.durable (appended past log) kept
   kept-of kept none keeps = record {
     rest = keeps.rest;
     splits = sym (holds.entries_are ∙ ap (λ (l : List LogEntry). l ++ appended past log) none) ∙ keeps.splits;
     beyond = keeps.beyond;
   }
 
-  pub first-redone : begun.entries ≡ [] → (kept : List LogEntry) → IsKept after.durable after.entries kept → (disk : ℕ → List ℕ) → AreLeft now redo.size disk → (i : ℕ) →
+  pub first-redone : begun.entries ≡ [] → (kept : List LogEntry) → LogKeeps after.durable after.entries kept → (disk : ℕ → List ℕ) → AreLeft now redo.size disk → (i : ℕ) →
       redone_byte streams kept redo disk i ≡ updated_byte (page_of opening) first (updates_in redo kept) i
   first-redone none kept keeps disk left i =
       first-file u past s log first after.durable (page_of opening) below good updated whole.long streams redo handed given kept holds.durable (kept-of kept none keeps) disk (crash-left disk left) i
 
   pub later-redone : AllByRecursion (λ entry. entry.lsn ≤ after.durable) begun.entries → (old_pages : ℕ → List ℕ) (old_first : ℕ) → HadBegun redo begun.entries (appended past log) (page_of opening) first old_pages old_first →
-      (kept : List LogEntry) → IsKept after.durable after.entries kept → (disk : ℕ → List ℕ) → AreLeft now redo.size disk → (i : ℕ) →
+      (kept : List LogEntry) → LogKeeps after.durable after.entries kept → (disk : ℕ → List ℕ) → AreLeft now redo.size disk → (i : ℕ) →
       redone_byte streams kept redo disk i ≡ updated_byte old_pages old_first (updates_in redo kept) i
   later-redone durables old_pages old_first had kept keeps disk left i =
       let k = log-left past log begun after kept holds durables keeps in
@@ -122,17 +122,17 @@ appended-above u log lsn past good goes y among = go (nat_le y.lsn (floor_of goe
     go false above = let higher = leb-false y.lsn (floor_of goes.front log) above in let reached = goes.reached in omega (arith, higher, reached)
 
 -- so the LSNs of all entries ascend
-rising-on : (u : Setup) (past : List Entry) (log : ℕ) (kept : List LogEntry) → IsGoodSoFar u past → GoesOnFrom log (last_of (readings kept)) past → AreAscending kept → AllByRecursion (λ entry. entry.lsn ≤ 2 ^ 62) kept → AreAscending (kept ++ appended past log)
+rising-on : (u : Setup) (past : List Entry) (log : ℕ) (kept : List LogEntry) → IsGoodSoFar u past → GoesOnFrom log (last_lsn_of (readings kept)) past → AreAscending kept → AllByRecursion (λ entry. entry.lsn ≤ 2 ^ 62) kept → AreAscending (kept ++ appended past log)
 rising-on u past log kept good goes rising fits =
     ascending-both kept (appended past log) rising (are-rising u log past good)
     (λ x y here there.
     let low = last-least 0 kept x here (among-all (λ (e : LogEntry). e.lsn ≤ 2 ^ 62) kept x fits here) in
-    let high = appended-above u log (last_of (readings kept)) past good goes y there in
+    let high = appended-above u log (last_lsn_of (readings kept)) past good goes y there in
     omega (arith, low, high))
 
-pub next-begins : (u : Setup) (past : List Entry) (log : ℕ) (streams : List Redo) (kept : List LogEntry) (redo : Redo) (old_pages : ℕ → List ℕ) (old_first first : ℕ) (old new : Disk) → IsGoodSoFar u past → GoesOnFrom log (last_of (readings kept)) past →
-    AreAscending kept → AllByRecursion (λ entry. entry.lsn ≤ 2 ^ 62) kept → ((p : ℕ) → 4096 * p < redo.size → MakesFile streams kept redo old_pages old_first p (page_of old p)) → IsMade (made_from streams (readings kept) redo old) new →
-    old_first ≤ redo.valid → first ≡ valid_of (readings kept) redo → HadBegun redo kept (appended past log) (page_of new) first old_pages old_first
+pub next-begins : (u : Setup) (past : List Entry) (log : ℕ) (streams : List Redo) (kept : List LogEntry) (redo : Redo) (old_pages : ℕ → List ℕ) (old_first first : ℕ) (old new : Disk) → IsGoodSoFar u past → GoesOnFrom log (last_lsn_of (readings kept)) past →
+    AreAscending kept → AllByRecursion (λ entry. entry.lsn ≤ 2 ^ 62) kept → ((p : ℕ) → 4096 * p < redo.size → MakesFile streams kept redo old_pages old_first p (page_of old p)) → DiskIsMade (made_by_log streams (readings kept) redo old) new →
+    old_first ≤ redo.valid → first ≡ redone_valid (readings kept) redo → HadBegun redo kept (appended past log) (page_of new) first old_pages old_first
 next-begins u past log streams kept redo old_pages old_first first old new good goes rising fits makes made least is = record {
   ascending = rising-on u past log kept good goes rising fits;
   valid = let more = valid-more kept redo old_first least in omega (arith, more, is);
@@ -190,11 +190,11 @@ floor-flushed log (other ∷ past) none =
     omega (arith, floor, flushed, before)
 
 -- the entries with which it began are durable
-pub begun-durable : (past : List Entry) (log : ℕ) (begun after : Log) → GoesOnFrom log (last_of (readings begun.entries)) past → AllByRecursion (λ entry. entry.lsn ≤ 2 ^ 62) begun.entries → Holds (appended past log) (flushed_to past log) begun after →
+pub begun-durable : (past : List Entry) (log : ℕ) (begun after : Log) → GoesOnFrom log (last_lsn_of (readings begun.entries)) past → AllByRecursion (λ entry. entry.lsn ≤ 2 ^ 62) begun.entries → HoldsLogEntries (appended past log) (flushed_to past log) begun after →
     AllByRecursion (λ entry. entry.lsn ≤ after.durable) begun.entries
 begun-durable past log begun after goes fits holds = all-among (λ (x : LogEntry). x.lsn ≤ after.durable) begun.entries durable
   where
-    flushed : last_of (readings begun.entries) ≤ flushed_to past log
+    flushed : last_lsn_of (readings begun.entries) ≤ flushed_to past log
     flushed =
         let reached = goes.reached in
         let floor = floor-flushed log goes.front goes.none in
@@ -210,7 +210,7 @@ begun-durable past log begun after goes fits holds = all-among (λ (x : LogEntry
         omega (arith, low, high, its)
 
 -- what it leaves of the log is again the log of the stream
-pub log-whole : (u : Setup) (past : List Entry) (s log size : ℕ) (begun : List LogEntry) → IsGoodSoFar u past → IsUpdated s log past → (had_map (history past s) ≡ true → size_of (history past s) ≡ size) → GoesOnFrom log (last_of (readings begun)) past →
+pub log-whole : (u : Setup) (past : List Entry) (s log size : ℕ) (begun : List LogEntry) → IsGoodSoFar u past → IsUpdated s log past → (had_map (history past s) ≡ true → size_of (history past s) ≡ size) → GoesOnFrom log (last_lsn_of (readings begun)) past →
     IsLogOf s size begun → IsLogOf s size (begun ++ appended past log)
 log-whole u past s log size begun good updated sized goes is = record {
   ascending = rising-on u past log begun good goes is.ascending is.in_range;
@@ -220,7 +220,7 @@ log-whole u past s log size begun good updated sized goes is = record {
 }
 
 -- and so is each front of it
-pub log-front : (s size durable : ℕ) (all kept : List LogEntry) → IsLogOf s size all → IsKept durable all kept → IsLogOf s size kept
+pub log-front : (s size durable : ℕ) (all kept : List LogEntry) → IsLogOf s size all → LogKeeps durable all kept → IsLogOf s size kept
 log-front s size durable all kept is keeps = record {
   ascending = rising-first kept keeps.rest whole.ascending;
   in_range = all-first (λ (x : LogEntry). x.lsn ≤ 2 ^ 62) kept keeps.rest whole.in_range;

@@ -30,8 +30,8 @@ use Rattle.cc_laws.proofs.HistorySteps.{history-effect}
 use Rattle.cc_laws.proofs.ObjectSteps.{objects-writes, objects-stamps, objects-looks, objects-came_in, objects-went_out, objects-began, objects-ended, objects-synced, had_map-writes, had_map-stamps, had_map-looks, had_map-came_in, had_map-went_out, had_map-began, had_map-ended, had_map-synced}
 use Rattle.cc_model.specs.Settings.{log_after}
 use Rattle.cc_restart_laws.proofs.Entries.{updated-head}
-use Rattle.cc_restart_laws.specs.Updates.{IsUpdated, IsUpdatedBy, MayAct, MayDo}
-use Rattle.cc_update_laws.specs.Keeping.{HasNoneOpen, Keeps, KeepsForm}
+use Rattle.cc_restart_laws.specs.Updates.{IsUpdated, IsUpdatedBy, MayActByUpdate, MayDoByUpdate}
+use Rattle.cc_update_laws.specs.Keeping.{HasNoneOpen, PassKeepsForm, KeepsForm}
 use Rattle.cc_update_laws.proofs.LastOwn.{before-idle}
 
 -- ---- which updates are under way
@@ -139,10 +139,10 @@ stays-on s e past none before_it had =
 
 -- ---- stretches
 
-pub keeps-idle : (s log me : ℕ) (old new : List Entry) → IsIdle me old new → Keeps s log me old new
+pub keeps-idle : (s log me : ℕ) (old new : List Entry) → IsIdle me old new → PassKeepsForm s log me old new
 keeps-idle s log me old new idle = record { during = idle.during; grew = idle.grew; each = each-others me (KeepsForm s log) idle.during old idle.others }
 
-pub keeps-then : (s log me : ℕ) (old between new : List Entry) → Keeps s log me old between → Keeps s log me between new → Keeps s log me old new
+pub keeps-then : (s log me : ℕ) (old between new : List Entry) → PassKeepsForm s log me old between → PassKeepsForm s log me between new → PassKeepsForm s log me old new
 keeps-then s log me old between new first second = record {
   during = second.during ++ first.during;
   grew = second.grew ∙ (ap (λ (l : List Entry). second.during ++ l) first.grew ∙ sym (append_assoc second.during first.during old));
@@ -153,7 +153,7 @@ keeps-then s log me old between new first second = record {
 
 -- the form is kept, and no update is under way behind it
 abbrev pub KeepsAll : ℕ → ℕ → ℕ → List Entry → List Entry → Type 0
-KeepsAll s log me old new = Keeps s log me old new × HasNoneOpen s log me new
+KeepsAll s log me old new = PassKeepsForm s log me old new × HasNoneOpen s log me new
 
 pub all-idle : (s log me : ℕ) (old new : List Entry) → HasNoneOpen s log me old → IsIdle me old new → KeepsAll s log me old new
 all-idle s log me old new none idle = (keeps-idle s log me old new idle, open-idle s log me old new none idle)
@@ -170,7 +170,7 @@ one-pass me other e mine its = go (pass_of e) mine its
     go None a b = absurd (cc)
     go (Some p) a b = sym (eqb-true p other b) ∙ eqb-true p me a
 
-pub keeps-entry : (s log me : ℕ) (e : Entry) (front : List Entry) → is_mine me e ≡ true → OpensNone s e → HasNoneOpen s log me front → (IsUpdated s log front → IsUpdatedBy s log front e) → Keeps s log me front (e ∷ front)
+pub keeps-entry : (s log me : ℕ) (e : Entry) (front : List Entry) → is_mine me e ≡ true → OpensNone s e → HasNoneOpen s log me front → (IsUpdated s log front → IsUpdatedBy s log front e) → PassKeepsForm s log me front (e ∷ front)
 keeps-entry s log me e front own steady none by = record {
   during = e ∷ [];
   grew = refl;
@@ -306,7 +306,7 @@ all-failed u s log me it e old new left none =
     let p = placed-of u me it (outcome.Failed e) old new left refl in all-refused s log me it e p.0 old new p.1 none
 
 -- one that looks, and sets no log
-pub by-done : (s log me nth : ℕ) (stream : Option ℕ) (it : Call) (reply : Reply) (past : List Entry) → ((t : ℕ) → stream ≡ Some t → t ≡ s → MayDo s log past me it) → IsUpdatedBy s log past (entry.Call me nth stream it (outcome.Done reply))
+pub by-done : (s log me nth : ℕ) (stream : Option ℕ) (it : Call) (reply : Reply) (past : List Entry) → ((t : ℕ) → stream ≡ Some t → t ≡ s → MayDoByUpdate s log past me it) → IsUpdatedBy s log past (entry.Call me nth stream it (outcome.Done reply))
 by-done s log me nth None it reply past may = tt
 by-done s log me nth (Some t) it reply past may = λ is. may t refl is
 
@@ -315,8 +315,8 @@ write-looks s me nth None it reply is = refl
 write-looks s me nth (Some t) (call.PinnedWrite hold at bytes) reply is = absurd (cc is)
 write-looks s me nth (Some t) other reply is = refl
 
-pub may-look : (s log me : ℕ) (past : List Entry) (it : Call) → act_of it ≡ Looks → log_after it (Some log) ≡ Some log → MayDo s log past me it
-may-look s log me past it is keeps = record { acts = subst (MayAct s log past me it) (sym is) tt; keeps_log = keeps }
+pub may-look : (s log me : ℕ) (past : List Entry) (it : Call) → act_of it ≡ Looks → log_after it (Some log) ≡ Some log → MayDoByUpdate s log past me it
+may-look s log me past it is keeps = record { acts = subst (MayActByUpdate s log past me it) (sym is) tt; keeps_log = keeps }
 
 pub all-looks : (u : Setup) (s log me : ℕ) (it : Call) (answered : Outcome) (old new : List Entry) → act_of it ≡ Looks → log_after it (Some log) ≡ Some log → CallLeft u me it answered old new → HasNoneOpen s log me old → KeepsAll s log me old new
 all-looks u s log me it (outcome.Failed e) old new is keeps left none = all-failed u s log me it e old new left none

@@ -25,19 +25,19 @@ use Rattle.cc_model.specs.Touches.{valid_of}
 use Rattle.cc_effects.specs.Calls.{CallLeft, IsDone}
 use Rattle.cc_effects.specs.Moments.{Others, IsIdle}
 use Rattle.cc_effects.proofs.Stretches.{idle-then}
-use Rattle.cc_own.specs.Own.{HasHold, new_hold}
+use Rattle.cc_own.specs.Own.{HasHold, hold_of_range}
 use Rattle.cc_own.proofs.CallsKeep.{call-keeps, good-tail, pin_read-leaves, pinned_write-done, placed-here}
 use Rattle.cc_own.proofs.OwnHolds.{others-keep}
 use Rattle.cc_own.proofs.Unchanged.{unchanged-keeps}
 use Rattle.cc_own.proofs.VerbsKeep.{append-unchanged}
-use Rattle.cc_pieces.specs.Shim.{CallsLeft, IsForWant, LoggedLeft, PinnedUpdateLeft, RecordedLeft, ToldUpdateLeft, UpdateLeft, update_record}
+use Rattle.cc_pieces.specs.Shim.{CallsLeft, IsForWant, LoggedLeft, PinnedUpdateLeft, RecordedLeft, ToldUpdateLeft, UpdateLeft, update_record_of_file}
 use Rattle.cc_redo.specs.Reading.{said_by}
 use Rattle.cc_redo.specs.declared.record.LogRecord.{LogRecord}
 use Rattle.cc_redo.specs.declared.record.LogRecord.TheVariants.{Update}
 use Rattle.cc_restart_laws.proofs.Contents.{valid-more}
 use Rattle.cc_restart_laws.proofs.Entries.{updated-rest}
 use Rattle.cc_restart_laws.proofs.Records.{log-one, log-stays}
-use Rattle.cc_restart_laws.specs.Updates.{HasRecord, HasWritten, IsPinned, IsStamp, IsUpdated, MayAppend, MayLog, Updating, WasStamped}
+use Rattle.cc_restart_laws.specs.Updates.{HasRecord, UpdateHasWritten, IsPinned, IsStamp, IsUpdated, MayAppend, MayLogRecord, Updating, WasStamped}
 use Rattle.cc_update_laws.proofs.Growing.{IsGrown, call-grown, good-grown, grown-then, idle-grown, only-grown, refused-grown}
 use Rattle.cc_update_laws.proofs.Keeping.{KeepsAll, all-failed, all-idle, all-looks, all-only, all-then, by-done, is_write, keeps-entry, keeps-idle, keeps-then, open-entry, open-idle, opens-stamp, opens-write, stays-on, stays-open}
 use Rattle.cc_update_laws.proofs.LastOwn.{last-same}
@@ -46,7 +46,7 @@ use Rattle.cc_update_laws.proofs.Owed.{stamp-sure}
 use Rattle.cc_update_laws.proofs.Recorded.{RecordsNone, none-call, none-idle, none-refused, none-then, stamped-behind, stamped-later, stamped-over}
 use Rattle.cc_update_laws.proofs.Replies.{told-state}
 use Rattle.cc_update_laws.proofs.Silent.{stamp-others, write-others}
-use Rattle.cc_update_laws.specs.Keeping.{AreStamped, HasNoneOpen, Keeps, OthersRecordNone}
+use Rattle.cc_update_laws.specs.Keeping.{AreStamped, HasNoneOpen, PassKeepsForm, OthersRecordNone}
 
 some-is : {A : Type 0} (a b : A) → Some a ≡ Some b → a ≡ b
 some-is a b is = cc
@@ -59,12 +59,12 @@ record IsTold (file : File) (at handle : ℕ) (begun past : List Entry) : Type 0
   log : log_of (history (since ++ begun) file.stream) ≡ Some handle
   valid : at ≤ valid_of (history (since ++ begun) file.stream)
 
-module _ (u : Setup) (s log me : ℕ) (file : File) (at : ℕ) (bytes : List ℕ) (says : said_by (update_record file at bytes) ≡ Some (Update file.stream at bytes)) (begun : List Entry) where
+module _ (u : Setup) (s log me : ℕ) (file : File) (at : ℕ) (bytes : List ℕ) (says : said_by (update_record_of_file file at bytes) ≡ Some (Update file.stream at bytes)) (begun : List Entry) where
   abbrev spelled : List ℕ
-  spelled = update_record file at bytes
+  spelled = update_record_of_file file at bytes
 
   abbrev pinned_hold : ℕ → Hold
-  pinned_hold id = new_hold id me file at (length bytes) kind.Pin true []
+  pinned_hold id = hold_of_range id me file at (length bytes) kind.Pin true []
 
   -- the log that was told is the stream's
   same-log : (handle : ℕ) (past : List Entry) → IsTold file at handle begun past → file.stream ≡ s → IsUpdated s log past → handle ≡ log
@@ -107,9 +107,9 @@ module _ (u : Setup) (s log me : ℕ) (file : File) (at : ℕ) (bytes : List ℕ
         logged = subst (λ (l : List Entry). log_of (history l s) ≡ Some log) (sym told.grew) logged;
       }
 
-  may-log-here : (id handle : ℕ) (past : List Entry) → IsGoodSoFar u past → HasHold me file.stream id (pinned_hold id) past → IsTold file at handle begun past → IsUpdated s log past → MayLog s log me (said_by spelled) past
+  may-log-here : (id handle : ℕ) (past : List Entry) → IsGoodSoFar u past → HasHold me file.stream id (pinned_hold id) past → IsTold file at handle begun past → IsUpdated s log past → MayLogRecord s log me (said_by spelled) past
   may-log-here id handle past good has told updated =
-      subst (λ (o : Option LogRecord). MayLog s log me o past) (sym says) (λ same. may-append-here id handle past good has told updated same)
+      subst (λ (o : Option LogRecord). MayLogRecord s log me o past) (sym says) (λ same. may-append-here id handle past good has told updated same)
 
   -- ---- the write and the set-dirty behind the record
 
@@ -151,7 +151,7 @@ module _ (u : Setup) (s log me : ℕ) (file : File) (at : ℕ) (bytes : List ℕ
     stamping = call.SetDirty id (Some lsn)
 
     -- the write
-    written-form : (nth : ℕ) (stream : Option ℕ) (r : Reply) (front : List Entry) → stream ≡ Some file.stream → IsLogged front → HasNoneOpen s log me front → Keeps s log me front (entry.Call me nth stream writing (outcome.Done r) ∷ front)
+    written-form : (nth : ℕ) (stream : Option ℕ) (r : Reply) (front : List Entry) → stream ≡ Some file.stream → IsLogged front → HasNoneOpen s log me front → PassKeepsForm s log me front (entry.Call me nth stream writing (outcome.Done r) ∷ front)
     written-form nth stream r front filed k none =
         keeps-entry s log me (entry.Call me nth stream writing (outcome.Done r)) front (eq-eqb me me refl) (opens-write s me nth stream id at bytes r) none
         (λ updated. by-done s log me nth stream writing r front
@@ -175,7 +175,7 @@ module _ (u : Setup) (s log me : ℕ) (file : File) (at : ℕ) (bytes : List ℕ
     same-lsn : (p h n : ℕ) (xs : List ℕ) → appended_entry ≡ entry.Append p h n xs → n ≡ lsn
     same-lsn p h n xs is = cc is
 
-    is-stamp : (nth : ℕ) (stream : Option ℕ) (r : Reply) (past : List Entry) → stream ≡ Some file.stream → IsWritten past → (other : Updating) → other.pass ≡ me → HasWritten s log other past → IsStamp s other (entry.Call me nth stream stamping (outcome.Done r))
+    is-stamp : (nth : ℕ) (stream : Option ℕ) (r : Reply) (past : List Entry) → stream ≡ Some file.stream → IsWritten past → (other : Updating) → other.pass ≡ me → UpdateHasWritten s log other past → IsStamp s other (entry.Call me nth stream stamping (outcome.Done r))
     is-stamp nth stream r past filed w other mine k =
         let wrote : Entry = entry.Call me w.nth w.stream writing (outcome.Done w.r) in
         let its : Entry = entry.Call other.pass k.nth (Some s) (call.PinnedWrite other.hold other.at other.bytes) (outcome.Done k.reply) in
@@ -199,7 +199,7 @@ module _ (u : Setup) (s log me : ℕ) (file : File) (at : ℕ) (bytes : List ℕ
               ∙ ap (λ (n : ℕ). entry.Call other.pass nth (Some s) (call.SetDirty other.hold (Some n)) (outcome.Done r)) (sym its_lsn)));
         }
 
-    stamped-form : (nth : ℕ) (stream : Option ℕ) (r : Reply) (front : List Entry) → stream ≡ Some file.stream → IsWritten front → Keeps s log me front (entry.Call me nth stream stamping (outcome.Done r) ∷ front)
+    stamped-form : (nth : ℕ) (stream : Option ℕ) (r : Reply) (front : List Entry) → stream ≡ Some file.stream → IsWritten front → PassKeepsForm s log me front (entry.Call me nth stream stamping (outcome.Done r) ∷ front)
     stamped-form nth stream r front filed w = record {
       during = entry.Call me nth stream stamping (outcome.Done r) ∷ [];
       grew = refl;
@@ -257,8 +257,8 @@ module _ (u : Setup) (s log me : ℕ) (file : File) (at : ℕ) (bytes : List ℕ
         let wrote : Entry = entry.Call me w.nth w.stream writing (outcome.Done w.r) in
         let stamped : Entry = entry.Call me c.nth c.stream stamping (outcome.Done q) in
         let idle_new : IsIdle me (stamped ∷ front) new = record { during = c.later; grew = c.grew; others = c.quiet } in
-        let second : Keeps s log me w.front (wrote ∷ w.front) = written-form w.nth w.stream w.r w.front w.filed w.logged (open-idle s log me old w.front none done.begun_idle) in
-        let fourth : Keeps s log me front (stamped ∷ front) = stamped-form c.nth c.stream q front done.filed w in (
+        let second : PassKeepsForm s log me w.front (wrote ∷ w.front) = written-form w.nth w.stream w.r w.front w.filed w.logged (open-idle s log me old w.front none done.begun_idle) in
+        let fourth : PassKeepsForm s log me front (stamped ∷ front) = stamped-form c.nth c.stream q front done.filed w in (
           keeps-then s log me old (wrote ∷ w.front) new (keeps-then s log me old w.front (wrote ∷ w.front) (keeps-idle s log me old w.front done.begun_idle) second)
               (keeps-then s log me (wrote ∷ w.front) front new (keeps-idle s log me (wrote ∷ w.front) front w.idle)
               (keeps-then s log me front (stamped ∷ front) new fourth (keeps-idle s log me (stamped ∷ front) new idle_new))),
@@ -316,7 +316,7 @@ module _ (u : Setup) (s log me : ℕ) (file : File) (at : ℕ) (bytes : List ℕ
   logged-grown : (id handle : ℕ) (answered : Result ℕ CcError) (old new : List Entry) → LoggedLeft u me file id at bytes handle answered old new → IsGrown old new
   logged-grown id handle answered old new (inl (e, is, refused)) = refused-grown u me handle e old new refused
   logged-grown id handle answered old new (inr (between, lsn, appended, recorded)) =
-      grown-then old between new (only-grown me (entry.Append me handle lsn (update_record file at bytes)) old between appended.1) (recorded-grown id lsn answered between new recorded)
+      grown-then old between new (only-grown me (entry.Append me handle lsn (update_record_of_file file at bytes)) old between appended.1) (recorded-grown id lsn answered between new recorded)
 
   told-grown : (id : ℕ) (o : Option ℕ) (valid : ℕ) (answered : Result ℕ CcError) (old new : List Entry) → ToldUpdateLeft u me file id at bytes o valid answered old new → IsGrown old new
   told-grown id None valid answered old new left = idle-grown me old new left.1
@@ -350,14 +350,14 @@ module _ (u : Setup) (s log me : ℕ) (file : File) (at : ℕ) (bytes : List ℕ
   all-logged id handle answered old new good has told none (inl (e, is, refused)) = append-refused u s log me handle e old new none refused
   all-logged id handle answered old new good has told none (inr (between, lsn, appended, recorded)) =
       let only = appended.1 in
-      let e : Entry = entry.Append me handle lsn (update_record file at bytes) in
+      let e : Entry = entry.Append me handle lsn (update_record_of_file file at bytes) in
       let front : List Entry = only.earlier ++ old in
       let good_between : IsGoodSoFar u between = good-grown u between new (recorded-grown id lsn answered between new recorded) good in
       let good_front : IsGoodSoFar u front = good-tail u (e ∷ []) front (good-tail u only.later (e ∷ front) (subst (λ (l : List Entry). IsGoodSoFar u l) only.grew good_between)) in
       let has_front : HasHold me file.stream id (pinned_hold id) front = others-keep u me file.stream id (pinned_hold id) only.earlier old good_front only.quiet_before has in
       let told_front : IsTold file at handle begun front = told-later handle only.earlier old told in
       let has_between : HasHold me file.stream id (pinned_hold id) between =
-      unchanged-keeps u me file.stream id (pinned_hold id) old between (append-unchanged u me id handle (update_record file at bytes) (Ok lsn) old between appended) good_between has in
+      unchanged-keeps u me file.stream id (pinned_hold id) old between (append-unchanged u me id handle (update_record_of_file file at bytes) (Ok lsn) old between appended) good_between has in
       all-then s log me old between new
       (all-only s log me e old between only refl (λ h. (refl, refl)) (λ updated same. may-log-here id handle front good_front has_front told_front updated) none)
       (λ now. all-recorded id handle lsn answered between new good has_between
@@ -425,7 +425,7 @@ module _ (u : Setup) (s log me : ℕ) (file : File) (at : ℕ) (bytes : List ℕ
     pub lsn : ℕ
     pub front : List Entry
     pub first : RecordsNone s log me old front
-    pub then : RecordsNone s log me (entry.Append me handle lsn (update_record file at bytes) ∷ front) new
+    pub then : RecordsNone s log me (entry.Append me handle lsn (update_record_of_file file at bytes) ∷ front) new
     pub stamped : handle ≡ log → file.stream ≡ s → IsUpdated s log new → WasStamped s log lsn new
 
   abbrev LeavesStamped : List Entry → List Entry → Type 0
@@ -445,7 +445,7 @@ module _ (u : Setup) (s log me : ℕ) (file : File) (at : ℕ) (bytes : List ℕ
         lsn = k.lsn;
         front = k.front;
         first = k.first;
-        then = none-then s log me (entry.Append me k.handle k.lsn (update_record file at bytes) ∷ k.front) new newer k.then more;
+        then = none-then s log me (entry.Append me k.handle k.lsn (update_record_of_file file at bytes) ∷ k.front) new newer k.then more;
         stamped = λ same here updated.
             subst (λ (l : List Entry). WasStamped s log k.lsn l) (sym more.grew)
             (stamped-later s log k.lsn new more.during (k.stamped same here (updated-rest s log more.during new (subst (λ (l : List Entry). IsUpdated s log l) more.grew updated))));
@@ -463,14 +463,14 @@ module _ (u : Setup) (s log me : ℕ) (file : File) (at : ℕ) (bytes : List ℕ
       let only = appended.1 in
       let calls = recorded.1 in
       let last = calls.2 in
-      let e : Entry = entry.Append me handle lsn (update_record file at bytes) in
+      let e : Entry = entry.Append me handle lsn (update_record_of_file file at bytes) in
       let front : List Entry = only.earlier ++ old in
       let good_last : IsGoodSoFar u last.0 = good-grown u last.0 new (idle-grown me last.0 new last.2) good in
       let good_between : IsGoodSoFar u between = good-grown u between new (recorded-grown id lsn (Ok answer) between new recorded) good in
       let good_front : IsGoodSoFar u front = good-tail u (e ∷ []) front (good-tail u only.later (e ∷ front) (subst (λ (l : List Entry). IsGoodSoFar u l) only.grew good_between)) in
       let has_front : HasHold me file.stream id (pinned_hold id) front = others-keep u me file.stream id (pinned_hold id) only.earlier old good_front only.quiet_before has in
       let has_between : HasHold me file.stream id (pinned_hold id) between =
-      unchanged-keeps u me file.stream id (pinned_hold id) old between (append-unchanged u me id handle (update_record file at bytes) (Ok lsn) old between appended) good_between has in
+      unchanged-keeps u me file.stream id (pinned_hold id) old between (append-unchanged u me id handle (update_record_of_file file at bytes) (Ok lsn) old between appended) good_between has in
       let idle_after : IsIdle me (e ∷ front) between = record { during = only.later; grew = only.grew; others = only.quiet_after } in
       let k : IsLogged id handle lsn between = record { front = front; good = good_front; told = told-later handle only.earlier old told; has = has_front; idle = idle_after } in
       inr
@@ -522,9 +522,9 @@ module _ (u : Setup) (s log me : ℕ) (file : File) (at : ℕ) (bytes : List ℕ
   pub stays-stamped : (answered : Result ℕ CcError) (new : List Entry) → IsGoodSoFar u new → IsUpdated s log new → WantsNothing answered → OthersRecordNone s log me begun new → AreStamped s log begun → UpdateLeft u me file at bytes answered begun new → AreStamped s log new
   stays-stamped answered new good updated wants others stamped left = go (leaves-update answered new good wants left)
     where
-      same-log-said : (handle lsn pass n place : ℕ) (xs spell : List ℕ) → entry.Append me handle lsn (update_record file at bytes) ≡ entry.Append pass log n spell → said_by spell ≡ Some (Update s place xs) → (handle ≡ log) × (file.stream ≡ s) × (n ≡ lsn)
+      same-log-said : (handle lsn pass n place : ℕ) (xs spell : List ℕ) → entry.Append me handle lsn (update_record_of_file file at bytes) ≡ entry.Append pass log n spell → said_by spell ≡ Some (Update s place xs) → (handle ≡ log) × (file.stream ≡ s) × (n ≡ lsn)
       same-log-said handle lsn pass n place xs spell is said =
-          let same : update_record file at bytes ≡ spell = cc is in
+          let same : update_record_of_file file at bytes ≡ spell = cc is in
           let parts : Some (Update file.stream at bytes) ≡ Some (Update s place xs) = sym says ∙ (ap said_by same ∙ said) in
           (cc is, cc parts, cc is)
 
@@ -532,15 +532,15 @@ module _ (u : Setup) (s log me : ℕ) (file : File) (at : ℕ) (bytes : List ℕ
       go (inl none) = stamped-over s log me begun begun new none others [] refl stamped
       go (inr k) =
           let first = stamped-over s log me begun begun k.front k.first (others-front k) [] refl stamped in
-          stamped-behind s log me (entry.Append me k.handle k.lsn (update_record file at bytes)) begun k.front new k.then others k.first.during k.first.grew first
+          stamped-behind s log me (entry.Append me k.handle k.lsn (update_record_of_file file at bytes)) begun k.front new k.then others k.first.during k.first.grew first
           (λ n place pass xs spell is said.
           let parts = same-log-said k.handle k.lsn pass n place xs spell is said in
           subst (λ (m : ℕ). WasStamped s log m new) (sym parts.2) (k.stamped parts.0 parts.1 updated))
         where
           others-front : (k : HasUpdate begun new) → OthersRecordNone s log me begun k.front
           others-front k later during e is other =
-              others ((k.then.during ++ entry.Append me k.handle k.lsn (update_record file at bytes) ∷ []) ++ later) during e
+              others ((k.then.during ++ entry.Append me k.handle k.lsn (update_record_of_file file at bytes) ∷ []) ++ later) during e
               (k.then.grew
-              ∙ (ap (λ (l : List Entry). k.then.during ++ entry.Append me k.handle k.lsn (update_record file at bytes) ∷ l) is
-              ∙ (sym (append_assoc k.then.during (entry.Append me k.handle k.lsn (update_record file at bytes) ∷ []) (later ++ e ∷ (during ++ begun)))
-              ∙ sym (append_assoc (k.then.during ++ entry.Append me k.handle k.lsn (update_record file at bytes) ∷ []) later (e ∷ (during ++ begun)))))) other
+              ∙ (ap (λ (l : List Entry). k.then.during ++ entry.Append me k.handle k.lsn (update_record_of_file file at bytes) ∷ l) is
+              ∙ (sym (append_assoc k.then.during (entry.Append me k.handle k.lsn (update_record_of_file file at bytes) ∷ []) (later ++ e ∷ (during ++ begun)))
+              ∙ sym (append_assoc (k.then.during ++ entry.Append me k.handle k.lsn (update_record_of_file file at bytes) ∷ []) later (e ∷ (during ++ begun)))))) other

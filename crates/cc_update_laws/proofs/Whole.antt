@@ -6,7 +6,7 @@ use Rattle.cc_entry.specs.declared.entry.Entry.{Entry}
 use Rattle.cc_model.specs.Passes.{is_mine}
 use Rattle.cc_effects.specs.Moments.{EachOwn}
 use Rattle.cc_restart_laws.specs.Updates.{IsUpdated, IsUpdatedEntry}
-use Rattle.cc_update_laws.specs.Keeping.{Keeps, KeepsForm}
+use Rattle.cc_update_laws.specs.Keeping.{PassKeepsForm, KeepsForm}
 
 pub begin : (s log : ℕ) → IsUpdated s log []
 unfolding IsUpdated
@@ -26,7 +26,7 @@ each-at : (s log me : ℕ) (later front old : List Entry) (e : Entry) → EachOw
 each-at s log me [] front old e each mine = each.0 mine
 each-at s log me (x ∷ later) front old e each mine = each-at s log me later front old e each.1 mine
 
-pub keeps-each : (s log me : ℕ) (old new later front : List Entry) (e : Entry) → Keeps s log me old new → new ≡ later ++ e ∷ (front ++ old) → is_mine me e ≡ true → KeepsForm s log (front ++ old) e
+pub keeps-each : (s log me : ℕ) (old new later front : List Entry) (e : Entry) → PassKeepsForm s log me old new → new ≡ later ++ e ∷ (front ++ old) → is_mine me e ≡ true → KeepsForm s log (front ++ old) e
 keeps-each s log me old new later front e k is mine =
     let same : k.during ≡ later ++ e ∷ front = append_cancel_right k.during (later ++ e ∷ front) old (sym k.grew ∙ (is ∙ sym (append_assoc later (e ∷ front) old))) in
     each-at s log me later front old e (subst (λ (l : List Entry). EachOwn me (KeepsForm s log) l old) same k.each) mine

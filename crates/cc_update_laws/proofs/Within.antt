@@ -27,7 +27,7 @@ use Rattle.cc_restart_laws.proofs.Listed.{append-at, held-had}
 use Rattle.cc_restart_laws.proofs.Logs.{all-among, all-both, all-first, is-appended, update-said}
 use Rattle.cc_restart_laws.proofs.Records.{may-append}
 use Rattle.cc_restart_laws.proofs.Redoing.{IsAmong}
-use Rattle.cc_restart_laws.specs.Stops.{IsKept, updates_in}
+use Rattle.cc_restart_laws.specs.Stops.{LogKeeps, updates_in}
 use Rattle.cc_restart_laws.specs.Updates.{IsUpdated, is_update_of}
 use Rattle.cc_update_laws.specs.Logs.{EachEndsWithin, EndsWithin}
 
@@ -65,7 +65,7 @@ module _ (u : Setup) (past : List Entry) (s log size : ℕ) (good : IsGoodSoFar 
   appended-within = all-among (λ (x : LogEntry). EndsWithin s size (said_by x.bytes)) (appended past log) (λ x among. ends-within x among (said_by x.bytes) refl)
 
   -- so it is of what the log had before, and of what is kept
-  pub kept-within : (begun kept : List LogEntry) (durable : ℕ) → EachEndsWithin s size begun → IsKept durable (begun ++ appended past log) kept → EachEndsWithin s size kept
+  pub kept-within : (begun kept : List LogEntry) (durable : ℕ) → EachEndsWithin s size begun → LogKeeps durable (begun ++ appended past log) kept → EachEndsWithin s size kept
   kept-within begun kept durable before keeps =
       all-first (λ (x : LogEntry). EndsWithin s size (said_by x.bytes)) kept keeps.rest
       (subst (EachEndsWithin s size) keeps.splits (all-both (λ (x : LogEntry). EndsWithin s size (said_by x.bytes)) begun (appended past log) before appended-within))

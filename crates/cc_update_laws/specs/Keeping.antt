@@ -17,18 +17,18 @@ use Rattle.cc_effects.specs.Moments.{EachOwn}
 use Rattle.cc_format.specs.declared.log.OldestRow.{OldestRow}
 use Rattle.cc_redo.specs.Reading.{FitsRow, said_by}
 use Rattle.cc_redo.specs.declared.record.LogRecord.TheVariants.{Checkpoint}
-use Rattle.cc_restart_laws.specs.Updates.{HasRecorded, HasWritten, IsUpdated, IsUpdatedEntry, Updating, WasStamped, records_update, row_told}
+use Rattle.cc_restart_laws.specs.Updates.{HasRecorded, UpdateHasWritten, IsUpdated, IsUpdatedEntry, Updating, WasStamped, records_update, row_told}
 
 -- the pass has no update of the stream under way: each whose bytes it wrote it set dirty
 abbrev pub HasNoneOpen : ℕ → ℕ → ℕ → List Entry → Type 0
-HasNoneOpen s log me past = (it : Updating) → it.pass ≡ me → HasWritten s log it past → ⊥
+HasNoneOpen s log me past = (it : Updating) → it.pass ≡ me → UpdateHasWritten s log it past → ⊥
 
 -- an entry keeps the form, where the past before it has it
 abbrev pub KeepsForm : ℕ → ℕ → List Entry → Entry → Type 0
 KeepsForm s log past e = IsUpdated s log past → IsUpdatedEntry s log past e
 
 -- From one moment to another each entry of the pass kept the form.
-pub record Keeps (s log me : ℕ) (old new : List Entry) : Type 0 where
+pub record PassKeepsForm (s log me : ℕ) (old new : List Entry) : Type 0 where
   pub during : List Entry
   pub grew : new ≡ during ++ old
   pub each : EachOwn me (KeepsForm s log) during old
@@ -69,7 +69,7 @@ AreKnown s past = (p : ℕ) → 4096 * p < size_of (history past s) → is_known
 -- What a checkpoint of the log asks of the moments between which it is made, of the stream: where it listed the dirty pages each
 -- update that had a record was set dirty; none had one between that and its own record; and where it synced the stream the image of
 -- each of its pages was known.
-pub record IsCalm (s log me : ℕ) (old new : List Entry) : Type 0 where
+pub record IsCalmForCheckpoint (s log me : ℕ) (old new : List Entry) : Type 0 where
   pub stamped : (between since : List Entry) → HasCheckpoint log me between (since ++ old) new → AreStamped s log (since ++ old)
   pub none_between : (between since : List Entry) → HasCheckpoint log me between (since ++ old) new →
       list_any (records_update s log) between ≡ false

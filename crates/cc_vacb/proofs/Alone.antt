@@ -2,7 +2,7 @@
 use Rattle.std.proofs.Common.{◌≡◌, ℕ, suc, zero, ◌+◌, ◌-◌, ◌%◌, ◌^◌, ◌<◌, ◌≤◌, List, [], ◌∷◌, ◌++◌, Option, Some, None, refl, ap, sym, subst, ◌∙◌, arith}
 use Rattle.cc_vacb.specs.declared.slots.Slot.TheVariants.{Empty}
 use Rattle.cc_vacb.specs.Block.{Block, blank_block, used_slots}
-use Rattle.cc_vacb.specs.Index.{block_in, slot_in, entry_in, count_in, width_of}
+use Rattle.cc_vacb.specs.Index.{block_in, slot_in, entry_in, entry_count_in, width_of}
 use Rattle.cc_vacb.specs.Levels.{levels_of}
 use Rattle.cc_vacb.specs.Tree.{IsTree, used_at, IsIndex}
 use Rattle.cc_vacb.proofs.Put.{Node≢Empty, View≢Empty, Some≢None}
@@ -62,7 +62,7 @@ alone_index size b l blank = record {
 pub record IsBlankIndex (size : ℕ) (bs : List Block) : Type 0 where
   pub index : IsIndex size bs
   pub empty : (n : ℕ) → entry_in bs (levels_of size - 1) n ≡ None
-  pub count : count_in bs ≡ 0
+  pub count : entry_count_in bs ≡ 0
 
 pub blank_index : (size top width : ℕ) (b : Block) (old new : List Block) → size < 2 ^ 64 → old ≡ [] → new ≡ old ++ b ∷ [] → b ≡ blank_block top 0 width → top + 1 ≡ levels_of size → width ≡ width_of size → IsBlankIndex size new
 blank_index size top width b old new l oe ne be te we =

@@ -6,7 +6,7 @@ use Rattle.cc_vacb.specs.declared.slots.Slot.{Slot}
 use Rattle.cc_vacb.specs.declared.slots.Slot.TheVariants.{Empty}
 use Rattle.cc_vacb.specs.Slots.{is_used, weight_of}
 use Rattle.cc_vacb.specs.Block.{Block, no_block, used_slots}
-use Rattle.cc_vacb.specs.Index.{block_in, slot_in, count_in}
+use Rattle.cc_vacb.specs.Index.{block_in, slot_in, entry_count_in}
 use Rattle.cc_vacb.specs.Tree.{put_slot, blocks_at, used_at}
 
 -- what a block adds at its own height alone
@@ -68,8 +68,8 @@ used-replicate (suc n) =
     let e : count_by is_used (Empty ∷ replicate n Empty) ≡ 0 + count_by is_used (replicate n Empty) = sum_by-cons weight_of Empty (replicate n Empty) in
     omega (arith, e, h)
 
-pub count_in-used : (bs : List Block) → count_in bs ≡ used_at 0 bs
-unfolding count_in used_at
+pub count_in-used : (bs : List Block) → entry_count_in bs ≡ used_at 0 bs
+unfolding entry_count_in used_at
 count_in-used bs = refl
 
 -- a block with a used slot

@@ -3,7 +3,7 @@ use Rattle.std.proofs.Common.{◌≡◌, ℕ, suc, ◌+◌, ◌-◌, ◌*◌, �
 use Rattle.cc_vacb.specs.Block.{Block}
 use Rattle.cc_vacb.specs.Slots.{view_of}
 use Rattle.cc_vacb.specs.declared.slots.Slot.TheVariants.{Node}
-use Rattle.cc_vacb.specs.Index.{block_in, slot_in, entry_in, count_in, width_of, StartsBelow, digits_of, led_by}
+use Rattle.cc_vacb.specs.Index.{block_in, slot_in, entry_in, entry_count_in, width_of, StartsBelow, digits_of, led_by}
 use Rattle.cc_vacb.specs.Levels.{levels_of, IsLeastLevels}
 use Rattle.cc_vacb.specs.Tree.{IsTree, IsIndex, PutsView, TakesView, ChangesTop, EntriesBelow}
 use Rattle.cc_vacb.proofs.Put.{Some≢None}
@@ -55,18 +55,18 @@ take_index size top b old new e x p = record {
   ];
 }
 
-pub put_count : (size top b v : ℕ) (old new : List Block) → top + 1 ≡ levels_of size → PutsView top b v old new → count_in new ≡ count_in old + (if is_some (entry_in old (levels_of size - 1) b) then 0 else 1)
+pub put_count : (size top b v : ℕ) (old new : List Block) → top + 1 ≡ levels_of size → PutsView top b v old new → entry_count_in new ≡ entry_count_in old + (if is_some (entry_in old (levels_of size - 1) b) then 0 else 1)
 put_count size top b v old new e p =
     omega (arith, count_in-used new, count_in-used old, p.count, ap {B = ℕ} (λ n. if is_some (entry_in old n b) then 0 else 1) (top_is size top e))
 
-pub take_count : (top b : ℕ) (old new : List Block) (o : Option ℕ) → o ≡ entry_in old top b → TakesView top b old new → count_in new + (if is_some o then 1 else 0) ≡ count_in old
+pub take_count : (top b : ℕ) (old new : List Block) (o : Option ℕ) → o ≡ entry_in old top b → TakesView top b old new → entry_count_in new + (if is_some o then 1 else 0) ≡ entry_count_in old
 take_count top b old new o e p =
     omega (arith, count_in-used new, count_in-used old, p.count, ap {B = ℕ} (λ q. if is_some q then 1 else 0) e)
 
-pub index_bound : (size : ℕ) (bs : List Block) → IsIndex size bs → length bs ≤ levels_of size * count_in bs + 1
+pub index_bound : (size : ℕ) (bs : List Block) → IsIndex size bs → length bs ≤ levels_of size * entry_count_in bs + 1
 index_bound size bs x =
     let b = blocks_bound (levels_of size - 1) bs x.tree x.filled in
-    let m = mul-le-mul_right (count_in bs) (fewer (levels_of size)) in
+    let m = mul-le-mul_right (entry_count_in bs) (fewer (levels_of size)) in
     omega (arith, b, m, ap (λ n. (levels_of size - 1) * n) (count_in-used bs))
   where
     fewer : (n : ℕ) → n - 1 ≤ n
@@ -133,7 +133,7 @@ resized size top new to bs cs x f s c e l n w = record {
   starts = λ k v g. stays size new bs x s k v (sym (resized_entry size top new to bs cs c f e k) ∙ g);
 }
 
-pub resized_count : (top to : ℕ) (bs cs : List Block) → ChangesTop top to bs cs → count_in cs ≡ count_in bs
+pub resized_count : (top to : ℕ) (bs cs : List Block) → ChangesTop top to bs cs → entry_count_in cs ≡ entry_count_in bs
 resized_count top to bs cs c = omega (arith, c.count, count_in-used bs, count_in-used cs)
 
 -- a size that is no greater has no more levels

@@ -27,8 +27,8 @@ unfoldable pub entry_in : List Block → ℕ → ℕ → Option ℕ
 entry_in blocks depth block = option_and_then (λ node. view_of (slot_in blocks node (block % 128))) (reach blocks depth (block / 128))
 
 -- how many entries the blocks of height 0 hold
-unfoldable pub count_in : List Block → ℕ
-count_in blocks = sum_by (λ b. if b.height == 0 then used_slots b else 0) blocks
+unfoldable pub entry_count_in : List Block → ℕ
+entry_count_in blocks = sum_by (λ b. if b.height == 0 then used_slots b else 0) blocks
 
 -- up to 1 MiB the index is one block of four slots
 unfoldable pub width_of : ℕ → ℕ
@@ -40,7 +40,7 @@ entry_at index block = entry_in index.blocks (levels_of index.size - 1) block
 
 -- how many blocks of the stream have a view
 abbrev pub entry_count : Index → ℕ
-entry_count index = count_in index.blocks
+entry_count index = entry_count_in index.blocks
 
 abbrev pub block_count : Index → ℕ
 block_count index = length index.blocks

@@ -5,7 +5,7 @@ ghost use Rattle.std.specs.Option.{option_copied, option_copied_mut};
 ghost use Rattle.std.specs.Borrow.{sem};
 ghost use Rattle.cc_vacb.specs.Index.{StartsBelow, Index, entry_at};
 ghost use Rattle.cc_vacb.specs.Levels.{levels_of, IsLeastLevels};
-ghost use Rattle.cc_views.specs.Views.{mapped_blocks, frames_at, without, used, MapsLast, first_not_in, IsSound};
+ghost use Rattle.cc_views.specs.Views.{mapped_blocks, frames_at, without_view, views_after_use, MapsLast, first_not_in, ViewsAreSound};
 
 use cc_entry::{NoMemory, Quota};
 use cc_pages::Frames;
@@ -26,14 +26,14 @@ pub struct Views {
 }
 
 impl Model for Views {
-    ghost use Rattle.cc_views.specs.Views.{Mapped};
-    ghost use Rattle.cc_views.specs.Indexed.{IsIndexed};
+    ghost use Rattle.cc_views.specs.Views.{MappedViews};
+    ghost use Rattle.cc_views.specs.Indexed.{ViewsAreIndexed};
 
-    ghost Value = { Mapped };
+    ghost Value = { MappedViews };
 
     ghost view = { λ v. record { views = v.order.entries; quota = v.quota; size = v.size } };
 
-    ghost invariant = { λ v. IsIndexed v.order.entries v.quota v.size v.index };
+    ghost invariant = { λ v. ViewsAreIndexed v.order.entries v.quota v.size v.index };
 }
 
 impl Views {
@@ -61,7 +61,7 @@ impl Views {
     pub fn len(&self) -> usize
         ensures count { result ≡ length self.now.views }
         ensures few { result ≤ 64 }
-        ensures sound { IsSound self.now }
+        ensures sound { ViewsAreSound self.now }
     {
         self.order.len()
     }
@@ -83,7 +83,7 @@ impl Views {
     /// The frames of a mapped block.
     pub fn frames(&self, block: u64) -> Option<&Frames>
         ensures frames { option_copied result ≡ frames_at self.now block }
-        ensures sound { IsSound self.now }
+        ensures sound { ViewsAreSound self.now }
     {
         match self.place_of(block) {
             Some(place) => Some(&self.order[place]),
@@ -125,7 +125,7 @@ impl Views {
     /// Gives up a block, and answers its frames.
     pub fn remove(&mut self, block: u64) -> Option<Frames>
         ensures frames { result ≡ frames_at self.old block }
-        ensures rest { self.new ≡ record self.old { views = without self.old.views block } }
+        ensures rest { self.new ≡ record self.old { views = without_view self.old.views block } }
     {
         match self.view_of(block) {
             Some(_) => {
@@ -163,7 +163,7 @@ impl Views {
 
     /// Notes a use of a block: a mapped block becomes the most recently used.
     pub fn touch(&mut self, block: u64)
-        ensures { self.new ≡ record self.old { views = used self.old.views block } }
+        ensures { self.new ≡ record self.old { views = views_after_use self.old.views block } }
     {
         match self.place_of(block) {
             Some(place) => {
@@ -177,7 +177,7 @@ impl Views {
     /// The least recently used block that is not among the kept ones.
     pub fn oldest_of(&self, kept: &[u64]) -> Option<u64>
         ensures oldest { result ≡ first_not_in kept.now (mapped_blocks self.now) }
-        ensures sound { IsSound self.now }
+        ensures sound { ViewsAreSound self.now }
     {
         for place in 0..self.order.len() {
             let block = self.block_at(place);

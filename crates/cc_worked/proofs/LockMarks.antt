@@ -11,7 +11,7 @@ use Rattle.cc_entry.specs.declared.entry.Entry.TheVariants as entry
 use Rattle.cc_script.specs.declared.script.ReadPath.TheVariants.{Cached}
 use Rattle.cc_model.specs.Passes.{is_mine}
 use Rattle.cc_effects.specs.Moments.{Others, PlacedOnly}
-use Rattle.cc_pieces.specs.Locks.{AdmittedLeft, LockedReadLeft, tested_range}
+use Rattle.cc_pieces.specs.Locks.{RangeTestedLeft, LockedReadLeft, tested_range}
 use Rattle.cc_pieces.specs.Shim.{ReadTested, misaligned_for, too_long_for}
 use Rattle.cc_worked.specs.Values.{a, setup}
 use Rattle.cc_worked.specs.PiecesReads.{first_byte}
@@ -39,7 +39,7 @@ read-made bytes old new (inl left) = absurd (done_not_refused bytes left.0 left.
 read-made bytes old new (inr left) =
     (left.1, marked-then 1 (told_state a left.1 ∷ []) (Tested a (tested_range 0 1) false None ∷ Ended first_byte (outcome.Done (reply.Read bytes)) ∷ []) old left.0 new (marked-call setup 1 (call.State a) (outcome.Done (reply.State left.1)) old left.0 left.2 refl) (behind left.3))
   where
-    behind : AdmittedLeft 1 a (tested_range 0 1) false (ReadTested setup 1 a Cached 0 1 (too_long_for Cached 1) (misaligned_for Cached 0 1)) (Ok bytes) left.0 new → Marked 1 (Tested a (tested_range 0 1) false None ∷ Ended first_byte (outcome.Done (reply.Read bytes)) ∷ []) left.0 new
+    behind : RangeTestedLeft 1 a (tested_range 0 1) false (ReadTested setup 1 a Cached 0 1 (too_long_for Cached 1) (misaligned_for Cached 0 1)) (Ok bytes) left.0 new → Marked 1 (Tested a (tested_range 0 1) false None ∷ Ended first_byte (outcome.Done (reply.Read bytes)) ∷ []) left.0 new
     behind (inl stopped) = absurd (done_not_refused bytes stopped.0 stopped.1)
     behind (inr made) =
         marked-then 1 (Tested a (tested_range 0 1) false None ∷ []) (Ended first_byte (outcome.Done (reply.Read bytes)) ∷ []) left.0 made.0 new

@@ -15,7 +15,7 @@ use Rattle.cc_entry.specs.declared.entry.Entry.{Entry}
 use Rattle.cc_entry.specs.declared.entry.Entry.TheVariants as entry
 use Rattle.cc_format.specs.declared.record.StreamRecord.TheVariants.{V1}
 use Rattle.cc_model.specs.Setup.{Setup}
-use Rattle.cc_records.specs.Left.{HasFlushed, SettleLeft, SyncedRecord, WroteRecord}
+use Rattle.cc_records.specs.Left.{StreamHasFlushed, SettleLeft, SyncedRecord, WroteRecord}
 use Rattle.cc_pieces.specs.Openings.{RecordedOpening, first_object_of, recorded_call}
 use Rattle.cc_worked.specs.Values.{unit}
 use Rattle.cc_worked.specs.PiecesRecords.{stored}
@@ -48,7 +48,7 @@ abbrev pub flushed_marks : File → FileState → List Mark
 flushed_marks file told =
     Ended (call.State file) (outcome.Done (reply.State told)) ∷ Ended (call.Flush file None) (outcome.Done reply.Unit) ∷ []
 
-flushed-marked : (u : Setup) (me : ℕ) (file : File) (told : FileState) (begun old new : List Entry) → HasFlushed u me file told begun old new → Marked me (flushed_marks file told) old new
+flushed-marked : (u : Setup) (me : ℕ) (file : File) (told : FileState) (begun old new : List Entry) → StreamHasFlushed u me file told begun old new → Marked me (flushed_marks file told) old new
 flushed-marked u me file told begun old new is =
     let flushed = Ended (call.Flush file None) (outcome.Done reply.Unit) ∷ [] in
     marked-then me (Ended (call.State file) (outcome.Done (reply.State told)) ∷ []) flushed old is.stated new

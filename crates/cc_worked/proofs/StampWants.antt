@@ -17,7 +17,7 @@ use Rattle.cc_effects.specs.Asked.{Calls}
 use Rattle.cc_effects.specs.Calls.{CallLeft, IsUnplaced}
 use Rattle.cc_effects.specs.Refusals.{owes_nothing}
 use Rattle.cc_effects.specs.LogCalls.{AppendRefused}
-use Rattle.cc_pieces.specs.Shim.{update_record, CallsLeft, LoggedLeft, ToldUpdateLeft, PinnedUpdateLeft, UpdateLeft}
+use Rattle.cc_pieces.specs.Shim.{update_record_of_file, CallsLeft, LoggedLeft, ToldUpdateLeft, PinnedUpdateLeft, UpdateLeft}
 use Rattle.cc_worked.proofs.Marks.{Mark, Ended, Logged, Marked, marks, marks-append, marks-works, marked-idle, marked-then, marked-call, marked-left, shows}
 use Rattle.cc_worked.proofs.ShimMarks.{told_state}
 use Rattle.cc_worked.proofs.UpdateMarks.{pinned_as, unpinned, two_calls, append-marked, refused-append, same_error}
@@ -84,13 +84,13 @@ logged-want u me file id at bytes handle old new (inl left) =
     inl ([], refl, refused-append u me handle error.NoMemory old new refused)
 logged-want u me file id at bytes handle old new (inr left) = by (calls-want u me id at bytes left.1 left.0 new left.3.1)
   where
-    recorded : Marked me (Logged handle left.1 (update_record file at bytes) ∷ []) old left.0
-    recorded = append-marked u me handle (update_record file at bytes) left.1 old left.0 left.2
+    recorded : Marked me (Logged handle left.1 (update_record_of_file file at bytes) ∷ []) old left.0
+    recorded = append-marked u me handle (update_record_of_file file at bytes) left.1 old left.0 left.2
 
     by : Marked me [] left.0 new ⊎ WantsAt me id left.0 new → Unchanged me old new ⊎ WantsAt me id old new
     by (inl none) =
-        inl (Logged handle left.1 (update_record file at bytes) ∷ [], refl, marked-then me (Logged handle left.1 (update_record file at bytes) ∷ []) [] old left.0 new recorded none)
-    by (inr wants) = inr (earlier me id (Logged handle left.1 (update_record file at bytes) ∷ []) old left.0 new recorded wants)
+        inl (Logged handle left.1 (update_record_of_file file at bytes) ∷ [], refl, marked-then me (Logged handle left.1 (update_record_of_file file at bytes) ∷ []) [] old left.0 new recorded none)
+    by (inr wants) = inr (earlier me id (Logged handle left.1 (update_record_of_file file at bytes) ∷ []) old left.0 new recorded wants)
 
 told-want : (u : Setup) (me : ℕ) (file : File) (id at : ℕ) (bytes : List ℕ) (log : Option ℕ) (valid : ℕ) (old new : List Entry) → ToldUpdateLeft u me file id at bytes log valid (Err error.NoMemory) old new → Unchanged me old new ⊎ WantsAt me id old new
 told-want u me file id at bytes None valid old new left = inl ([], refl, marked-idle me old new left.1)

@@ -16,7 +16,7 @@ use Rattle.cc_entry.specs.declared.entry.Entry.TheVariants as entry
 use Rattle.cc_model.specs.Setup.{Setup}
 use Rattle.cc_effects.specs.Calls.{CallLeft, leaves_entry}
 use Rattle.cc_effects.specs.LogCalls.{AppendLeft, AppendRefused}
-use Rattle.cc_pieces.specs.Shim.{RefusedSo, update_record, LoggedLeft, ToldUpdateLeft, PinnedUpdateLeft, UpdateLeft}
+use Rattle.cc_pieces.specs.Shim.{RefusedSo, update_record_of_file, LoggedLeft, ToldUpdateLeft, PinnedUpdateLeft, UpdateLeft}
 use Rattle.cc_worked.proofs.Marks.{Mark, Ended, Logged, Marked, marks, Cut, mark_of, end_of, done_marks, marked-idle, marked-only, marked-then, marked-call, marked-left, marked-calls, marked-cut, shows}
 use Rattle.cc_worked.proofs.ShimMarks.{done_not_refused, not-tested, told_state, same_state}
 
@@ -36,7 +36,7 @@ abbrev pub updated_marks : File → ℕ → List ℕ → ℕ → FileState → �
 updated_marks file at bytes id state handle lsn =
     pinned_as file at bytes id
     ∷ told_state file state
-    ∷ Logged handle lsn (update_record file at bytes)
+    ∷ Logged handle lsn (update_record_of_file file at bytes)
     ∷ (done_marks (two_calls id at bytes lsn) ++ unpinned id ∷ [])
 
 pub append-marked : (u : Setup) (me handle : ℕ) (bytes : List ℕ) (lsn : ℕ) (old new : List Entry) → AppendLeft u me handle bytes (Ok lsn) old new → Marked me (Logged handle lsn bytes ∷ []) old new
@@ -48,32 +48,32 @@ append-marked u me handle bytes lsn old new left =
 same_lsn : {a b : ℕ} → ◌≡◌ {A = Result ℕ CcError} (Ok a) (Ok b) → a ≡ b
 same_lsn same = cc
 
-logged-marks : (u : Setup) (me : ℕ) (file : File) (id at : ℕ) (bytes : List ℕ) (handle lsn : ℕ) (old new : List Entry) → LoggedLeft u me file id at bytes handle (Ok lsn) old new → Marked me (Logged handle lsn (update_record file at bytes) ∷ done_marks (two_calls id at bytes lsn)) old new
+logged-marks : (u : Setup) (me : ℕ) (file : File) (id at : ℕ) (bytes : List ℕ) (handle lsn : ℕ) (old new : List Entry) → LoggedLeft u me file id at bytes handle (Ok lsn) old new → Marked me (Logged handle lsn (update_record_of_file file at bytes) ∷ done_marks (two_calls id at bytes lsn)) old new
 logged-marks u me file id at bytes handle lsn old new (inl left) = absurd (done_not_refused lsn left.0 left.1)
 logged-marks u me file id at bytes handle lsn old new (inr left) =
     let its : lsn ≡ left.1 = left.3.0 in
     let calls : Marked me (done_marks (two_calls id at bytes lsn)) left.0 new = rw its (marked-calls u me (two_calls id at bytes left.1) left.0 new left.3.1) in
-    let first : Marked me (Logged handle lsn (update_record file at bytes) ∷ []) old left.0 = rw its (append-marked u me handle (update_record file at bytes) left.1 old left.0 left.2) in
-    marked-then me (Logged handle lsn (update_record file at bytes) ∷ []) (done_marks (two_calls id at bytes lsn)) old left.0 new first calls
+    let first : Marked me (Logged handle lsn (update_record_of_file file at bytes) ∷ []) old left.0 = rw its (append-marked u me handle (update_record_of_file file at bytes) left.1 old left.0 left.2) in
+    marked-then me (Logged handle lsn (update_record_of_file file at bytes) ∷ []) (done_marks (two_calls id at bytes lsn)) old left.0 new first calls
 
-told-marks : (u : Setup) (me : ℕ) (file : File) (id at : ℕ) (bytes : List ℕ) (log : Option ℕ) (valid lsn : ℕ) (old new : List Entry) → ToldUpdateLeft u me file id at bytes log valid (Ok lsn) old new → (handle : ℕ) × (log ≡ Some handle) × Marked me (Logged handle lsn (update_record file at bytes) ∷ done_marks (two_calls id at bytes lsn)) old new
+told-marks : (u : Setup) (me : ℕ) (file : File) (id at : ℕ) (bytes : List ℕ) (log : Option ℕ) (valid lsn : ℕ) (old new : List Entry) → ToldUpdateLeft u me file id at bytes log valid (Ok lsn) old new → (handle : ℕ) × (log ≡ Some handle) × Marked me (Logged handle lsn (update_record_of_file file at bytes) ∷ done_marks (two_calls id at bytes lsn)) old new
 told-marks u me file id at bytes None valid lsn old new left = absurd (not-tested lsn (error.NoLog 255) left.0)
 told-marks u me file id at bytes (Some handle) valid lsn old new (inl left) = absurd (not-tested lsn (error.BeyondValid valid) left.1)
 told-marks u me file id at bytes (Some handle) valid lsn old new (inr left) =
     (handle, refl, logged-marks u me file id at bytes handle lsn old new left.1)
 
-pinned-marks : (u : Setup) (me : ℕ) (file : File) (id at : ℕ) (bytes : List ℕ) (lsn : ℕ) (old new : List Entry) → PinnedUpdateLeft u me file id at bytes (Ok lsn) old new → (state : FileState) × (handle : ℕ) × Marked me (told_state file state ∷ Logged handle lsn (update_record file at bytes) ∷ done_marks (two_calls id at bytes lsn)) old new
+pinned-marks : (u : Setup) (me : ℕ) (file : File) (id at : ℕ) (bytes : List ℕ) (lsn : ℕ) (old new : List Entry) → PinnedUpdateLeft u me file id at bytes (Ok lsn) old new → (state : FileState) × (handle : ℕ) × Marked me (told_state file state ∷ Logged handle lsn (update_record_of_file file at bytes) ∷ done_marks (two_calls id at bytes lsn)) old new
 pinned-marks u me file id at bytes lsn old new (inl left) = absurd (done_not_refused lsn left.0 left.1)
 pinned-marks u me file id at bytes lsn old new (inr left) =
     let told = told-marks u me file id at bytes left.1.log left.1.sizes.valid lsn left.0 new left.3 in
-    (left.1, told.0, marked-then me (told_state file left.1 ∷ []) (Logged told.0 lsn (update_record file at bytes) ∷ done_marks (two_calls id at bytes lsn)) old left.0 new (marked-call u me (call.State file) (outcome.Done (reply.State left.1)) old left.0 left.2 refl) told.2)
+    (left.1, told.0, marked-then me (told_state file left.1 ∷ []) (Logged told.0 lsn (update_record_of_file file at bytes) ∷ done_marks (two_calls id at bytes lsn)) old left.0 new (marked-call u me (call.State file) (outcome.Done (reply.State left.1)) old left.0 left.2 refl) told.2)
 
 -- a done update left its pin, the question, the record, the two calls and the end of the pin
 pub update-shown : (u : Setup) (me : ℕ) (file : File) (at : ℕ) (bytes : List ℕ) (lsn : ℕ) (piece old : List Entry) → UpdateLeft u me file at bytes (Ok lsn) old (piece ++ old) → (id : ℕ) × (state : FileState) × (handle : ℕ) × (marks me piece ≡ updated_marks file at bytes id state handle lsn)
 update-shown u me file at bytes lsn piece old (inl left) = absurd (done_not_refused lsn left.0 left.1)
 update-shown u me file at bytes lsn piece old (inr left) =
     let its = pinned-marks u me file left.0 at bytes lsn left.1 left.2 left.4 in
-    let middle = told_state file its.0 ∷ Logged its.1 lsn (update_record file at bytes) ∷ done_marks (two_calls left.0 at bytes lsn) in
+    let middle = told_state file its.0 ∷ Logged its.1 lsn (update_record_of_file file at bytes) ∷ done_marks (two_calls left.0 at bytes lsn) in
     let from_pin = marked-then me (pinned_as file at bytes left.0 ∷ []) middle old left.1 left.2 (marked-call u me (call.PinRead file at (length bytes) true) (outcome.Done (reply.Hold left.0)) old left.1 left.3 refl) its.2 in
     let whole = marked-then me (pinned_as file at bytes left.0 ∷ middle) (unpinned left.0 ∷ []) old left.2 (piece ++ old) from_pin (marked-call u me (call.EndHold left.0) (outcome.Done reply.Unit) left.2 (piece ++ old) left.5 refl) in
     (left.0, its.0, its.1, shows me (updated_marks file at bytes left.0 its.0 its.1 lsn) piece old whole)
@@ -97,7 +97,7 @@ AfterAsked file id at bytes e None valid rest = (rest ≡ []) × RefusedSo {T = 
 AfterAsked file id at bytes e (Some handle) valid rest =
     ((rest ≡ []) × (valid < at) × RefusedSo {T = ℕ} (error.BeyondValid valid) (Err e))
     ⊎ (((rest ≡ []) × ((u : Setup) × (me : ℕ) × (old : List Entry) × (new : List Entry) × AppendRefused u me handle e old new))
-    ⊎ ((lsn : ℕ) × (more : List Mark) × (rest ≡ Logged handle lsn (update_record file at bytes) ∷ more) × Cut (two_calls id at bytes lsn) e more))
+    ⊎ ((lsn : ℕ) × (more : List Mark) × (rest ≡ Logged handle lsn (update_record_of_file file at bytes) ∷ more) × Cut (two_calls id at bytes lsn) e more))
 
 -- what it leaves under its pin
 abbrev pub UnderPin : File → ℕ → ℕ → List ℕ → CcError → List Mark → Type 0
@@ -117,10 +117,10 @@ logged-refused u me file id at bytes e handle valid old new (inl left) =
     ([], inr (inl (refl, (u, me, old, new, refused))), refused-append u me handle e old new refused)
 logged-refused u me file id at bytes e handle valid old new (inr left) =
     let cut = marked-cut u me (two_calls id at bytes left.1) e left.0 new left.3.1 in
-    let record_there = append-marked u me handle (update_record file at bytes) left.1 old left.0 left.2 in (
-      Logged handle left.1 (update_record file at bytes) ∷ cut.0,
+    let record_there = append-marked u me handle (update_record_of_file file at bytes) left.1 old left.0 left.2 in (
+      Logged handle left.1 (update_record_of_file file at bytes) ∷ cut.0,
       inr (inr (left.1, cut.0, refl, cut.1)),
-      marked-then me (Logged handle left.1 (update_record file at bytes) ∷ []) cut.0 old left.0 new record_there cut.2,
+      marked-then me (Logged handle left.1 (update_record_of_file file at bytes) ∷ []) cut.0 old left.0 new record_there cut.2,
     )
 
 told-refused : (u : Setup) (me : ℕ) (file : File) (id at : ℕ) (bytes : List ℕ) (e : CcError) (log : Option ℕ) (valid : ℕ) (old new : List Entry) → ToldUpdateLeft u me file id at bytes log valid (Err e) old new → (rest : List Mark) × AfterAsked file id at bytes e log valid rest × Marked me rest old new

@@ -11,7 +11,7 @@ use Rattle.cc_entry.specs.declared.entry.Entry.{Entry}
 use Rattle.cc_script.specs.declared.script.Action.{Action}
 use Rattle.cc_script.specs.declared.script.Action.TheVariants as action
 use Rattle.cc_script.specs.declared.script.ActionLine.{ActionLine}
-use Rattle.cc_pieces.specs.Explained.{Given, Answered}
+use Rattle.cc_pieces.specs.Explained.{GivenToRun, Answered}
 use Rattle.cc_worked.specs.Values.{a, opened, done, answers, refused, read_in, begins, ends, fails, synced}
 use Rattle.cc_worked.specs.PiecesRuns.{stream_with, line_of, unit_at, told_by}
 
@@ -73,7 +73,7 @@ write_both_and_flush =
     ∷ []
 
 -- a run of those lines, and what it answered
-abbrev pub flushing_run : Given
+abbrev pub flushing_run : GivenToRun
 flushing_run = record { restarts = []; streams = stream_with None ∷ []; lines = write_both_and_flush; phases = 1; ticks = 0; aheads = 0 }
 
 abbrev pub flushing_replies : List LineReply

@@ -9,9 +9,9 @@ use Rattle.cc_entry.specs.declared.answer.Answer.TheVariants as answer
 use Rattle.cc_entry.specs.declared.answer.LineReply.{LineReply}
 use Rattle.cc_entry.specs.declared.entry.Entry.{Entry}
 use Rattle.cc_script.specs.declared.script.Action.TheVariants as action
-use Rattle.cc_pieces.specs.Explained.{Answered, Given}
+use Rattle.cc_pieces.specs.Explained.{Answered, GivenToRun}
 use Rattle.cc_entry.specs.declared.place.Request.{Request}
-use Rattle.cc_pieces.specs.Queue.{IsQueued, QueuePlace}
+use Rattle.cc_pieces.specs.Queue.{RequestsAreQueued, AheadQueuePlace}
 use Rattle.cc_worked.specs.Values.{a, answers, refused}
 use Rattle.cc_worked.specs.PiecesWithoutEntry.{request, step}
 use Rattle.cc_worked.specs.PiecesRuns.{line_of, one_step}
@@ -42,10 +42,10 @@ abbrev pub one_idle : List LineReply
 one_idle = no_request ∷ []
 
 -- a run without a line, and one of a line that asks for read-ahead
-abbrev pub no_line : Given
+abbrev pub no_line : GivenToRun
 no_line = record { restarts = []; streams = []; lines = []; phases = 1; ticks = 0; aheads = 1 }
 
-abbrev pub one_ask : Given
+abbrev pub one_ask : GivenToRun
 one_ask = record no_line { lines = line_of 1 1 1 (action.AskAhead a 0 1) ∷ [] }
 
 -- whose line was answered that the queue is full
@@ -53,31 +53,31 @@ abbrev pub told_full : Answered
 told_full = record { replies = record { line = 1; answer = answer.Refused error.QueueFull } ∷ []; ticked = []; stepped = [] }
 
 -- what the passes have at the queue explains a run whose worker made these steps, and one whose line found the queue full
-abbrev pub QueuedBy : List LineReply → List Request → (ℕ → QueuePlace) → List Entry → Type 0
-QueuedBy stepped taken places past = IsQueued no_line (told_steps stepped) taken places past
+abbrev pub QueuedBy : List LineReply → List Request → (ℕ → AheadQueuePlace) → List Entry → Type 0
+QueuedBy stepped taken places past = RequestsAreQueued no_line (told_steps stepped) taken places past
 
-abbrev pub FullBy : (ℕ → QueuePlace) → List Entry → Type 0
-FullBy places past = IsQueued one_ask told_full [] places past
+abbrev pub FullBy : (ℕ → AheadQueuePlace) → List Entry → Type 0
+FullBy places past = RequestsAreQueued one_ask told_full [] places past
 
 -- a place at which nothing was done
-abbrev pub at_rest : QueuePlace
+abbrev pub at_rest : AheadQueuePlace
 at_rest = record { pushed = []; taken = []; empties = 0; fulls = 0 }
 
 -- a place that pushed the request, and one that took it
-abbrev pub asked_once : QueuePlace
+abbrev pub asked_once : AheadQueuePlace
 asked_once = record { pushed = request ∷ []; taken = []; empties = 0; fulls = 0 }
 
-abbrev pub took_once : QueuePlace
+abbrev pub took_once : AheadQueuePlace
 took_once = record { pushed = []; taken = request ∷ []; empties = 0; fulls = 0 }
 
 -- wrong: the one that was taken is another
-abbrev pub took_other : QueuePlace
+abbrev pub took_other : AheadQueuePlace
 took_other = record { pushed = []; taken = first_request ∷ []; empties = 0; fulls = 0 }
 
 -- the places of caller 1 and of the worker; nothing was done at the others
-abbrev pub places_with : QueuePlace → QueuePlace → ℕ → QueuePlace
+abbrev pub places_with : AheadQueuePlace → AheadQueuePlace → ℕ → AheadQueuePlace
 places_with caller worker me = if me == 1 then caller else (if me == 18 then worker else at_rest)
 
 -- a place that found the queue full
-abbrev pub found_full : QueuePlace
+abbrev pub found_full : AheadQueuePlace
 found_full = record { pushed = []; taken = []; empties = 0; fulls = 1 }

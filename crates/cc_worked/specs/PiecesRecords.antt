@@ -10,7 +10,7 @@ use Rattle.cc_entry.specs.declared.answer.Answer.TheVariants as answer
 use Rattle.cc_entry.specs.declared.entry.End.TheVariants as how
 use Rattle.cc_entry.specs.declared.entry.Entry.{Entry}
 use Rattle.cc_entry.specs.declared.entry.Entry.TheVariants as entry
-use Rattle.cc_format.specs.Spelling.{first_page}
+use Rattle.cc_format.specs.Spelling.{first_version_page}
 use Rattle.cc_script.specs.declared.script.Action.TheVariants as action
 use Rattle.cc_script.specs.declared.script.StreamLine.{StreamLine}
 use Rattle.cc_model.specs.Setup.{Setup}
@@ -68,7 +68,7 @@ told_state state = answer.Given (reply.State state)
 
 -- disks on which each page is the record of the first version, of 8192 bytes
 abbrev pub first_versions : Setup
-first_versions = record setup { opening = λ s. Some (λ p. first_page 8192) }
+first_versions = record setup { opening = λ s. Some (λ p. first_version_page 8192) }
 
 -- the line of a stream that is stored
 abbrev pub stored : StreamLine

@@ -27,7 +27,7 @@ use Rattle.cc_effects.specs.Moments.{Between}
 use Rattle.cc_pieces.specs.Openings.{Opens, Opened}
 use Rattle.cc_pieces.specs.Served.{Served}
 use Rattle.cc_pieces.specs.Phases.{Plan, PhaseRan, PhasesRan}
-use Rattle.cc_pieces.specs.Explained.{Given, Answered}
+use Rattle.cc_pieces.specs.Explained.{GivenToRun, Answered}
 use Rattle.cc_worked.specs.Values.{setup, a, b, page, sized, done, answers, refused, read_in, begins, ends, fails, synced, unit, Leaves}
 use Rattle.cc_worked.specs.PiecesReads.{two_pages, first_resident, a_byte, page_comes_in}
 use Rattle.cc_worked.specs.PiecesWithoutEntry.{request}
@@ -172,7 +172,7 @@ abbrev pub one_step : LineReply
 one_step = record { line = 1; answer = answer.Stepped (Some (record { request = request; whole = true })) }
 
 -- a run of those lines on one stream
-abbrev pub given : Given
+abbrev pub given : GivenToRun
 given = record { restarts = []; streams = stream_with None ∷ []; lines = of_one; phases = 2; ticks = 0; aheads = 0 }
 
 -- what it answered, where the workers were not asked

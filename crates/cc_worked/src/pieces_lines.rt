@@ -7,7 +7,7 @@ ghost use Rattle.cc_entry.specs.declared.error.CcError.TheVariants as error;
 ghost use Rattle.cc_entry.specs.declared.reply.Reply.TheVariants as reply;
 ghost use Rattle.cc_entry.specs.declared.answer.Answer.TheVariants as answer;
 ghost use Rattle.cc_entry.specs.declared.entry.Entry.{Entry};
-ghost use Rattle.cc_pieces.specs.Bindings.{bound, pinned};
+ghost use Rattle.cc_pieces.specs.Bindings.{bound, bindings_pinned};
 ghost use Rattle.cc_script.specs.declared.script.ReadPath.TheVariants.{Cached, Noncached};
 ghost use Rattle.cc_pieces.specs.Phases.{TicksRan, AheadsRan};
 ghost use Rattle.cc_worked.specs.Values.{setup, done, unit, Leaves, LeavesNothing};
@@ -34,9 +34,9 @@ pub fn words_decide_what_a_line_leaves()
 pub fn words_are_bound()
     ensures made { bound word kind.Map (answer.Given (reply.Hold 1)) [] ≡ one_map }
     ensures not_made { bound word kind.Map (answer.Refused error.NotCached) [] ≡ [] }
-    ensures pinned { pinned word (answer.Given (reply.Hold 1)) one_map ≡ one_pin }
-    ensures not_pinned { pinned word (answer.Refused (error.Busy 1)) one_map ≡ one_map }
-    ensures no_other { pinned other_word (answer.Given (reply.Hold 1)) one_map ≡ one_map }
+    ensures pinned { bindings_pinned word (answer.Given (reply.Hold 1)) one_map ≡ one_pin }
+    ensures not_pinned { bindings_pinned word (answer.Refused (error.Busy 1)) one_map ≡ one_map }
+    ensures no_other { bindings_pinned other_word (answer.Given (reply.Hold 1)) one_map ≡ one_map }
     ensures not_a_map { bound word kind.Pin (answer.Given (reply.Hold 1)) [] ≡ one_map → ⊥ }
 {}
 

@@ -6,7 +6,7 @@ ghost use Rattle.cc_entry.specs.declared.error.CcError.TheVariants as error;
 ghost use Rattle.cc_entry.specs.declared.answer.Answer.TheVariants as answer;
 ghost use Rattle.cc_entry.specs.declared.entry.Entry.{Entry};
 ghost use Rattle.cc_script.specs.declared.script.ReadPath.TheVariants.{Mapped, Pinned, Descriptor, Noncached};
-ghost use Rattle.cc_pieces.specs.Shim.{zeroings, update_record};
+ghost use Rattle.cc_pieces.specs.Shim.{zeroings, update_record_of_file};
 ghost use Rattle.cc_worked.specs.Values.{a, unit, gives, Leaves, LeavesNothing};
 ghost use Rattle.cc_worked.specs.PiecesReads.{one_valid, two_pages};
 ghost use Rattle.cc_worked.specs.PiecesShim.{ReadBy, WriteOf, ByteWrite, ByteUpdate, writes_at, calls_of_write};
@@ -65,7 +65,7 @@ pub fn write_keeps_to_its_limits()
 /// this order, and lets the range go.
 pub fn update_has_its_record()
     ensures done { Leaves (ByteUpdate 258) (answer.NewLsn 1) (logged 8192) (updates_with its_record 1) }
-    ensures recorded { update_record a 64 (171 ∷ 205 ∷ []) ≡ record_of_two }
+    ensures recorded { update_record_of_file a 64 (171 ∷ 205 ∷ []) ≡ record_of_two }
     ensures no_other_answer { Leaves (ByteUpdate 258) (answer.NewLsn 2) (logged 8192) (updates_with its_record 1) → ⊥ }
     ensures no_other_stamp { Leaves (ByteUpdate 258) (answer.NewLsn 1) (logged 8192) (updates_with its_record 2) → ⊥ }
     ensures no_other_record { Leaves (ByteUpdate 258) (answer.NewLsn 1)

@@ -19,7 +19,7 @@ use Rattle.cc_model.specs.Pick.{pick}
 use Rattle.cc_model.specs.Setup.{Setup}
 use Rattle.cc_model.specs.Throttle.{pages_for}
 use Rattle.cc_world.specs.Journals.{Queued}
-use Rattle.cc_effects.specs.Events.{Answers, IsWanting, OnStream, OnLog, OnJournal, Nowhere, call_entry, entries_done, faulted_by, filed_under, log_place, page_in, place_of, place_on, read_fault, write_end}
+use Rattle.cc_effects.specs.Events.{Answers, IsWanting, OnStream, OnLog, OnJournal, Nowhere, call_entry, entries_done, faulted_by, filed_under, log_place, page_in_entry, place_of_event, place_on, read_fault, write_end}
 use Rattle.cc_effects.specs.declared.events.Event.{Event}
 use Rattle.cc_effects.specs.declared.events.Event.TheVariants as event
 use Rattle.cc_effects.specs.declared.events.StepReply.{StepReply}
@@ -101,8 +101,8 @@ done-alone past pass (call.NcStore file page bytes) r filed = absurd (not-alone 
 done-alone past pass other r filed = alone-one (call_entry past pass other (outcome.Done r)) filed
 
 -- what was placed by what was replied is of the event's stream
-pub answers-within : {Q : Type 0} (u : Setup) (past : List Entry) (it : Event Q) (answer : StepReply Q) (added : List Entry) (s : ℕ) → place_of u past it ≡ OnStream s → Answers u past it answer added → AreWithin s added
-answers-within u past (event.Fill pass page) (step.Done reply.Unit) added s at is = as-within s added (page_in past pass page) (same-stream page.stream s at) is
+pub answers-within : {Q : Type 0} (u : Setup) (past : List Entry) (it : Event Q) (answer : StepReply Q) (added : List Entry) (s : ℕ) → place_of_event u past it ≡ OnStream s → Answers u past it answer added → AreWithin s added
+answers-within u past (event.Fill pass page) (step.Done reply.Unit) added s at is = as-within s added (page_in_entry past pass page) (same-stream page.stream s at) is
 answers-within u past (event.Fill pass page) other added s at is = absurd is
 answers-within u past (event.Drop page) (step.Done reply.Unit) added s at is = as-within s added (entry.PageOut 1 page) (same-stream page.stream s at) is
 answers-within u past (event.Drop page) other added s at is = absurd is
@@ -127,7 +127,7 @@ answers-within u past (event.Defer pass file bytes retrying routine) answer adde
 answers-within u past (event.Post pass) answer added s at is = absurd (not-on s at)
 
 -- of its log
-pub answers-on-log : {Q : Type 0} (u : Setup) (past : List Entry) (it : Event Q) (answer : StepReply Q) (added : List Entry) (n : ℕ) → place_of u past it ≡ OnLog n → Answers u past it answer added → AreOnLog n added
+pub answers-on-log : {Q : Type 0} (u : Setup) (past : List Entry) (it : Event Q) (answer : StepReply Q) (added : List Entry) (n : ℕ) → place_of_event u past it ≡ OnLog n → Answers u past it answer added → AreOnLog n added
 answers-on-log u past (event.Fill pass page) answer added n at is = absurd (not-logged page.stream n at)
 answers-on-log u past (event.Drop page) answer added n at is = absurd (not-logged page.stream n at)
 answers-on-log u past (event.WriteBegin pass page) answer added n at is = absurd (not-logged page.stream n at)
@@ -153,7 +153,7 @@ answers-on-log u past (event.Defer pass file bytes retrying routine) answer adde
 answers-on-log u past (event.Post pass) answer added n at is = absurd (alone-not-logged n at)
 
 -- of the journal alone
-pub answers-alone : {Q : Type 0} (u : Setup) (past : List Entry) (it : Event Q) (answer : StepReply Q) (added : List Entry) → place_of u past it ≡ OnJournal → Answers u past it answer added → AreAlone added
+pub answers-alone : {Q : Type 0} (u : Setup) (past : List Entry) (it : Event Q) (answer : StepReply Q) (added : List Entry) → place_of_event u past it ≡ OnJournal → Answers u past it answer added → AreAlone added
 answers-alone u past (event.Fill pass page) answer added at is = absurd (not-alone page.stream at)
 answers-alone u past (event.Drop page) answer added at is = absurd (not-alone page.stream at)
 answers-alone u past (event.WriteBegin pass page) answer added at is = absurd (not-alone page.stream at)
@@ -198,7 +198,7 @@ read-within past pass (call.NcRead file page) e s filed is =
     fault-is s (entry.FillFailed pass (record { stream = file.stream; page = page })) e (same-stream file.stream s (ap place_on filed)) is
 read-within past pass other e s filed is = absurd (no-entry e is)
 
-pub fault-within : {Q : Type 0} (u : Setup) (past : List Entry) (it : Event Q) (e : Entry) (s : ℕ) → place_of u past it ≡ OnStream s → faulted_by past it ≡ Some e → IsOn s e
+pub fault-within : {Q : Type 0} (u : Setup) (past : List Entry) (it : Event Q) (e : Entry) (s : ℕ) → place_of_event u past it ≡ OnStream s → faulted_by past it ≡ Some e → IsOn s e
 fault-within u past (event.Fill pass page) e s at is = fault-is s (entry.FillFailed pass page) e (same-stream page.stream s at) is
 fault-within u past (event.WriteEnd page) e s at is = fault-is s (write_end past page how.Failed) e (same-stream page.stream s at) is
 fault-within u past (event.Sync pass stream) e s at is = fault-is s (entry.Sync pass stream how.Failed) e (same-stream stream s at) is
@@ -207,7 +207,7 @@ fault-within u past (event.Append pass handle bytes) e s at is = absurd (log-no-
 fault-within u past (event.LogFlush pass handle to) e s at is = absurd (log-no-stream (nat_lt handle u.logs) handle s at)
 fault-within u past other e s at is = absurd (no-entry e is)
 
-pub fault-on-log : {Q : Type 0} (u : Setup) (past : List Entry) (it : Event Q) (e : Entry) (n : ℕ) → place_of u past it ≡ OnLog n → faulted_by past it ≡ Some e → IsOnLog n e
+pub fault-on-log : {Q : Type 0} (u : Setup) (past : List Entry) (it : Event Q) (e : Entry) (n : ℕ) → place_of_event u past it ≡ OnLog n → faulted_by past it ≡ Some e → IsOnLog n e
 fault-on-log u past (event.Fill pass page) e n at is = absurd (not-logged page.stream n at)
 fault-on-log u past (event.WriteEnd page) e n at is = absurd (not-logged page.stream n at)
 fault-on-log u past (event.Sync pass stream) e n at is = absurd (not-logged stream n at)
@@ -222,18 +222,18 @@ fault-on-log u past (event.LogFlush pass handle to) e n at is = go (nat_le to (f
 fault-on-log u past other e n at is = absurd (no-entry e is)
 
 -- what was placed where no memory was found
-pub wanting-within : {Q : Type 0} (u : Setup) (past : List Entry) (it : Event Q) (added : List Entry) (s : ℕ) → place_of u past it ≡ OnStream s → IsWanting past it added → AreWithin s added
+pub wanting-within : {Q : Type 0} (u : Setup) (past : List Entry) (it : Event Q) (added : List Entry) (s : ℕ) → place_of_event u past it ≡ OnStream s → IsWanting past it added → AreWithin s added
 wanting-within u past (event.WriteEnd page) added s at is = as-within s added (write_end past page how.NoMemory) (same-stream page.stream s at) is
 wanting-within u past (event.Sync pass stream) added s at (inl is) = as-within s added (entry.Sync pass stream how.NoMemory) (same-stream stream s at) is
 wanting-within u past (event.Sync pass stream) added s at (inr is) = none-within s added is
 wanting-within u past other added s at is = none-within s added is
 
-pub wanting-on-log : {Q : Type 0} (u : Setup) (past : List Entry) (it : Event Q) (added : List Entry) (n : ℕ) → place_of u past it ≡ OnLog n → IsWanting past it added → AreOnLog n added
+pub wanting-on-log : {Q : Type 0} (u : Setup) (past : List Entry) (it : Event Q) (added : List Entry) (n : ℕ) → place_of_event u past it ≡ OnLog n → IsWanting past it added → AreOnLog n added
 wanting-on-log u past (event.WriteEnd page) added n at is = absurd (not-logged page.stream n at)
 wanting-on-log u past (event.Sync pass stream) added n at is = absurd (not-logged stream n at)
 wanting-on-log u past other added n at is = none-on-log n added is
 
-pub wanting-alone : {Q : Type 0} (u : Setup) (past : List Entry) (it : Event Q) (added : List Entry) → place_of u past it ≡ OnJournal → IsWanting past it added → AreAlone added
+pub wanting-alone : {Q : Type 0} (u : Setup) (past : List Entry) (it : Event Q) (added : List Entry) → place_of_event u past it ≡ OnJournal → IsWanting past it added → AreAlone added
 wanting-alone u past (event.WriteEnd page) added at is = absurd (not-alone page.stream at)
 wanting-alone u past (event.Sync pass stream) added at is = absurd (not-alone stream at)
 wanting-alone u past other added at is = none-alone added is
@@ -263,12 +263,12 @@ leaves_queue (event.Defer pass file bytes retrying routine) = false
 leaves_queue (event.Post pass) = false
 leaves_queue other = true
 
-pub stream-leaves : {Q : Type 0} (u : Setup) (past : List Entry) (it : Event Q) (s : ℕ) → place_of u past it ≡ OnStream s → leaves_queue it ≡ true
+pub stream-leaves : {Q : Type 0} (u : Setup) (past : List Entry) (it : Event Q) (s : ℕ) → place_of_event u past it ≡ OnStream s → leaves_queue it ≡ true
 stream-leaves u past (event.Defer pass file bytes retrying routine) s at = absurd (not-on s at)
 stream-leaves u past (event.Post pass) s at = absurd (not-on s at)
 stream-leaves u past other s at = refl
 
-pub log-leaves : {Q : Type 0} (u : Setup) (past : List Entry) (it : Event Q) (n : ℕ) → place_of u past it ≡ OnLog n → leaves_queue it ≡ true
+pub log-leaves : {Q : Type 0} (u : Setup) (past : List Entry) (it : Event Q) (n : ℕ) → place_of_event u past it ≡ OnLog n → leaves_queue it ≡ true
 log-leaves u past (event.Defer pass file bytes retrying routine) n at = absurd (alone-not-logged n at)
 log-leaves u past (event.Post pass) n at = absurd (alone-not-logged n at)
 log-leaves u past other n at = refl

@@ -24,7 +24,7 @@ use Rattle.cc_model.specs.Passes.{calls_of}
 use Rattle.cc_model.specs.Refusals.{refusal}
 use Rattle.cc_model.specs.Setup.{Setup}
 use Rattle.cc_step.proofs.Reasons.{is_listed, refusal-listed, never-long}
-use Rattle.cc_world.specs.Calls.{IsFiledOn, IsRefusedSo, IsReplied, places_one}
+use Rattle.cc_world.specs.Calls.{IsFiledOn, CallIsRefusedSo, IsReplied, places_one}
 use Rattle.cc_effects.specs.Events.{filed_under, reason_of}
 
 nothing-owed : (e : Entry) (past : List Entry) → owed_begin past ≡ None → IsOwed (owed_begin past) e
@@ -87,7 +87,7 @@ admitted-on u past s other here is = subst (λ (o : Option ℕ). refusal u past 
 pub listed : (u : Setup) (past : List Entry) (s : ℕ) (it : Call) (e : CcError) → filed_under past it ≡ Some s → reason_of u past it ≡ Some e → is_listed e ≡ true
 listed u past s it e here is = refusal-listed u past (history past s) it e (refused-on u past s it e here is)
 
-pub good-refused : {Q : Type 0} (u : Setup) (pass : ℕ) (it : Call) (e : CcError) (b : BookState) (j : JournalState Q) → IsRefusedSo u pass it e b j → IsGood u (failed pass j.entries b.stream it e ∷ j.entries)
+pub good-refused : {Q : Type 0} (u : Setup) (pass : ℕ) (it : Call) (e : CcError) (b : BookState) (j : JournalState Q) → CallIsRefusedSo u pass it e b j → IsGood u (failed pass j.entries b.stream it e ∷ j.entries)
 good-refused u pass it e b j refused =
     let is = refused-on u j.entries b.stream it e refused.made.here refused.reason in
     let among = refusal-listed u j.entries (history j.entries b.stream) it e is in

@@ -10,7 +10,7 @@ use Rattle.cc_entry.specs.declared.error.CcError.TheVariants as error
 use Rattle.cc_entry.specs.declared.reply.Outcome.{Outcome}
 use Rattle.cc_entry.specs.declared.reply.Outcome.TheVariants as outcome
 use Rattle.cc_entry.specs.declared.reply.Reply.{Reply}
-use Rattle.cc_book.specs.Book.{BookState, BookStands, Gains, GoesOn, MayDo as MayBeDone, MayPlace, StandsAsBefore, Stays, done, failed}
+use Rattle.cc_book.specs.Book.{BookState, BookStands, Gains, GoesOn, MayDoOnBook as MayBeDone, MayPlaceOnBook, StandsAsBefore, Stays, done, failed}
 use Rattle.cc_journal.specs.Calls.{owed_end}
 use Rattle.cc_journal.specs.Journal.{JournalState, room_of}
 use Rattle.cc_model.specs.Acts.{file_of}
@@ -29,7 +29,7 @@ use Rattle.cc_step.proofs.Reasons.{is_listed}
 use Rattle.cc_step.specs.Step.{StandUnder}
 use Rattle.cc_world.proofs.CallGood.{good-refused, good-replied, listed}
 use Rattle.cc_world.proofs.CallSums.{asked-ready, reserved-failed, sum-replied}
-use Rattle.cc_world.specs.Calls.{BookStandsUnder, CallLeft, CallWent, IsAnswer, IsFiledOn, IsMade, IsRefusedSo, IsReplied, IsUnrefused, PlaceLeft, asked_on, asked_ready, spared_on}
+use Rattle.cc_world.specs.Calls.{BookStandsUnder, CallEventLeft, CallWent, IsCallAnswer, IsFiledOn, CallIsMade, CallIsRefusedSo, IsReplied, CallIsUnrefused, CallPlacingLeft, asked_on, asked_ready, spared_on}
 use Rattle.cc_effects.specs.Events.{CanEnd, MayDo, asked_for, call_entry, filed_under, reason_of}
 use Rattle.cc_effects.specs.declared.events.StepReply.{StepReply}
 use Rattle.cc_effects.specs.declared.events.StepReply.TheVariants as step
@@ -44,7 +44,7 @@ abbrev Replies : Setup → List Entry → ℕ → Call → Option ℕ → Type 0
 Replies u past pass it o =
     (r : Reply) × IsReply u past (stream_opening u o) (stream_history past o) pass it r × MayEnd u past pass o it (outcome.Done r)
 
-pub unready-never : (u : Setup) (past : List Entry) (pass s : ℕ) (it : Call) → filed_under past it ≡ Some s → reason_of u past it ≡ None → IsAnswer u past pass s it None → MayDo u past pass it → ⊥
+pub unready-never : (u : Setup) (past : List Entry) (pass s : ℕ) (it : Call) → filed_under past it ≡ Some s → reason_of u past it ≡ None → IsCallAnswer u past pass s it None → MayDo u past pass it → ⊥
 unready-never u past pass s it here admitted never may =
     let can : CanEnd u past pass it None = subst (λ (o : _). CanEnd u past pass it o) admitted may.can_end in
     let replies : Replies u past pass it (Some s) = subst (λ (o : Option ℕ). Replies u past pass it o) here can in
@@ -57,7 +57,7 @@ may-filed u past pass s it here filed can = record {
   can_end = can;
 }
 
-pub may-refused : {Q : Type 0} (u : Setup) (pass : ℕ) (it : Call) (e : CcError) (b : BookState) (j : JournalState Q) → IsRefusedSo u pass it e b j → MayDo u j.entries pass it
+pub may-refused : {Q : Type 0} (u : Setup) (pass : ℕ) (it : Call) (e : CcError) (b : BookState) (j : JournalState Q) → CallIsRefusedSo u pass it e b j → MayDo u j.entries pass it
 may-refused u pass it e b j refused =
     may-filed u j.entries pass b.stream it refused.made.here refused.filed (subst (λ (o : Option CcError). CanEnd u j.entries pass it o) (sym refused.reason) tt)
 
@@ -134,30 +134,30 @@ as-err x y is =
     ap f is
 
 -- No place could be reserved for the entry of a call that may end now.
-pub no-room : {Q : Type 0} (u : Setup) (pass asked : ℕ) (it : Call) (e : CcError) (b : BookState) (j k : JournalState Q) → BookStandsUnder u 0 b j → MayDo u j.entries pass it → asked_for j.entries pass it (reason_of u j.entries it) ≡ asked → (e ≡ error.JournalFull (length j.entries)) ⊎ (e ≡ error.NoMemory) → (IsErrOf {T = Unit {0}} {E = CcError} (Err e) (error.JournalFull (length j.entries)) ↔ (room_of j < asked)) → k ≡ j → CallLeft u pass it (step.Refused e) b b j k
+pub no-room : {Q : Type 0} (u : Setup) (pass asked : ℕ) (it : Call) (e : CcError) (b : BookState) (j k : JournalState Q) → BookStandsUnder u 0 b j → MayDo u j.entries pass it → asked_for j.entries pass it (reason_of u j.entries it) ≡ asked → (e ≡ error.JournalFull (length j.entries)) ⊎ (e ≡ error.NoMemory) → (IsErrOf {T = Unit {0}} {E = CcError} (Err e) (error.JournalFull (length j.entries)) ↔ (room_of j < asked)) → k ≡ j → CallEventLeft u pass it (step.Refused e) b b j k
 no-room u pass asked it e b j k stands may asks (inl is) full same =
-    subst (λ (x : CcError). CallLeft u pass it (step.Refused x) b b j k) (sym is)
+    subst (λ (x : CcError). CallEventLeft u pass it (step.Refused x) b b j k) (sym is)
     (may, subst (λ (n : ℕ). room_of j < n) (sym asks) (full.0 (as-err e (error.JournalFull (length j.entries)) is)), refl, refl, same)
 no-room u pass asked it e b j k stands may asks (inr is) full same =
-    subst (λ (x : CcError). CallLeft u pass it (step.Refused x) b b j k) (sym is) (went-none u b b j k stands (unchanged b) same)
+    subst (λ (x : CcError). CallEventLeft u pass it (step.Refused x) b b j k) (sym is) (went-none u b b j k stands (unchanged b) same)
 
 -- what a call leaves that was refused for a reason of the list
-refused-so : {Q : Type 0} (u : Setup) (pass : ℕ) (it : Call) (e : CcError) (b c : BookState) (j k : JournalState Q) → is_listed e ≡ true → MayDo u j.entries pass it → asked_for j.entries pass it (reason_of u j.entries it) ≤ room_of j → reason_of u j.entries it ≡ Some e → CallWent u (call_entry j.entries pass it (outcome.Failed e) ∷ []) b c j k → CallLeft u pass it (step.Refused e) b c j k
+refused-so : {Q : Type 0} (u : Setup) (pass : ℕ) (it : Call) (e : CcError) (b c : BookState) (j k : JournalState Q) → is_listed e ≡ true → MayDo u j.entries pass it → asked_for j.entries pass it (reason_of u j.entries it) ≤ room_of j → reason_of u j.entries it ≡ Some e → CallWent u (call_entry j.entries pass it (outcome.Failed e) ∷ []) b c j k → CallEventLeft u pass it (step.Refused e) b c j k
 refused-so u pass it (error.JournalFull entries) b c j k among may room reason went = absurd (cc)
 refused-so u pass it error.NoMemory b c j k among may room reason went = absurd (cc)
 refused-so u pass it other b c j k among may room reason went = (may, room, reason, went)
 
 -- A call that is refused leaves its entry, for which a place was reserved. The end of a noncached write that its pass owed
 -- is owed no more.
-module _ {Q : Type 0} (u : Setup) (pass : ℕ) (it : Call) (e : CcError) (b : BookState) (j r : JournalState Q) (refused : IsRefusedSo u pass it e b j) (reserving : r ≡ record j { reserved = j.reserved + 1 }) where
+module _ {Q : Type 0} (u : Setup) (pass : ℕ) (it : Call) (e : CcError) (b : BookState) (j r : JournalState Q) (refused : CallIsRefusedSo u pass it e b j) (reserving : r ≡ record j { reserved = j.reserved + 1 }) where
   abbrev its : List Entry → Entry
   its past = failed pass past b.stream it e
 
   same : r.entries ≡ j.entries
   same = ap (λ x. x.entries) reserving
 
-  pub may-fail : MayPlace r.entries (its r.entries) b
-  may-fail = subst (λ (past : List Entry). MayPlace past (its past) b) (sym same)
+  pub may-fail : MayPlaceOnBook r.entries (its r.entries) b
+  may-fail = subst (λ (past : List Entry). MayPlaceOnBook past (its past) b) (sym same)
       (u, so-far u (its j.entries ∷ j.entries) (good-refused u pass it e b j refused), refused.made.stands.stand.stands)
 
   sums : owed_end j.entries pass + reserved_in (its j.entries ∷ j.entries) ≡ j.reserved
@@ -179,7 +179,7 @@ module _ {Q : Type 0} (u : Setup) (pass : ℕ) (it : Call) (e : CcError) (b : Bo
         within : (its after before now : ℕ) → owed ≡ its → its + after ≡ before → now ≡ (before + 1) - 1 → owed ≤ now
         within its after before now is sum left = omega (arith, is, sum, left)
 
-    pub refused-left : (c : BookState) (k : JournalState Q) (done : Unit {0}) (x : CcError) → GoesOn r.entries l.entries b c → c ≡ b → k ≡ record l { reserved = l.reserved - owed } → (room_of j < 1 → IsErrOf {T = Unit {0}} {E = CcError} (Ok done) x) → CallLeft u pass it (step.Refused e) b c j k
+    pub refused-left : (c : BookState) (k : JournalState Q) (done : Unit {0}) (x : CcError) → GoesOn r.entries l.entries b c → c ≡ b → k ≡ record l { reserved = l.reserved - owed } → (room_of j < 1 → IsErrOf {T = Unit {0}} {E = CcError} (Ok done) x) → CallEventLeft u pass it (step.Refused e) b c j k
     refused-left c k done x goes is given full =
         let placed : k ≡ record j { entries = its j.entries ∷ j.entries; reserved = ((j.reserved + 1) - 1) - owed; rows = l.rows } = given ∙ ap (λ (y : JournalState Q). record y { reserved = y.reserved - owed }) gained in
         let stands : BookStands (u.opening b.stream) (its j.entries ∷ j.entries) c =
@@ -199,7 +199,7 @@ module _ {Q : Type 0} (u : Setup) (pass : ℕ) (it : Call) (r : Reply) (b : Book
   abbrev it-done : Entry
   it-done = done pass j.entries b.stream it r
 
-  unrefused : IsUnrefused u (asked_ready j.entries pass it) pass it b j
+  unrefused : CallIsUnrefused u (asked_ready j.entries pass it) pass it b j
   unrefused = replied.unrefused
 
   pub may-done : MayBeDone u j.entries pass it r b
@@ -240,12 +240,12 @@ module _ {Q : Type 0} (u : Setup) (pass asked : ℕ) (it : Call) (r : Reply) (b 
   its-asked : asked ≡ asked_ready j.entries pass it
   its-asked = asks ∙ sym (asked-ready u 0 pass it r b j replied)
 
-  pub unplaced : (e : CcError) (k : JournalState Q) → (e ≡ error.JournalFull (length j.entries)) ⊎ (e ≡ error.NoMemory) → (IsErrOf {T = Unit {0}} {E = CcError} (Err e) (error.JournalFull (length j.entries)) ↔ (room_of j < asked)) → k ≡ j → PlaceLeft u pass it r (Err e) b b j k
+  pub unplaced : (e : CcError) (k : JournalState Q) → (e ≡ error.JournalFull (length j.entries)) ⊎ (e ≡ error.NoMemory) → (IsErrOf {T = Unit {0}} {E = CcError} (Err e) (error.JournalFull (length j.entries)) ↔ (room_of j < asked)) → k ≡ j → CallPlacingLeft u pass it r (Err e) b b j k
   unplaced e k (inl is) full same =
-      subst (λ (x : CcError). PlaceLeft u pass it r (Err x) b b j k) (sym is)
+      subst (λ (x : CcError). CallPlacingLeft u pass it r (Err x) b b j k) (sym is)
       (subst (λ (n : ℕ). room_of j < n) its-asked (full.0 (as-err e (error.JournalFull (length j.entries)) is)), refl, refl, same)
   unplaced e k (inr is) full same =
-      subst (λ (x : CcError). PlaceLeft u pass it r (Err x) b b j k) (sym is) (went-none u b b j k replied.unrefused.made.stands (unchanged b) same)
+      subst (λ (x : CcError). CallPlacingLeft u pass it r (Err x) b b j k) (sym is) (went-none u b b j k replied.unrefused.made.stands (unchanged b) same)
 
   module _ (i : JournalState Q) (reserving : i ≡ record j { reserved = j.reserved + asked }) where
     pub replied-reserving : IsReplied u (asked_ready i.entries pass it) pass it r b i
@@ -274,7 +274,7 @@ module _ {Q : Type 0} (u : Setup) (pass asked : ℕ) (it : Call) (r : Reply) (b 
         with-more : (n owed its : ℕ) → n ≡ owed + 0 → asked ≡ its → n + asked ≡ owed + its
         with-more n owed its is same = omega (arith, is, same)
 
-    pub placed-left : (done x : Unit {0}) (e : CcError) (c : BookState) (k : JournalState Q) → (room_of j < asked → IsErrOf {T = Unit {0}} {E = CcError} (Ok x) e) → CallWent u (call_entry i.entries pass it (outcome.Done r) ∷ []) b c i k → PlaceLeft u pass it r (Ok done) b c j k
+    pub placed-left : (done x : Unit {0}) (e : CcError) (c : BookState) (k : JournalState Q) → (room_of j < asked → IsErrOf {T = Unit {0}} {E = CcError} (Ok x) e) → CallWent u (call_entry i.entries pass it (outcome.Done r) ∷ []) b c i k → CallPlacingLeft u pass it r (Ok done) b c j k
     placed-left done x e c k full went = (
       subst (λ (n : ℕ). n ≤ room_of j) its-asked (roomy (room_of j) asked x e full),
       record {
@@ -284,7 +284,7 @@ module _ {Q : Type 0} (u : Setup) (pass asked : ℕ) (it : Call) (r : Reply) (b 
       },
     )
 
-    pub wanting-left : (c : BookState) (l k : JournalState Q) → Stays i l b c → k ≡ record l { reserved = l.reserved - asked } → PlaceLeft u pass it r (Err error.NoMemory) b c j k
+    pub wanting-left : (c : BookState) (l k : JournalState Q) → Stays i l b c → k ≡ record l { reserved = l.reserved - asked } → CallPlacingLeft u pass it r (Err error.NoMemory) b c j k
     wanting-left c l k stays given =
         went-none u b c j k replied.unrefused.made.stands stays.1
         (given ∙ (ap (λ (y : JournalState Q). record y { reserved = y.reserved - asked }) (stays.0 ∙ reserving) ∙ ap (λ (n : ℕ). record j { reserved = n }) (back j.reserved asked)))
@@ -297,10 +297,10 @@ module _ {Q : Type 0} (u : Setup) (pass : ℕ) (it : Call) (r : Reply) (b c : Bo
   asks-ready : asked_for j.entries pass it (reason_of u j.entries it) ≡ asked_ready j.entries pass it
   asks-ready = ap (λ (o : Option CcError). asked_for j.entries pass it o) replied.unrefused.admitted
 
-  pub finished : (done : Unit {0}) → PlaceLeft u pass it r (Ok done) b c j k → CallLeft u pass it (step.Done r) b c j k
+  pub finished : (done : Unit {0}) → CallPlacingLeft u pass it r (Ok done) b c j k → CallEventLeft u pass it (step.Done r) b c j k
   finished done left = (may-replied u 0 pass it r b j replied, subst (λ (n : ℕ). n ≤ room_of j) (sym asks-ready) left.0, replied.unrefused.admitted, left.1)
 
-  pub unfinished : (e : CcError) → PlaceLeft u pass it r (Err e) b c j k → CallLeft u pass it (step.Refused e) b c j k
+  pub unfinished : (e : CcError) → CallPlacingLeft u pass it r (Err e) b c j k → CallEventLeft u pass it (step.Refused e) b c j k
   unfinished (error.JournalFull entries) left =
       (may-replied u 0 pass it r b j replied, subst (λ (n : ℕ). room_of j < n) (sym asks-ready) left.0, left.1, left.2, left.3)
   unfinished error.NoMemory left = left

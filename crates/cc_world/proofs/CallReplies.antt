@@ -24,7 +24,7 @@ use Rattle.cc_step.proofs.Filled.{filled-none}
 use Rattle.cc_step.proofs.Placed.{needed-filled}
 use Rattle.cc_step.proofs.Waiting.{needed-range}
 use Rattle.cc_step.specs.Step.{IsReadyFor, is_stepped, least_absent, needed_range}
-use Rattle.cc_world.specs.Calls.{IsAnswer, IsUnrefused, MayReply, ends_on_book, unit_if}
+use Rattle.cc_world.specs.Calls.{IsCallAnswer, CallIsUnrefused, MayReply, ends_on_book, unit_if}
 use Rattle.cc_effects.specs.Events.{filed_under, reason_of}
 
 -- a range is not filled of which a page is absent
@@ -68,7 +68,7 @@ on-needed : (b : Bool) (P : Type 0) → b ≡ true → OnTrue b P → P
 on-needed true P is p = p
 on-needed false P is p = absurd (cc)
 
-module _ {Q : Type 0} (u : Setup) (pass : ℕ) (it : Call) (b : BookState) (j : JournalState Q) (stepped : is_stepped it ≡ true) (un : IsUnrefused u 0 pass it b j) where
+module _ {Q : Type 0} (u : Setup) (pass : ℕ) (it : Call) (b : BookState) (j : JournalState Q) (stepped : is_stepped it ≡ true) (un : CallIsUnrefused u 0 pass it b j) where
   pub its-admitted : refusal u j.entries (history j.entries b.stream) it ≡ None
   its-admitted = admitted-stepped u j.entries b.stream it stepped un.made.here un.admitted
 
@@ -104,7 +104,7 @@ stepped-else (call.Discard file span) on_book a b c d = absurd (d file span refl
 stepped-else other on_book a b c d = refl
 
 -- a purge may end whose span has no resident page
-pub purge-answer : (u : Setup) (past : List Entry) (pass s : ℕ) (file : File) (span : Option Range) (resident : Bool) → resident ≡ list_any (span_has span) (residents (history past s)) → IsAnswer u past pass s (call.Purge file span) (unit_if (not resident))
+pub purge-answer : (u : Setup) (past : List Entry) (pass s : ℕ) (file : File) (span : Option Range) (resident : Bool) → resident ≡ list_any (span_has span) (residents (history past s)) → IsCallAnswer u past pass s (call.Purge file span) (unit_if (not resident))
 purge-answer u past pass s file span true is = λ r may. differ (is ∙ may.may_end.1)
   where
     differ : true ≡ false → ⊥

@@ -20,20 +20,20 @@ use Rattle.cc_model.specs.Setup.{Setup}
 use Rattle.cc_turns.proofs.Keeping.{DiskStands-kept}
 use Rattle.cc_turns.proofs.OpenTransfers.{IsUnderWay-called}
 use Rattle.cc_turns.specs.Standing.{DiskAtFirst}
-use Rattle.cc_world.specs.Calls.{BookStandsUnder, CallLeft, CallWent, ends_on_book, places_one}
+use Rattle.cc_world.specs.Calls.{BookStandsUnder, CallEventLeft, CallWent, ends_on_book, places_one}
 use Rattle.cc_world.specs.Pages.{Says}
 use Rattle.cc_world.specs.Rows.{DiskIsUsed, RowLeft, RowWent, StandsUnder}
 use Rattle.cc_effects.specs.Events.{call_entry, entries_done, filed_under, reason_of}
 use Rattle.cc_effects.specs.declared.events.Event.TheVariants as event
 use Rattle.cc_effects.specs.declared.events.StepReply.{StepReply}
 use Rattle.cc_effects.specs.declared.events.StepReply.TheVariants as step
-use Rattle.cc_world.specs.declared.rows.Kept.{Kept}
-use Rattle.cc_world.specs.declared.rows.Row.{Row}
+use Rattle.cc_world.specs.declared.rows.BegunTransfer.{BegunTransfer}
+use Rattle.cc_world.specs.declared.rows.StreamRow.{StreamRow}
 use Rattle.cc_world.proofs.Open.{open-kept}
 use Rattle.cc_world.proofs.Standing.{carried-open}
 
 -- A disk goes on standing, at rest or with a transfer open, with the entry of any call.
-pub used-called : {D : Type 0} (told : D → Option Disk) (faults : D → ℕ) (first : DiskAtFirst) (past : List Entry) (s : ℕ) (disk : D) (kept : Option Kept) (pass nth : ℕ) (stream : Option ℕ) (it : Call) (ended : Outcome) → DiskIsUsed told faults first past s disk kept → DiskIsUsed told faults first (entry.Call pass nth stream it ended ∷ past) s disk kept
+pub used-called : {D : Type 0} (told : D → Option Disk) (faults : D → ℕ) (first : DiskAtFirst) (past : List Entry) (s : ℕ) (disk : D) (kept : Option BegunTransfer) (pass nth : ℕ) (stream : Option ℕ) (it : Call) (ended : Outcome) → DiskIsUsed told faults first past s disk kept → DiskIsUsed told faults first (entry.Call pass nth stream it ended ∷ past) s disk kept
 used-called told faults first past s disk None pass nth stream it ended rest = record {
   stands = DiskStands-kept told faults first (entry.Call pass nth stream it ended) past s disk refl rest.stands;
   no_transfer = open-kept (entry.Call pass nth stream it ended) past s refl ∙ rest.no_transfer;
@@ -44,7 +44,7 @@ used-called told faults first past s disk (Some kept) pass nth stream it ended c
 }
 
 -- whether no bytes are kept says whether no transfer is open
-at-rest : {D : Type 0} (told : D → Option Disk) (faults : D → ℕ) (first : DiskAtFirst) (past : List Entry) (s : ℕ) (disk : D) (kept : Option Kept) (resting : Bool) → is_some kept ≡ not resting → DiskIsUsed told faults first past s disk kept → Says resting (open_of (history past s) ≡ None)
+at-rest : {D : Type 0} (told : D → Option Disk) (faults : D → ℕ) (first : DiskAtFirst) (past : List Entry) (s : ℕ) (disk : D) (kept : Option BegunTransfer) (resting : Bool) → is_some kept ≡ not resting → DiskIsUsed told faults first past s disk kept → Says resting (open_of (history past s) ≡ None)
 at-rest told faults first past s disk None true is rest = rest.no_transfer
 at-rest told faults first past s disk None false is rest = absurd (cc)
 at-rest told faults first past s disk (Some kept) true is carrying = absurd (cc)
@@ -70,7 +70,7 @@ one-done past pass (call.NcStore file page bytes) r alone = absurd (cc)
 one-done past pass other r alone = refl
 
 -- So many places are reserved beyond what is owed.
-module _ {D Q : Type 0} (told : D → Option Disk) (faults : D → ℕ) (u : Setup) (first : DiskAtFirst) (more : ℕ) (row : Row D) (j : JournalState Q) (stand : StandsUnder told faults u first more row j) where
+module _ {D Q : Type 0} (told : D → Option Disk) (faults : D → ℕ) (u : Setup) (first : DiskAtFirst) (more : ℕ) (row : StreamRow D) (j : JournalState Q) (stand : StandsUnder told faults u first more row j) where
   -- its book and the journal stand
   pub book-stands : BookStandsUnder u more row.book j
   book-stands = record {
@@ -89,7 +89,7 @@ module _ {D Q : Type 0} (told : D → Option Disk) (faults : D → ℕ) (u : Set
   says-resting resting is = at-rest told faults first j.entries row.book.stream row.disk row.kept resting is stand.row_is.disk
 
   -- The row goes on standing as its book does, with a disk that stands for the journal after.
-  pub row-went : (n : ℕ) (added : List Entry) (c : BookState) (disk : D) (kept : Option Kept) (k : JournalState Q) → CallWent u added row.book c j k → DiskIsUsed told faults first (added ++ j.entries) row.book.stream disk kept → faults disk ≡ faults row.disk + n → RowWent told faults u first n added row (record { disk = disk; book = c; kept = kept }) j k
+  pub row-went : (n : ℕ) (added : List Entry) (c : BookState) (disk : D) (kept : Option BegunTransfer) (k : JournalState Q) → CallWent u added row.book c j k → DiskIsUsed told faults first (added ++ j.entries) row.book.stream disk kept → faults disk ≡ faults row.disk + n → RowWent told faults u first n added row (record { disk = disk; book = c; kept = kept }) j k
   row-went n added c disk kept k went used counted =
       let opening = ap u.opening went.stream ∙ stand.opening in
       record {
@@ -123,7 +123,7 @@ module _ {D Q : Type 0} (told : D → Option Disk) (faults : D → ℕ) (u : Set
       (used-called told faults first j.entries row.book.stream row.disk row.kept pass nth stream it ended stand.row_is.disk) (no-more (faults row.disk))
 
   -- What a call leaves of its book is what it leaves of its row, where it places its entry alone if nothing refuses it.
-  pub row-left : (pass : ℕ) (it : Call) (reply : StepReply Q) (c : BookState) (k : JournalState Q) → (reason_of u j.entries it ≡ None → places_one it ≡ true) → CallLeft u pass it reply row.book c j k → RowLeft told faults u first (event.Do pass it) reply row (record row { book = c }) j k
+  pub row-left : (pass : ℕ) (it : Call) (reply : StepReply Q) (c : BookState) (k : JournalState Q) → (reason_of u j.entries it ≡ None → places_one it ≡ true) → CallEventLeft u pass it reply row.book c j k → RowLeft told faults u first (event.Do pass it) reply row (record row { book = c }) j k
   row-left pass it step.NotNow c k alone left = (left.0, ap (λ (b : BookState). record row { book = b }) left.1, left.2)
   row-left pass it (step.Refused (error.JournalFull entries)) c k alone left =
       (left.0, left.1, left.2, ap (λ (b : BookState). record row { book = b }) left.3, left.4)

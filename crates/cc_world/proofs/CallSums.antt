@@ -32,7 +32,7 @@ use Rattle.cc_step.proofs.Asking.{asked-reserved}
 use Rattle.cc_step.proofs.Placed.{so-far}
 use Rattle.cc_step.proofs.Reserved.{stores-call, sum-same}
 use Rattle.cc_step.specs.Step.{asked_now, is_stepped, places_spared}
-use Rattle.cc_world.specs.Calls.{IsFiledOn, IsRefusedSo, IsReplied, asked_on, asked_ready, places_one, spared_on}
+use Rattle.cc_world.specs.Calls.{IsFiledOn, CallIsRefusedSo, IsReplied, asked_on, asked_ready, places_one, spared_on}
 use Rattle.cc_effects.specs.Events.{asked_done, filed_under}
 
 with-stores : (owed sums before stores : ℕ) → owed + stores ≡ before → owed + (sums + stores) ≡ sums + before

@@ -6,7 +6,7 @@ use Rattle.std.specs.declared.option.Option.TheVariants.{Some, None}
 use Rattle.std.proofs.Common.{sym, subst, ◌∙◌}
 use Rattle.std.proofs.lemmas.Option.{slice_get-map}
 use Rattle.cc_entry.specs.declared.entry.Entry.{Entry}
-use Rattle.cc_log.specs.Turn.{LogState}
+use Rattle.cc_log.specs.Turn.{LogTurnState}
 use Rattle.cc_traits.specs.Disk.{Disk}
 use Rattle.cc_traits.specs.Told.{IfTold}
 use Rattle.cc_turns.specs.Crash.{DiskIsCrashSafe, DisksAreCrashSafe, IsDurableForBegins, LogsAreDurable}
@@ -17,19 +17,19 @@ use Rattle.cc_turns.proofs.CrashSafe.{disk_safe, file_safe}
 use Rattle.cc_world.specs.Crash.{disks_in, files_in}
 use Rattle.cc_world.specs.Rows.{DiskIsUsed}
 use Rattle.cc_world.specs.World.{WorldStands, WorldState}
-use Rattle.cc_world.specs.declared.rows.Kept.{Kept}
-use Rattle.cc_world.specs.declared.rows.Row.{Row}
+use Rattle.cc_world.specs.declared.rows.BegunTransfer.{BegunTransfer}
+use Rattle.cc_world.specs.declared.rows.StreamRow.{StreamRow}
 use Rattle.cc_world.proofs.Fresh.{row-at, log-at}
 
 -- a disk that is used stands, at rest or with a transfer open
-used-stands : {D : Type 0} (told : D → Option Disk) (faults : D → ℕ) (first : DiskAtFirst) (past : List Entry) (s : ℕ) (disk : D) (kept : Option Kept) → DiskIsUsed told faults first past s disk kept → DiskStands told faults first past s disk
+used-stands : {D : Type 0} (told : D → Option Disk) (faults : D → ℕ) (first : DiskAtFirst) (past : List Entry) (s : ℕ) (disk : D) (kept : Option BegunTransfer) → DiskIsUsed told faults first past s disk kept → DiskStands told faults first past s disk
 used-stands told faults first past s disk None rest = rest.stands
 used-stands told faults first past s disk (Some kept) carrying = carrying.way.stands
 
 pub disks-safe : {D L Q : Type 0} (tells : Tells D L Q) (w : WorldState D L Q) → WorldStands tells w → DisksAreCrashSafe tells w.begun.disks w.journal.entries (disks_in w)
-disks-safe {D} tells w stands s disk is = safe (row-at (slice_get w.rows s) disk (sym is ∙ slice_get-map (λ (row : Row D). row.disk) w.rows s))
+disks-safe {D} tells w stands s disk is = safe (row-at (slice_get w.rows s) disk (sym is ∙ slice_get-map (λ (row : StreamRow D). row.disk) w.rows s))
   where
-    safe : (row : Row D) × (slice_get w.rows s ≡ Some row) × (row.disk ≡ disk) → DiskIsCrashSafe tells w.begun.disks w.journal.entries s disk
+    safe : (row : StreamRow D) × (slice_get w.rows s ≡ Some row) × (row.disk ≡ disk) → DiskIsCrashSafe tells w.begun.disks w.journal.entries s disk
     safe (row, there, same) =
         let home = stands.rows.each s row there in
         let first = disk_at_first tells.disk tells.disk_faults (slice_get w.begun.disks s) in
@@ -38,9 +38,9 @@ disks-safe {D} tells w stands s disk is = safe (row-at (slice_get w.rows s) disk
         subst (λ (d : D). DiskIsCrashSafe tells w.begun.disks w.journal.entries s d) same (disk_safe tells w.begun.disks w.journal.entries s row.disk stood)
 
 pub logs-safe : {D L Q : Type 0} (tells : Tells D L Q) (w : WorldState D L Q) → WorldStands tells w → LogsAreDurable tells w.journal.entries (files_in w)
-logs-safe {L} tells w stands handle file is = safe (log-at (slice_get w.logs handle) file (sym is ∙ slice_get-map (λ (log : LogState L). log.file) w.logs handle))
+logs-safe {L} tells w stands handle file is = safe (log-at (slice_get w.logs handle) file (sym is ∙ slice_get-map (λ (log : LogTurnState L). log.file) w.logs handle))
   where
-    safe : (log : LogState L) × (slice_get w.logs handle ≡ Some log) × (log.file ≡ file) → IfTold (tells.log file) (IsDurableForBegins w.journal.entries handle)
+    safe : (log : LogTurnState L) × (slice_get w.logs handle ≡ Some log) × (log.file ≡ file) → IfTold (tells.log file) (IsDurableForBegins w.journal.entries handle)
     safe (log, there, same) =
         let home = stands.logs.each handle log there in
         file_safe tells.log tells.log_faults (log_at_first tells.log tells.log_faults (slice_get w.begun.logs handle)) w.journal.entries handle file

@@ -12,7 +12,7 @@ use Rattle.cc_entry.specs.declared.entry.Entry.TheVariants as entry
 use Rattle.cc_entry.specs.declared.error.CcError.{CcError}
 use Rattle.cc_entry.specs.declared.error.CcError.TheVariants as error
 use Rattle.cc_entry.specs.declared.reply.Outcome.TheVariants as outcome
-use Rattle.cc_book.specs.Book.{BookState, BookStands, Gains, GoesOn, MayPlace, failed}
+use Rattle.cc_book.specs.Book.{BookState, BookStands, Gains, GoesOn, MayPlaceOnBook, failed}
 use Rattle.cc_journal.specs.Calls.{owed_end}
 use Rattle.cc_journal.specs.Journal.{JournalState, room_of}
 use Rattle.cc_model.specs.Acts.{file_of}
@@ -31,14 +31,14 @@ use Rattle.cc_world.proofs.CallRows.{used-called}
 use Rattle.cc_world.proofs.CallGood.{good-called}
 use Rattle.cc_world.proofs.CallSums.{owes-one, reserved-failed}
 use Rattle.cc_world.specs.Calls.{CallWent, IsFiledOn}
-use Rattle.cc_world.specs.Failing.{FailLeft, IsFailing, IsTelling, MayTell}
+use Rattle.cc_world.specs.Failing.{FailEventLeft, IsFailing, IsTelling, MayTellFault}
 use Rattle.cc_world.specs.Rows.{DiskIsUsed, RowLeft, RowWent, StandsUnder}
 use Rattle.cc_effects.specs.Events.{MayStandIf, asked_to_fail, call_entry, filed_under}
 use Rattle.cc_effects.specs.declared.events.Event.TheVariants as event
 use Rattle.cc_effects.specs.declared.events.StepReply.{StepReply}
 use Rattle.cc_effects.specs.declared.events.StepReply.TheVariants as step
-use Rattle.cc_world.specs.declared.rows.Kept.{Kept}
-use Rattle.cc_world.specs.declared.rows.Row.{Row}
+use Rattle.cc_world.specs.declared.rows.BegunTransfer.{BegunTransfer}
+use Rattle.cc_world.specs.declared.rows.StreamRow.{StreamRow}
 
 when-true : (b : Bool) (P : Type 0) → b ≡ true → OnTrue b P → P
 when-true true P is p = p
@@ -103,8 +103,8 @@ module _ {Q : Type 0} (u : Setup) (pass : ℕ) (it : Call) (e : CcError) (b : Bo
       ap f (ap (λ (o : Option ℕ). ends_own_store j.entries pass o it) here ∙ is)
 
   -- its entry may be placed
-  pub may-place : (past : List Entry) → past ≡ j.entries → MayPlace past (its past) b
-  may-place past same = subst (λ (p : List Entry). MayPlace p (its p) b) (sym same)
+  pub may-place : (past : List Entry) → past ≡ j.entries → MayPlaceOnBook past (its past) b
+  may-place past same = subst (λ (p : List Entry). MayPlaceOnBook p (its p) b) (sym same)
       (u, so-far u (its j.entries ∷ j.entries) good, telling.failing.stands.stand.stands)
 
   -- once it is, the book stands for the journal, which has reserved what that owes
@@ -132,7 +132,7 @@ module _ {Q : Type 0} (u : Setup) (pass : ℕ) (it : Call) (e : CcError) (b : Bo
       nothing-more a m owed first second = omega (arith, first, second)
 
   -- a fault is neither of the errors that leave no entry
-  left : (x : CcError) (c : BookState) (k : JournalState Q) → MayTell u j.entries pass it x → asked_to_fail j.entries pass it ≤ room_of j → CallWent u (call_entry j.entries pass it (outcome.Failed x) ∷ []) b c j k → FailLeft u pass it (step.Refused x) b c j k
+  left : (x : CcError) (c : BookState) (k : JournalState Q) → MayTellFault u j.entries pass it x → asked_to_fail j.entries pass it ≤ room_of j → CallWent u (call_entry j.entries pass it (outcome.Failed x) ∷ []) b c j k → FailEventLeft u pass it (step.Refused x) b c j k
   left (error.JournalFull entries) c k may room its_went = absurd (no-fault may.fault)
     where
       no-fault : false ≡ true → ⊥
@@ -151,7 +151,7 @@ module _ {Q : Type 0} (u : Setup) (pass : ℕ) (it : Call) (e : CcError) (b : Bo
         some : (owed after reserved : ℕ) → owed ≡ 1 → owed + after ≡ reserved → 0 < reserved
         some owed after reserved one is = omega (arith, one, is)
 
-    pub told-own : (c : BookState) (k : JournalState Q) → Gains (its j.entries) j k → GoesOn j.entries k.entries b c → c ≡ b → FailLeft u pass it (step.Refused e) b c j k
+    pub told-own : (c : BookState) (k : JournalState Q) → Gains (its j.entries) j k → GoesOn j.entries k.entries b c → c ≡ b → FailEventLeft u pass it (step.Refused e) b c j k
     told-own c k gains goes same =
         let stands : BookStands (u.opening b.stream) (its j.entries ∷ j.entries) c =
         subst (λ (past : List Entry). BookStands (u.opening b.stream) past c) (ap (λ x. x.entries) gains)
@@ -166,9 +166,9 @@ module _ {Q : Type 0} (u : Setup) (pass : ℕ) (it : Call) (e : CcError) (b : Bo
 
   -- Any other call asks a place, and the end that its pass owed is owed no more.
   module _ (other : ends_own_store j.entries pass (Some b.stream) it ≡ false) where
-    pub no-room : (x : CcError) (k : JournalState Q) → (IsErrOf {T = Unit {0}} {E = CcError} (Err x) (error.JournalFull (length j.entries)) ↔ (room_of j < 1)) → (x ≡ error.JournalFull (length j.entries)) ⊎ (x ≡ error.NoMemory) → k ≡ j → FailLeft u pass it (step.Refused x) b b j k
+    pub no-room : (x : CcError) (k : JournalState Q) → (IsErrOf {T = Unit {0}} {E = CcError} (Err x) (error.JournalFull (length j.entries)) ↔ (room_of j < 1)) → (x ≡ error.JournalFull (length j.entries)) ⊎ (x ≡ error.NoMemory) → k ≡ j → FailEventLeft u pass it (step.Refused x) b b j k
     no-room x k full (inl is) same =
-        subst (λ (y : CcError). FailLeft u pass it (step.Refused y) b b j k) (sym is) (
+        subst (λ (y : CcError). FailEventLeft u pass it (step.Refused y) b b j k) (sym is) (
           subst (λ (o : Option Entry). MayStandIf u j.entries o) (sym telling.may.told) telling.may.may,
           subst (λ (n : ℕ). room_of j < n) (sym (asks false other)) (full.0 (as-err x (error.JournalFull (length j.entries)) is)),
           refl,
@@ -176,13 +176,13 @@ module _ {Q : Type 0} (u : Setup) (pass : ℕ) (it : Call) (e : CcError) (b : Bo
           same,
         )
     no-room x k full (inr is) same =
-        subst (λ (y : CcError). FailLeft u pass it (step.Refused y) b b j k) (sym is) (refl, same)
+        subst (λ (y : CcError). FailEventLeft u pass it (step.Refused y) b b j k) (sym is) (refl, same)
 
     module _ (r : JournalState Q) (reserving : r ≡ record j { reserved = j.reserved + 1 }) where
       same-entries : r.entries ≡ j.entries
       same-entries = ap (λ x. x.entries) reserving
 
-      pub may-place-new : MayPlace r.entries (its r.entries) b
+      pub may-place-new : MayPlaceOnBook r.entries (its r.entries) b
       may-place-new = may-place r.entries same-entries
 
       pub new-place : 0 < r.reserved
@@ -204,7 +204,7 @@ module _ {Q : Type 0} (u : Setup) (pass : ℕ) (it : Call) (e : CcError) (b : Bo
             within : (its_owed after before now : ℕ) → owed ≡ its_owed → its_owed + after ≡ before → now ≡ (before + 1) - 1 → owed ≤ now
             within its_owed after before now is sum now_is = omega (arith, is, sum, now_is)
 
-        pub told-new : (c : BookState) (k : JournalState Q) (done : Unit {0}) (x : CcError) → GoesOn r.entries l.entries b c → c ≡ b → k ≡ record l { reserved = l.reserved - owed } → (room_of j < 1 → IsErrOf {T = Unit {0}} {E = CcError} (Ok done) x) → FailLeft u pass it (step.Refused e) b c j k
+        pub told-new : (c : BookState) (k : JournalState Q) (done : Unit {0}) (x : CcError) → GoesOn r.entries l.entries b c → c ≡ b → k ≡ record l { reserved = l.reserved - owed } → (room_of j < 1 → IsErrOf {T = Unit {0}} {E = CcError} (Ok done) x) → FailEventLeft u pass it (step.Refused e) b c j k
         told-new c k done x goes same given full =
             let placed : k ≡ record j { entries = its j.entries ∷ j.entries; reserved = ((j.reserved + 1) - 1) - owed; rows = l.rows } = given ∙ ap (λ (y : JournalState Q). record y { reserved = y.reserved - owed }) gained in
             let stands : BookStands (u.opening b.stream) (its j.entries ∷ j.entries) c =
@@ -217,7 +217,7 @@ module _ {Q : Type 0} (u : Setup) (pass : ℕ) (it : Call) (e : CcError) (b : Bo
             after-release its_owed after before is sum = omega (arith, is, sum)
 
 -- What a call leaves of its row that tells a fault.
-module _ {D Q : Type 0} (told : D → Option Disk) (faults : D → ℕ) (u : Setup) (first : DiskAtFirst) (row : Row D) (j : JournalState Q) (stand : StandsUnder told faults u first 0 row j) where
+module _ {D Q : Type 0} (told : D → Option Disk) (faults : D → ℕ) (u : Setup) (first : DiskAtFirst) (row : StreamRow D) (j : JournalState Q) (stand : StandsUnder told faults u first 0 row j) where
   pub row-failing : (it : Call) → filed_under j.entries it ≡ Some row.book.stream → IsFailing u it row.book j
   row-failing it here = record {
     stands = record {
@@ -268,7 +268,7 @@ module _ {D Q : Type 0} (told : D → Option Disk) (faults : D → ℕ) (u : Set
   same-row : (c : BookState) → c ≡ row.book → record row { book = c } ≡ row
   same-row c same = ap (λ (x : BookState). record row { book = x }) same
 
-  pub row-left : (pass : ℕ) (it : Call) (reply : StepReply Q) (c : BookState) (k : JournalState Q) → FailLeft u pass it reply row.book c j k → RowLeft told faults u first (event.Fail pass it) reply row (record row { book = c }) j k
+  pub row-left : (pass : ℕ) (it : Call) (reply : StepReply Q) (c : BookState) (k : JournalState Q) → FailEventLeft u pass it reply row.book c j k → RowLeft told faults u first (event.Fail pass it) reply row (record row { book = c }) j k
   row-left pass it step.NotNow c k left = (left.0, same-row c left.1, left.2)
   row-left pass it (step.Refused (error.JournalFull entries)) c k left = (left.0, left.1, left.2, same-row c left.3, left.4)
   row-left pass it (step.Refused error.NoMemory) c k left = ([], refl, row-same c k left.0 left.1)

@@ -19,7 +19,7 @@ use Rattle.cc_model.specs.Ranges.{first_page}
 use Rattle.cc_model.specs.Refusals.{refusal}
 use Rattle.cc_model.specs.Setup.{Setup}
 use Rattle.cc_world.specs.Calls.{IsFiledOn}
-use Rattle.cc_world.specs.Failing.{MayTell}
+use Rattle.cc_world.specs.Failing.{MayTellFault}
 use Rattle.cc_world.specs.Pages.{Says}
 use Rattle.cc_effects.specs.Events.{MayStandIf, error_of, fault_told, filed_under, told_entry}
 
@@ -73,7 +73,7 @@ when-fault false P p = tt
 
 module _ (u : Setup) (past : List Entry) (pass s : ℕ) (it : Call) (here : filed_under past it ≡ Some s) where
   -- It tells the fault, where it may be filed and nothing else refuses it.
-  pub may-tell : (fault : Fault) → oldest (faults_since past pass) ≡ Some fault → IsFiledOn past pass s it → NothingElse u past pass (Some s) it → MayTell u past pass it (error_of it fault)
+  pub may-tell : (fault : Fault) → oldest (faults_since past pass) ≡ Some fault → IsFiledOn past pass s it → NothingElse u past pass (Some s) it → MayTellFault u past pass it (error_of it fault)
   may-tell fault is filed unrefused = record {
     fault = its-fault it fault;
     told = ap (told_entry past pass it) is;

@@ -21,7 +21,7 @@ use Rattle.cc_effects.specs.Events.{MayHappen, MayStandIf, NamesOf, OnJournal, O
 use Rattle.cc_world.specs.World.{WorldStands, WorldState}
 use Rattle.cc_effects.specs.declared.events.Event.TheVariants as event
 use Rattle.cc_world.specs.declared.filing.Filing.TheVariants as filing
-use Rattle.cc_world.specs.declared.rows.Row.{Row}
+use Rattle.cc_world.specs.declared.rows.StreamRow.{StreamRow}
 use Rattle.cc_world.proofs.JournalSteps.{are-books}
 
 -- a call that names a file is filed under its stream
@@ -55,15 +55,15 @@ row-known past it disks s names filed held = go (file_of it) refl
         subst (λ (n : ℕ). n < disks) (same file.stream s (sym (filed-file past it file is) ∙ filed))
         (subst (λ (o : Option File). NamesOf disks o) is names)
 
-module _ {D L Q : Type 0} (tells : Tells D L Q) (w : WorldState D L Q) (stands : WorldStands tells w) (rows : List (Row D)) (same : rows ≡ w.rows) where
+module _ {D L Q : Type 0} (tells : Tells D L Q) (w : WorldState D L Q) (stands : WorldStands tells w) (rows : List (StreamRow D)) (same : rows ≡ w.rows) where
   -- the books that tell it are those of the World
   pub books-there : AreBooks w.journal.entries rows
-  books-there = subst (λ (rs : List (Row D)). AreBooks w.journal.entries rs) (sym same) (are-books tells w stands)
+  books-there = subst (λ (rs : List (StreamRow D)). AreBooks w.journal.entries rs) (sym same) (are-books tells w stands)
 
   -- there is a row for the stream
   pub row-there : (it : Call) (s : ℕ) → NamesOf (length w.begun.disks) (file_of it) → FilesUnder (length rows) w.journal.entries it (filing.Stream s) → s < length w.rows
   row-there it s names under =
-      let counted : length rows ≡ length w.begun.disks = ap (λ (rs : List (Row D)). length rs) same ∙ stands.rows.counted in
+      let counted : length rows ≡ length w.begun.disks = ap (λ (rs : List (StreamRow D)). length rs) same ∙ stands.rows.counted in
       subst (λ (n : ℕ). s < n) (sym stands.rows.counted)
       (row-known w.journal.entries it (length w.begun.disks) s names under.0 (λ none. subst (λ (n : ℕ). s < n) counted (under.1 none)))
 

@@ -15,7 +15,7 @@ use Rattle.cc_model.specs.History.{history}
 use Rattle.cc_model.specs.Holds.{hold_at, holds_of}
 use Rattle.cc_world.specs.Filing.{AreBooks}
 use Rattle.cc_effects.specs.Events.{holder_of}
-use Rattle.cc_world.specs.declared.rows.Row.{Row}
+use Rattle.cc_world.specs.declared.rows.StreamRow.{StreamRow}
 
 -- whether a hold is open in a stream
 abbrev pub is_open_in : List Entry → ℕ → ℕ → Bool
@@ -53,11 +53,11 @@ none-held : (hold : ℕ) → is_some (hold_at (holds_of []) hold) ≡ false
 unfolding holds_of
 none-held hold = refl
 
-module _ {D : Type 0} (past : List Entry) (rows : List (Row D)) (are : AreBooks past rows) (hold : ℕ) where
+module _ {D : Type 0} (past : List Entry) (rows : List (StreamRow D)) (are : AreBooks past rows) (hold : ℕ) where
   -- the row at a place
-  module _ (at : ℕ) (row : Row D) (within : at < length rows) (is : row ≡ slice_index_or rows at row) where
+  module _ (at : ℕ) (row : StreamRow D) (within : at < length rows) (is : row ≡ slice_index_or rows at row) where
     there : slice_get rows at ≡ Some row
-    there = slice_get-get_or rows at row within ∙ ap (λ (r : Row D). Some r) (sym is)
+    there = slice_get-get_or rows at row within ∙ ap (λ (r : StreamRow D). Some r) (sym is)
 
     pub of-stream : row.book.stream ≡ at
     of-stream = are.stream at row there

@@ -13,16 +13,16 @@ use Rattle.cc_model.specs.Allowed.{MayStand}
 use Rattle.cc_model.specs.Good.{IsGood}
 use Rattle.cc_model.specs.Room.{reserved_in}
 use Rattle.cc_model.specs.Setup.{Setup}
-use Rattle.cc_world.specs.Journals.{HasPlaced, JournalEnded, JournalStandsUnder, JournalWent}
+use Rattle.cc_world.specs.Journals.{JournalHasPlaced, JournalEnded, JournalStandsUnder, JournalWent}
 use Rattle.cc_world.specs.Reserving.{HasReserved, unreserved}
-use Rattle.cc_effects.specs.Events.{IsWanting, MayHappen, asked_by}
+use Rattle.cc_effects.specs.Events.{IsWanting, MayHappen, asked_by_event}
 use Rattle.cc_effects.specs.declared.events.Event.{Event}
 use Rattle.cc_effects.specs.declared.events.StepReply.TheVariants as step
 use Rattle.cc_world.proofs.Owing.{owes_nothing, reserved-same}
 use Rattle.cc_world.proofs.Placing.{is_call, good-placed, so-far}
 
 -- An entry that was placed where more places were reserved, whatever became of the rest.
-pub placed-from : {Q : Type 0} (e : Entry) (m n : ℕ) (rows : List Row) (queue : List (Deferral × Q)) (j i k : JournalState Q) → i ≡ record j { reserved = m } → k ≡ record i { entries = e ∷ i.entries; reserved = n; rows = rows; queue = queue } → HasPlaced (e ∷ []) j k
+pub placed-from : {Q : Type 0} (e : Entry) (m n : ℕ) (rows : List Row) (queue : List (Deferral × Q)) (j i k : JournalState Q) → i ≡ record j { reserved = m } → k ≡ record i { entries = e ∷ i.entries; reserved = n; rows = rows; queue = queue } → JournalHasPlaced (e ∷ []) j k
 placed-from {Q} e m n rows queue j i k same placed =
     let flat : k ≡ record j { entries = e ∷ j.entries; reserved = n; rows = rows; queue = queue } =
     subst (λ (x : JournalState Q). k ≡ record x { entries = e ∷ x.entries; reserved = n; rows = rows; queue = queue }) same placed in
@@ -35,7 +35,7 @@ as-err x y is =
 
 module _ {Q : Type 0} (posted : Q → Bool) (u : Setup) (j : JournalState Q) (stand : JournalStandsUnder posted u j) where
   -- one entry was placed
-  pub went-one : (e : Entry) (k : JournalState Q) → IsGood u (e ∷ j.entries) → HasPlaced (e ∷ []) j k → k.reserved ≡ reserved_in (e ∷ j.entries) → AllUnposted posted k.queue → JournalWent posted u (e ∷ []) j k
+  pub went-one : (e : Entry) (k : JournalState Q) → IsGood u (e ∷ j.entries) → JournalHasPlaced (e ∷ []) j k → k.reserved ≡ reserved_in (e ∷ j.entries) → AllUnposted posted k.queue → JournalWent posted u (e ∷ []) j k
   went-one e k good placed reserved unposted =
       let grown : k.entries ≡ e ∷ j.entries = ap (λ x. x.entries) placed in
       record {
@@ -67,7 +67,7 @@ module _ {Q : Type 0} (posted : Q → Bool) (u : Setup) (j : JournalState Q) (st
       back k i j before after less more is same = omega arith
 
   -- No place was reserved: for want of room, or of memory.
-  pub wanting : (it : Event Q) (e : CcError) (k : JournalState Q) → MayHappen u j.entries it → asked_by u j.entries it ≡ 1 → IsWanting j.entries it [] → (IsErrOf {T = Unit {0}} {E = CcError} (Err e) (error.JournalFull (length j.entries)) ↔ (room_of j < 1)) → (e ≡ error.JournalFull (length j.entries)) ⊎ (e ≡ error.NoMemory) → k ≡ j → JournalEnded posted u it (step.Refused e) j k
+  pub wanting : (it : Event Q) (e : CcError) (k : JournalState Q) → MayHappen u j.entries it → asked_by_event u j.entries it ≡ 1 → IsWanting j.entries it [] → (IsErrOf {T = Unit {0}} {E = CcError} (Err e) (error.JournalFull (length j.entries)) ↔ (room_of j < 1)) → (e ≡ error.JournalFull (length j.entries)) ⊎ (e ≡ error.NoMemory) → k ≡ j → JournalEnded posted u it (step.Refused e) j k
   wanting it e k may one nothing full (inl is) same =
       subst (λ (x : CcError). JournalEnded posted u it (step.Refused x) j k) (sym is)
       (may, subst (λ (n : ℕ). room_of j < n) (sym one) (full.0 (as-err e (error.JournalFull (length j.entries)) is)), refl, same)

@@ -22,6 +22,7 @@ pub mod CallSums
 pub mod CallLeft
 pub mod CallReplies
 pub mod StillIn
+pub mod Settling
 pub mod CallRows
 pub mod PageBytes
 pub mod Stores

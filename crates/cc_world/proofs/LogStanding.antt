@@ -11,7 +11,7 @@ use Rattle.cc_entry.specs.declared.reply.Reply.TheVariants as reply
 use Rattle.cc_traits.specs.Log.{Log}
 use Rattle.cc_journal.specs.Journal.{JournalState, MayBePushed, room_of}
 use Rattle.cc_journal.proofs.GoodEntries.{MayBePushed-good}
-use Rattle.cc_log.specs.Turn.{LogState, Stands}
+use Rattle.cc_log.specs.Turn.{LogTurnState, Stands}
 use Rattle.cc_model.specs.Allowed.{MayStand}
 use Rattle.cc_model.specs.Covered.{IsNextLsn}
 use Rattle.cc_model.specs.Good.{IsGood}
@@ -20,8 +20,8 @@ use Rattle.cc_model.specs.Room.{reserved_in}
 use Rattle.cc_model.specs.Setup.{Setup}
 use Rattle.cc_turns.specs.Log.{LogStands, log_failures}
 use Rattle.cc_turns.specs.Standing.{LogAtFirst}
-use Rattle.cc_world.specs.Logs.{LogEnded, LogFaulted, LogLeft, LogStandsUnder, LogWent}
-use Rattle.cc_effects.specs.Events.{IsWanting, asked_by, faulted_by}
+use Rattle.cc_world.specs.Logs.{LogEnded, LogFaulted, LogEventLeft, LogStandsUnder, LogWent}
+use Rattle.cc_effects.specs.Events.{IsWanting, asked_by_event, faulted_by}
 use Rattle.cc_effects.specs.declared.events.Event.{Event}
 use Rattle.cc_effects.specs.declared.events.Event.TheVariants as event
 use Rattle.cc_effects.specs.declared.events.StepReply.{StepReply}
@@ -41,12 +41,12 @@ failures-failed pass handle log past same = rw (eq-eqb handle log same) (more (l
     more : (n : ℕ) → suc n ≡ n + 1
     more n = omega arith
 
-module _ {L Q : Type 0} (told : L → Option Log) (faults : L → ℕ) (u : Setup) (first : LogAtFirst) (more : ℕ) (log : LogState L) (j : JournalState Q) (stand : LogStandsUnder told faults u first more log j) where
+module _ {L Q : Type 0} (told : L → Option Log) (faults : L → ℕ) (u : Setup) (first : LogAtFirst) (more : ℕ) (log : LogTurnState L) (j : JournalState Q) (stand : LogStandsUnder told faults u first more log j) where
   pub log-may-push : (e : Entry) → is_call e ≡ false → MayStand u j.entries e → MayBePushed j.entries e
   log-may-push e plain may = MayBePushed-good u j.entries e (so-far u (e ∷ j.entries) (good-placed u j.entries e plain stand.good may))
 
   -- The log after one entry, by which its failures rose as the count of its file.
-  pub log-went-one : (n : ℕ) (e : Entry) (now : LogState L) (k : JournalState Q) → is_call e ≡ false → owes_nothing e ≡ true → MayStand u j.entries e → k ≡ record j { entries = e ∷ j.entries; reserved = k.reserved; rows = k.rows } → k.reserved ≡ reserved_in j.entries → now.handle ≡ log.handle → Stands told first.told (e ∷ j.entries) now → log_failures log.handle (e ∷ j.entries) ≡ log_failures log.handle j.entries + n → faults now.file ≡ faults log.file + n → LogWent told faults u first n (e ∷ []) log now j k
+  pub log-went-one : (n : ℕ) (e : Entry) (now : LogTurnState L) (k : JournalState Q) → is_call e ≡ false → owes_nothing e ≡ true → MayStand u j.entries e → k ≡ record j { entries = e ∷ j.entries; reserved = k.reserved; rows = k.rows } → k.reserved ≡ reserved_in j.entries → now.handle ≡ log.handle → Stands told first.told (e ∷ j.entries) now → log_failures log.handle (e ∷ j.entries) ≡ log_failures log.handle j.entries + n → faults now.file ≡ faults log.file + n → LogWent told faults u first n (e ∷ []) log now j k
   log-went-one n e now k plain owes may placed reserved same stands failed counted =
       let grown : k.entries ≡ e ∷ j.entries = ap (λ x. x.entries) placed in
       record {
@@ -71,7 +71,7 @@ module _ {L Q : Type 0} (told : L → Option Log) (faults : L → ℕ) (u : Setu
       still x a b c d f same more now was = omega arith
 
   -- The log where nothing was placed.
-  pub log-went-none : (now : LogState L) (k : JournalState Q) → k ≡ record j { reserved = k.reserved } → k.reserved ≡ reserved_in j.entries → now.handle ≡ log.handle → Stands told first.told j.entries now → faults now.file ≡ faults log.file + 0 → LogWent told faults u first 0 [] log now j k
+  pub log-went-none : (now : LogTurnState L) (k : JournalState Q) → k ≡ record j { reserved = k.reserved } → k.reserved ≡ reserved_in j.entries → now.handle ≡ log.handle → Stands told first.told j.entries now → faults now.file ≡ faults log.file + 0 → LogWent told faults u first 0 [] log now j k
   log-went-none now k placed reserved same stands counted =
       let grown : k.entries ≡ j.entries = ap (λ x. x.entries) placed in
       record {
@@ -96,7 +96,7 @@ module _ {L Q : Type 0} (told : L → Option Log) (faults : L → ℕ) (u : Setu
       still x a c d f same now was = omega arith
 
 -- with a place reserved
-pub log-reserved : {L Q : Type 0} (more : ℕ) (told : L → Option Log) (faults : L → ℕ) (u : Setup) (first : LogAtFirst) (log : LogState L) (j r : JournalState Q) → r ≡ record j { reserved = j.reserved + more } → LogStandsUnder told faults u first 0 log j → LogStandsUnder told faults u first more log r
+pub log-reserved : {L Q : Type 0} (more : ℕ) (told : L → Option Log) (faults : L → ℕ) (u : Setup) (first : LogAtFirst) (log : LogTurnState L) (j r : JournalState Q) → r ≡ record j { reserved = j.reserved + more } → LogStandsUnder told faults u first 0 log j → LogStandsUnder told faults u first more log r
 log-reserved more told faults u first log j r same stand = rw same (record {
   good = stand.good;
   log_is = stand.log_is;
@@ -107,7 +107,7 @@ log-reserved more told faults u first log j r same stand = rw same (record {
     beyond : (n owed : ℕ) → n ≡ owed + 0 → n + more ≡ owed + more
     beyond n owed is = omega arith
 
-log-from : {L Q : Type 0} (m : ℕ) (told : L → Option Log) (faults : L → ℕ) (u : Setup) (first : LogAtFirst) (n : ℕ) (added : List Entry) (old new : LogState L) (j k : JournalState Q) → LogWent told faults u first n added old new (record j { reserved = m }) k → LogWent told faults u first n added old new j k
+log-from : {L Q : Type 0} (m : ℕ) (told : L → Option Log) (faults : L → ℕ) (u : Setup) (first : LogAtFirst) (n : ℕ) (added : List Entry) (old new : LogTurnState L) (j k : JournalState Q) → LogWent told faults u first n added old new (record j { reserved = m }) k → LogWent told faults u first n added old new j k
 log-from m told faults u first n added old new j k went = record {
   stands = went.stands;
   placed = went.placed;
@@ -115,11 +115,11 @@ log-from m told faults u first n added old new j k went = record {
   counted = went.counted;
 }
 
-log-faulted-from : {L Q : Type 0} (m : ℕ) (told : L → Option Log) (faults : L → ℕ) (u : Setup) (first : LogAtFirst) (o : Option Entry) (old new : LogState L) (j k : JournalState Q) → LogFaulted told faults u first o old new (record j { reserved = m }) k → LogFaulted told faults u first o old new j k
+log-faulted-from : {L Q : Type 0} (m : ℕ) (told : L → Option Log) (faults : L → ℕ) (u : Setup) (first : LogAtFirst) (o : Option Entry) (old new : LogTurnState L) (j k : JournalState Q) → LogFaulted told faults u first o old new (record j { reserved = m }) k → LogFaulted told faults u first o old new j k
 log-faulted-from m told faults u first None old new j k went = went
 log-faulted-from m told faults u first (Some e) old new j k went = log-from m told faults u first 1 (e ∷ []) old new j k went
 
-log-left-by : {L Q : Type 0} (n : ℕ) (told : L → Option Log) (faults : L → ℕ) (u : Setup) (first : LogAtFirst) (it : Event Q) (answer : StepReply Q) (old new : LogState L) (j k : JournalState Q) → asked_by u j.entries it ≤ room_of j → LogEnded told faults u first it answer old new (record j { reserved = n }) k → LogLeft told faults u first it answer old new j k
+log-left-by : {L Q : Type 0} (n : ℕ) (told : L → Option Log) (faults : L → ℕ) (u : Setup) (first : LogAtFirst) (it : Event Q) (answer : StepReply Q) (old new : LogTurnState L) (j k : JournalState Q) → asked_by_event u j.entries it ≤ room_of j → LogEnded told faults u first it answer old new (record j { reserved = n }) k → LogEventLeft told faults u first it answer old new j k
 log-left-by n told faults u first it step.NotNow old new j k room ended = absurd ended
 log-left-by n told faults u first it (step.Refused (error.JournalFull entries)) old new j k room ended = absurd ended
 log-left-by n told faults u first it step.Faulted old new j k room ended =
@@ -130,13 +130,13 @@ log-left-by n told faults u first it other old new j k room ended =
     (room, (ended.0, ended.1, log-from n told faults u first 0 ended.0 old new j k ended.2))
 
 -- What an event ends with that had places reserved before is what it leaves.
-pub log-left : {L Q : Type 0} (more : ℕ) (told : L → Option Log) (faults : L → ℕ) (u : Setup) (first : LogAtFirst) (it : Event Q) (answer : StepReply Q) (old new : LogState L) (j r k : JournalState Q) → asked_by u j.entries it ≤ room_of j → r ≡ record j { reserved = j.reserved + more } → LogEnded told faults u first it answer old new r k → LogLeft told faults u first it answer old new j k
+pub log-left : {L Q : Type 0} (more : ℕ) (told : L → Option Log) (faults : L → ℕ) (u : Setup) (first : LogAtFirst) (it : Event Q) (answer : StepReply Q) (old new : LogTurnState L) (j r k : JournalState Q) → asked_by_event u j.entries it ≤ room_of j → r ≡ record j { reserved = j.reserved + more } → LogEnded told faults u first it answer old new r k → LogEventLeft told faults u first it answer old new j k
 log-left {L} {Q} more told faults u first it answer old new j r k room same ended =
     log-left-by (j.reserved + more) told faults u first it answer old new j k room
     (subst (λ (x : JournalState Q). LogEnded told faults u first it answer old new x k) same ended)
 
 -- the log and the journal as they were
-pub log-kept : {L Q : Type 0} (told : L → Option Log) (faults : L → ℕ) (u : Setup) (first : LogAtFirst) (log : LogState L) (j k : JournalState Q) → LogStandsUnder told faults u first 0 log j → k ≡ j → LogWent told faults u first 0 [] log log j k
+pub log-kept : {L Q : Type 0} (told : L → Option Log) (faults : L → ℕ) (u : Setup) (first : LogAtFirst) (log : LogTurnState L) (j k : JournalState Q) → LogStandsUnder told faults u first 0 log j → k ≡ j → LogWent told faults u first 0 [] log log j k
 log-kept told faults u first log j k stand same =
     log-went-none told faults u first 0 log j stand log k
     (same ∙ ap (λ (n : ℕ). record j { reserved = n }) (sym (ap (λ x. x.reserved) same)))
@@ -149,9 +149,9 @@ log-kept told faults u first log j k stand same =
     no-more a = omega arith
 
 -- No place was reserved: for want of room, or of memory, where the event then places nothing.
-pub log-unreserved : {L Q : Type 0} (told : L → Option Log) (faults : L → ℕ) (u : Setup) (first : LogAtFirst) (it : Event Q) (log : LogState L) (j k : JournalState Q) (e : CcError) → LogStandsUnder told faults u first 0 log j → asked_by u j.entries it ≡ 1 → IsWanting j.entries it [] → (IsErrOf {T = Unit {0}} {E = CcError} (Err e) (error.JournalFull (length j.entries)) ↔ (room_of j < 1)) → (e ≡ error.JournalFull (length j.entries)) ⊎ (e ≡ error.NoMemory) → k ≡ j → LogLeft told faults u first it (step.Refused e) log log j k
+pub log-unreserved : {L Q : Type 0} (told : L → Option Log) (faults : L → ℕ) (u : Setup) (first : LogAtFirst) (it : Event Q) (log : LogTurnState L) (j k : JournalState Q) (e : CcError) → LogStandsUnder told faults u first 0 log j → asked_by_event u j.entries it ≡ 1 → IsWanting j.entries it [] → (IsErrOf {T = Unit {0}} {E = CcError} (Err e) (error.JournalFull (length j.entries)) ↔ (room_of j < 1)) → (e ≡ error.JournalFull (length j.entries)) ⊎ (e ≡ error.NoMemory) → k ≡ j → LogEventLeft told faults u first it (step.Refused e) log log j k
 log-unreserved {L} {Q} told faults u first it log j k e stand one wanting full (inl err) same =
-    subst (λ (x : CcError). LogLeft told faults u first it (step.Refused x) log log j k) (sym err)
+    subst (λ (x : CcError). LogEventLeft told faults u first it (step.Refused x) log log j k) (sym err)
     (subst (λ (n : ℕ). room_of j < n) (sym one) (full.0 (as-err e (error.JournalFull (length j.entries)) err)), refl, refl, same)
   where
     as-err : (x y : CcError) → x ≡ y → IsErrOf {T = Unit {0}} {E = CcError} (Err x) y
@@ -159,22 +159,22 @@ log-unreserved {L} {Q} told faults u first it log j k e stand one wanting full (
         let f : CcError → Result (Unit {0}) CcError = λ z. Err z in
         ap f is
 log-unreserved told faults u first it log j k e stand one wanting full (inr err) same =
-    subst (λ (x : CcError). LogLeft told faults u first it (step.Refused x) log log j k) (sym err)
+    subst (λ (x : CcError). LogEventLeft told faults u first it (step.Refused x) log log j k) (sym err)
     ([], wanting, log-kept told faults u first log j k stand same)
 
 -- what a step of a log is told by
-pub told-by : {L : Type 0} (told : L → Option Log) (begun : Option Log) (past : List Entry) (after : LogState L) (o p : Option Entry) → o ≡ p → Stands told begun (cons_option o past) after → Stands told begun (cons_option p past) after
+pub told-by : {L : Type 0} (told : L → Option Log) (begun : Option Log) (past : List Entry) (after : LogTurnState L) (o p : Option Entry) → o ≡ p → Stands told begun (cons_option o past) after → Stands told begun (cons_option p past) after
 told-by told begun past after o p is stands = subst (λ (x : Option Entry). Stands told begun (cons_option x past) after) is stands
 
 -- what a flush asks, by whether the log was flushed so far
-flush-asks : (Q : Type 0) (u : Setup) (past : List Entry) (pass handle to : ℕ) (b : Bool) → nat_le to (flushed_to past handle) ≡ b → asked_by {Q = Q} u past (event.LogFlush pass handle to) ≡ (if b then 0 else 1)
+flush-asks : (Q : Type 0) (u : Setup) (past : List Entry) (pass handle to : ℕ) (b : Bool) → nat_le to (flushed_to past handle) ≡ b → asked_by_event {Q = Q} u past (event.LogFlush pass handle to) ≡ (if b then 0 else 1)
 flush-asks Q u past pass handle to b is = rw is refl
 
-pub flush-asks-one : (Q : Type 0) (u : Setup) (past : List Entry) (pass handle to : ℕ) → flushed_to past handle < to → asked_by {Q = Q} u past (event.LogFlush pass handle to) ≡ 1
+pub flush-asks-one : (Q : Type 0) (u : Setup) (past : List Entry) (pass handle to : ℕ) → flushed_to past handle < to → asked_by_event {Q = Q} u past (event.LogFlush pass handle to) ≡ 1
 flush-asks-one Q u past pass handle to less = flush-asks Q u past pass handle to false (lt-leb to (flushed_to past handle) less)
 
 -- nothing is done where the log was flushed so far
-pub flush-nothing : {L Q : Type 0} (told : L → Option Log) (faults : L → ℕ) (u : Setup) (first : LogAtFirst) (log : LogState L) (j : JournalState Q) (pass handle to : ℕ) → LogStandsUnder told faults u first 0 log j → log.handle ≡ handle → to ≤ log.flushed → LogLeft told faults u first (event.LogFlush pass handle to) (step.Done reply.Unit) log log j j
+pub flush-nothing : {L Q : Type 0} (told : L → Option Log) (faults : L → ℕ) (u : Setup) (first : LogAtFirst) (log : LogTurnState L) (j : JournalState Q) (pass handle to : ℕ) → LogStandsUnder told faults u first 0 log j → log.handle ≡ handle → to ≤ log.flushed → LogEventLeft told faults u first (event.LogFlush pass handle to) (step.Done reply.Unit) log log j j
 flush-nothing {L} {Q} told faults u first log j pass handle to stand same least =
     let far : nat_le to (flushed_to j.entries handle) ≡ true =
     le-leb to (flushed_to j.entries handle) (subst (λ (n : ℕ). to ≤ n) (stand.log_is.stands.flushed_is ∙ ap (λ (h : ℕ). flushed_to j.entries h) same) least) in (
@@ -190,15 +190,15 @@ flush-nothing {L} {Q} told faults u first log j pass handle to stand same least 
 pub flush-places : (past : List Entry) (pass handle to : ℕ) → flushed_to past handle < to → entry.Flushed pass handle to ∷ [] ≡ (if nat_le to (flushed_to past handle) then [] else entry.Flushed pass handle to ∷ [])
 flush-places past pass handle to less = rw (lt-leb to (flushed_to past handle) less) refl
 
-pub flush-fails : {L Q : Type 0} (told : L → Option Log) (faults : L → ℕ) (u : Setup) (first : LogAtFirst) (pass handle to : ℕ) (old new : LogState L) (j k : JournalState Q) → flushed_to j.entries handle < to → LogWent told faults u first 1 (entry.LogFailed pass handle ∷ []) old new j k → LogFaulted told faults u first (faulted_by {Q = Q} j.entries (event.LogFlush pass handle to)) old new j k
+pub flush-fails : {L Q : Type 0} (told : L → Option Log) (faults : L → ℕ) (u : Setup) (first : LogAtFirst) (pass handle to : ℕ) (old new : LogTurnState L) (j k : JournalState Q) → flushed_to j.entries handle < to → LogWent told faults u first 1 (entry.LogFailed pass handle ∷ []) old new j k → LogFaulted told faults u first (faulted_by {Q = Q} j.entries (event.LogFlush pass handle to)) old new j k
 flush-fails told faults u first pass handle to old new j k less went = rw (lt-leb to (flushed_to j.entries handle) less) went
 
-pub not-flushed : {L Q : Type 0} (told : L → Option Log) (faults : L → ℕ) (u : Setup) (first : LogAtFirst) (log : LogState L) (j : JournalState Q) (handle to : ℕ) → LogStandsUnder told faults u first 0 log j → log.handle ≡ handle → log.flushed < to → flushed_to j.entries handle < to
+pub not-flushed : {L Q : Type 0} (told : L → Option Log) (faults : L → ℕ) (u : Setup) (first : LogAtFirst) (log : LogTurnState L) (j : JournalState Q) (handle to : ℕ) → LogStandsUnder told faults u first 0 log j → log.handle ≡ handle → log.flushed < to → flushed_to j.entries handle < to
 not-flushed told faults u first log j handle to stand same less =
     subst (λ (n : ℕ). n < to) (stand.log_is.stands.flushed_is ∙ ap (λ (h : ℕ). flushed_to j.entries h) same) less
 
 -- the floor of a log is that of its handle
-pub floor-of : {L Q : Type 0} (told : L → Option Log) (faults : L → ℕ) (u : Setup) (first : LogAtFirst) (more : ℕ) (log : LogState L) (j : JournalState Q) (handle : ℕ) → LogStandsUnder told faults u first more log j → log.handle ≡ handle → log.floor ≡ floor_of j.entries handle
+pub floor-of : {L Q : Type 0} (told : L → Option Log) (faults : L → ℕ) (u : Setup) (first : LogAtFirst) (more : ℕ) (log : LogTurnState L) (j : JournalState Q) (handle : ℕ) → LogStandsUnder told faults u first more log j → log.handle ≡ handle → log.floor ≡ floor_of j.entries handle
 floor-of told faults u first more log j handle stand same = stand.log_is.stands.floor_is ∙ ap (λ (h : ℕ). floor_of j.entries h) same
 
 pub failures-appended : (pass handle lsn : ℕ) (bytes : List ℕ) (log : ℕ) (past : List Entry) → log_failures log (entry.Append pass handle lsn bytes ∷ past) ≡ log_failures log past + 0
@@ -206,7 +206,7 @@ unfolding log_failures
 failures-appended pass handle lsn bytes log past = omega arith
 
 -- the LSN after the floor, where one is left
-pub next-lsn : {L Q : Type 0} (told : L → Option Log) (faults : L → ℕ) (u : Setup) (first : LogAtFirst) (more : ℕ) (log : LogState L) (j : JournalState Q) (handle lsn : ℕ) → LogStandsUnder told faults u first more log j → log.handle ≡ handle → lsn ≡ log.floor + 1 → lsn ≤ 2 ^ 62 → IsNextLsn j.entries handle lsn
+pub next-lsn : {L Q : Type 0} (told : L → Option Log) (faults : L → ℕ) (u : Setup) (first : LogAtFirst) (more : ℕ) (log : LogTurnState L) (j : JournalState Q) (handle lsn : ℕ) → LogStandsUnder told faults u first more log j → log.handle ≡ handle → lsn ≡ log.floor + 1 → lsn ≤ 2 ^ 62 → IsNextLsn j.entries handle lsn
 next-lsn told faults u first more log j handle lsn stand same next within = record {
   next = after _ _ _ next (stand.log_is.stands.floor_is ∙ ap (λ (h : ℕ). floor_of j.entries h) same);
   in_range = within;

@@ -11,27 +11,28 @@ use Rattle.cc_journal.specs.Journal.{JournalState}
 use Rattle.cc_journal.specs.Queue.{AllUnposted}
 use Rattle.cc_laws.proofs.LogSteps.{flushed_to-quiet}
 use Rattle.cc_laws.proofs.QuietSteps.{history-quiet}
-use Rattle.cc_log.specs.Turn.{LogState}
+use Rattle.cc_log.specs.Turn.{LogTurnState}
 use Rattle.cc_model.specs.History.{history}
 use Rattle.cc_model.specs.Logs.{flushed_to}
 use Rattle.cc_turns.specs.Desk.{Tells, LogIsHome, disk_at_first, log_at_first, openings}
 use Rattle.cc_turns.specs.Log.{LogStands}
 use Rattle.cc_turns.proofs.BookGrows.{book_grows}
 use Rattle.cc_turns.proofs.LogGrows.{log_grows}
-use Rattle.cc_world.specs.Logs.{LogFaulted, LogLeft, LogStandsUnder, LogWent}
+use Rattle.cc_world.specs.Logs.{LogFaulted, LogEventLeft, LogStandsUnder, LogWent}
 use Rattle.cc_world.specs.Rows.{RowStands}
-use Rattle.cc_effects.specs.Events.{MayHappen, OnLog, Where, faulted_by, log_place, place_of}
-use Rattle.cc_world.specs.World.{Faulted, RowIsHome, Stepped, WentAt, WentLog, WorldStands, WorldState, setup_of}
+use Rattle.cc_effects.specs.Events.{MayHappen, OnLog, Where, faulted_by, log_place, place_of_event}
+use Rattle.cc_world.specs.World.{Faulted, RowIsHome, WorldEventLeft, WentAt, WentLog, WorldStands, WorldState}
 use Rattle.cc_effects.specs.declared.events.Event.{Event}
 use Rattle.cc_effects.specs.declared.events.StepReply.{StepReply}
 use Rattle.cc_effects.specs.declared.events.StepReply.TheVariants as step
-use Rattle.cc_world.specs.declared.rows.Row.{Row}
+use Rattle.cc_world.specs.declared.rows.StreamRow.{StreamRow}
 use Rattle.cc_turns.proofs.Capacity.{journal_within}
 use Rattle.cc_world.proofs.Belonging.{answers-on-log, fault-on-log, is-on-log, log-leaves, never-kept, queue-left, wanting-on-log}
 use Rattle.cc_world.proofs.Quiet.{AreOnLog, IsOnLog, on-log-one}
 use Rattle.cc_world.proofs.Steps.{at-put, has-placed, put-same, used-grows}
+use Rattle.cc_turns.specs.Slots.{setup_in}
 
-module _ {D L Q : Type 0} (tells : Tells D L Q) (w : WorldState D L Q) (stands : WorldStands tells w) (handle : ℕ) (log : LogState L) (there : slice_get w.logs handle ≡ Some log) where
+module _ {D L Q : Type 0} (tells : Tells D L Q) (w : WorldState D L Q) (stands : WorldStands tells w) (handle : ℕ) (log : LogTurnState L) (there : slice_get w.logs handle ≡ Some log) where
   home : LogIsHome tells.log tells.log_faults w.begun.logs w.journal.entries handle log
   home = stands.logs.each handle log there
 
@@ -39,7 +40,7 @@ module _ {D L Q : Type 0} (tells : Tells D L Q) (w : WorldState D L Q) (stands :
   log-handle = home.handle_is
 
   -- the log stands under the setup
-  pub log-stands : LogStandsUnder tells.log tells.log_faults (setup_of tells w.begun) (log_at_first tells.log tells.log_faults (slice_get w.begun.logs handle)) 0 log w.journal
+  pub log-stands : LogStandsUnder tells.log tells.log_faults (setup_in tells w.begun) (log_at_first tells.log tells.log_faults (slice_get w.begun.logs handle)) 0 log w.journal
   log-stands = record {
     good = stands.journal.good;
     log_is = home.stands;
@@ -51,15 +52,15 @@ module _ {D L Q : Type 0} (tells : Tells D L Q) (w : WorldState D L Q) (stands :
       nothing-more a b same = omega arith
 
   -- an event on it happens there
-  pub log-place : (own : ℕ) → own ≡ handle → log_place (setup_of tells w.begun) own ≡ OnLog handle
-  log-place own same = is-on-log (setup_of tells w.begun) own handle same
+  pub log-place : (own : ℕ) → own ≡ handle → log_place (setup_in tells w.begun) own ≡ OnLog handle
+  log-place own same = is-on-log (setup_in tells w.begun) own handle same
       (subst (λ (n : ℕ). own < n) stands.logs.counted (subst (λ (h : ℕ). h < length w.logs) (sym same) (slice_get_within w.logs handle log there)))
 
-  module _ (n : ℕ) (added : List Entry) (now : LogState L) (k : JournalState Q) (on : AreOnLog handle added) (gone : LogWent tells.log tells.log_faults (setup_of tells w.begun) (log_at_first tells.log tells.log_faults (slice_get w.begun.logs handle)) n added log now w.journal k) where
+  module _ (n : ℕ) (added : List Entry) (now : LogTurnState L) (k : JournalState Q) (on : AreOnLog handle added) (gone : LogWent tells.log tells.log_faults (setup_in tells w.begun) (log_at_first tells.log tells.log_faults (slice_get w.begun.logs handle)) n added log now w.journal k) where
     grown : k.entries ≡ added ++ w.journal.entries
     grown = ap (λ x. x.entries) gone.placed
 
-    each-row : (s : ℕ) (r : Row D) → RowIsHome tells w.begun.disks w.journal.entries s r → RowIsHome tells w.begun.disks k.entries s r
+    each-row : (s : ℕ) (r : StreamRow D) → RowIsHome tells w.begun.disks w.journal.entries s r → RowIsHome tells w.begun.disks k.entries s r
     each-row s r there = record {
       stream = there.stream;
       stands = subst (λ (past : List Entry). RowStands tells.disk tells.disk_faults (openings tells.disk tells.disk_faults w.begun.disks s) (disk_at_first tells.disk tells.disk_faults (slice_get w.begun.disks s)) past r) (sym grown) (record {
@@ -68,7 +69,7 @@ module _ {D L Q : Type 0} (tells : Tells D L Q) (w : WorldState D L Q) (stands :
       });
     }
 
-    other-log : (m : ℕ) (other : LogState L) → (m == handle) ≡ false → LogIsHome tells.log tells.log_faults w.begun.logs w.journal.entries m other → LogIsHome tells.log tells.log_faults w.begun.logs k.entries m other
+    other-log : (m : ℕ) (other : LogTurnState L) → (m == handle) ≡ false → LogIsHome tells.log tells.log_faults w.begun.logs w.journal.entries m other → LogIsHome tells.log tells.log_faults w.begun.logs k.entries m other
     other-log m other apart there = record {
       handle_is = there.handle_is;
       stands = subst (λ (past : List Entry). LogStands tells.log tells.log_faults (log_at_first tells.log tells.log_faults (slice_get w.begun.logs m)) past other) (sym grown)
@@ -114,27 +115,27 @@ module _ {D L Q : Type 0} (tells : Tells D L Q) (w : WorldState D L Q) (stands :
     log-world-went : WentLog tells handle n added w (record w { logs = slice_set w.logs handle now; journal = k })
     log-world-went = record { log = log; now = now; was = there; same = refl; placed = has-placed added w.journal k gone.placed; counted = gone.counted }
 
-  unchanged : (now : LogState L) (k : JournalState Q) → now ≡ log → k ≡ w.journal → record w { logs = slice_set w.logs handle now; journal = k } ≡ w
+  unchanged : (now : LogTurnState L) (k : JournalState Q) → now ≡ log → k ≡ w.journal → record w { logs = slice_set w.logs handle now; journal = k } ≡ w
   unchanged now k same_log same_journal =
-      ap (λ (l : LogState L). record w { logs = slice_set w.logs handle l; journal = k }) same_log
+      ap (λ (l : LogTurnState L). record w { logs = slice_set w.logs handle l; journal = k }) same_log
       ∙ (ap (λ (j : JournalState Q). record w { logs = slice_set w.logs handle log; journal = j }) same_journal
-      ∙ ap (λ (logs : List (LogState L)). record w { logs = logs }) (put-same w.logs handle log there))
+      ∙ ap (λ (logs : List (LogTurnState L)). record w { logs = logs }) (put-same w.logs handle log there))
 
-  log-same-queue : (n : ℕ) (added : List Entry) (now : LogState L) (k : JournalState Q) → LogWent tells.log tells.log_faults (setup_of tells w.begun) (log_at_first tells.log tells.log_faults (slice_get w.begun.logs handle)) n added log now w.journal k → k.queue ≡ w.journal.queue
+  log-same-queue : (n : ℕ) (added : List Entry) (now : LogTurnState L) (k : JournalState Q) → LogWent tells.log tells.log_faults (setup_in tells w.begun) (log_at_first tells.log tells.log_faults (slice_get w.begun.logs handle)) n added log now w.journal k → k.queue ≡ w.journal.queue
   log-same-queue n added now k gone = ap (λ (x : JournalState Q). x.queue) gone.placed
 
-  log-faulted : (o : Option Entry) (now : LogState L) (k : JournalState Q) → length k.entries + k.reserved ≤ k.capacity → ((e : Entry) → o ≡ Some e → IsOnLog handle e) → LogFaulted tells.log tells.log_faults (setup_of tells w.begun) (log_at_first tells.log tells.log_faults (slice_get w.begun.logs handle)) o log now w.journal k → WorldStands tells (record w { logs = slice_set w.logs handle now; journal = k }) × Faulted tells (OnLog handle) o w (record w { logs = slice_set w.logs handle now; journal = k }) × (k.queue ≡ w.journal.queue)
+  log-faulted : (o : Option Entry) (now : LogTurnState L) (k : JournalState Q) → length k.entries + k.reserved ≤ k.capacity → ((e : Entry) → o ≡ Some e → IsOnLog handle e) → LogFaulted tells.log tells.log_faults (setup_in tells w.begun) (log_at_first tells.log tells.log_faults (slice_get w.begun.logs handle)) o log now w.journal k → WorldStands tells (record w { logs = slice_set w.logs handle now; journal = k }) × Faulted tells (OnLog handle) o w (record w { logs = slice_set w.logs handle now; journal = k }) × (k.queue ≡ w.journal.queue)
   log-faulted None now k fits on gone = absurd gone
   log-faulted (Some e) now k fits on gone =
       let own = on-log-one handle e (on e refl) in
       (log-world-stands 1 (e ∷ []) now k own gone fits, log-world-went 1 (e ∷ []) now k own gone, log-same-queue 1 (e ∷ []) now k gone)
 
   -- What an event leaves of the log it leaves of the World.
-  pub log-stepped : (it : Event Q) (answer : StepReply Q) (now : LogState L) (k : JournalState Q) → length k.entries + k.reserved ≤ k.capacity → place_of (setup_of tells w.begun) w.journal.entries it ≡ OnLog handle → MayHappen (setup_of tells w.begun) w.journal.entries it → LogLeft tells.log tells.log_faults (setup_of tells w.begun) (log_at_first tells.log tells.log_faults (slice_get w.begun.logs handle)) it answer log now w.journal k → WorldStands tells (record w { logs = slice_set w.logs handle now; journal = k }) × Stepped tells it answer w (record w { logs = slice_set w.logs handle now; journal = k })
+  pub log-stepped : (it : Event Q) (answer : StepReply Q) (now : LogTurnState L) (k : JournalState Q) → length k.entries + k.reserved ≤ k.capacity → place_of_event (setup_in tells w.begun) w.journal.entries it ≡ OnLog handle → MayHappen (setup_in tells w.begun) w.journal.entries it → LogEventLeft tells.log tells.log_faults (setup_in tells w.begun) (log_at_first tells.log tells.log_faults (slice_get w.begun.logs handle)) it answer log now w.journal k → WorldStands tells (record w { logs = slice_set w.logs handle now; journal = k }) × WorldEventLeft tells it answer w (record w { logs = slice_set w.logs handle now; journal = k })
   log-stepped it step.NotNow now k fits at may left = absurd left.1
   log-stepped it (step.Refused (error.JournalFull entries)) now k fits at may left =
       let same = unchanged now k left.2 left.3 in
-      let leaves = log-leaves (setup_of tells w.begun) w.journal.entries it handle at in (
+      let leaves = log-leaves (setup_in tells w.begun) w.journal.entries it handle at in (
         subst (λ (x : WorldState D L Q). WorldStands tells x) (sym same) stands,
         (
           (may, left.0, left.1, same),
@@ -142,7 +143,7 @@ module _ {D L Q : Type 0} (tells : Tells D L Q) (w : WorldState D L Q) (stands :
         ),
       )
   log-stepped it step.Faulted now k fits at may left =
-      let u = setup_of tells w.begun in
+      let u = setup_in tells w.begun in
       let past = w.journal.entries in
       let o = faulted_by past it in
       let all = log-faulted o now k fits (λ e is. fault-on-log u past it e handle at is) left.1.1 in (
@@ -153,7 +154,7 @@ module _ {D L Q : Type 0} (tells : Tells D L Q) (w : WorldState D L Q) (stands :
         ),
       )
   log-stepped it (step.Refused error.NoMemory) now k fits at may left =
-      let u = setup_of tells w.begun in
+      let u = setup_in tells w.begun in
       let past = w.journal.entries in
       let added : List Entry = left.0 in
       let on = wanting-on-log u past it added handle at left.1 in (
@@ -164,9 +165,9 @@ module _ {D L Q : Type 0} (tells : Tells D L Q) (w : WorldState D L Q) (stands :
         ),
       )
   log-stepped it (step.Kept routine e) now k fits at may left =
-      absurd (never-kept (setup_of tells w.begun) w.journal.entries it routine e left.1.0 left.1.1)
+      absurd (never-kept (setup_in tells w.begun) w.journal.entries it routine e left.1.0 left.1.1)
   log-stepped it other now k fits at may left =
-      let u = setup_of tells w.begun in
+      let u = setup_in tells w.begun in
       let past = w.journal.entries in
       let added : List Entry = left.1.0 in
       let on = answers-on-log u past it other added handle at left.1.1 in (

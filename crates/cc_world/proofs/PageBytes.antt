@@ -10,7 +10,7 @@ use Rattle.cc_entry.specs.Pages.{pages_of}
 use Rattle.cc_entry.specs.declared.reply.Reply.{Reply}
 use Rattle.cc_entry.specs.declared.reply.Reply.TheVariants as reply
 use Rattle.cc_book.proofs.ReadSteps.{reads-part}
-use Rattle.cc_content.specs.Contents.{IsByteOf}
+use Rattle.cc_content.specs.Contents.{IsByteOfContents}
 use Rattle.cc_content.specs.Filling.{IsReadFrom, IsClearedFrom}
 use Rattle.cc_content.proofs.ContentSteps.{IsByteOf-filled}
 use Rattle.cc_model.specs.Bytes.{answer, answer_length}

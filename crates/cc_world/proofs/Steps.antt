@@ -14,7 +14,7 @@ use Rattle.cc_journal.specs.Journal.{JournalState}
 use Rattle.cc_journal.specs.Queue.{AllUnposted}
 use Rattle.cc_laws.proofs.LogSteps.{flushed_to-quiet}
 use Rattle.cc_laws.proofs.QuietSteps.{history-quiet}
-use Rattle.cc_log.specs.Turn.{LogState}
+use Rattle.cc_log.specs.Turn.{LogTurnState}
 use Rattle.cc_model.specs.History.{history}
 use Rattle.cc_model.specs.Logs.{flushed_to}
 use Rattle.cc_model.specs.Turns.{Device, is_quiet}
@@ -26,19 +26,20 @@ use Rattle.cc_turns.specs.Standing.{DiskAtFirst}
 use Rattle.cc_turns.proofs.BookGrows.{book_grows}
 use Rattle.cc_turns.proofs.DiskGrows.{disk_grows, open_of-quiet}
 use Rattle.cc_turns.proofs.LogGrows.{log_grows}
-use Rattle.cc_world.specs.Journals.{HasPlaced}
+use Rattle.cc_world.specs.Journals.{JournalHasPlaced}
 use Rattle.cc_world.specs.Pages.{AreFlushed}
 use Rattle.cc_world.specs.Rows.{DiskIsUsed, RowFaulted, RowLeft, RowStands, RowWent, StandsUnder}
-use Rattle.cc_effects.specs.Events.{Where, OnStream, faulted_by, place_of}
-use Rattle.cc_world.specs.World.{AreAt, Faulted, RowIsHome, Stepped, WentAt, WorldStands, WorldState, Went, setup_of}
+use Rattle.cc_effects.specs.Events.{Where, OnStream, faulted_by, place_of_event}
+use Rattle.cc_world.specs.World.{AreAt, Faulted, RowIsHome, WorldEventLeft, WentAt, WorldStands, WorldState, WorldWent}
 use Rattle.cc_effects.specs.declared.events.Event.{Event}
 use Rattle.cc_effects.specs.declared.events.StepReply.{StepReply}
 use Rattle.cc_effects.specs.declared.events.StepReply.TheVariants as step
-use Rattle.cc_world.specs.declared.rows.Kept.{Kept}
-use Rattle.cc_world.specs.declared.rows.Row.{Row}
+use Rattle.cc_world.specs.declared.rows.BegunTransfer.{BegunTransfer}
+use Rattle.cc_world.specs.declared.rows.StreamRow.{StreamRow}
 use Rattle.cc_world.proofs.Belonging.{answers-within, fault-within, never-kept, queue-left, stream-leaves, wanting-within}
 use Rattle.cc_world.proofs.Quiet.{AreWithin, IsOn, within-one}
 use Rattle.cc_turns.proofs.Capacity.{journal_within}
+use Rattle.cc_turns.specs.Slots.{setup_in}
 
 pub one : {A : Type 0} (a b : A) → Some a ≡ Some b → a ≡ b
 one a b is = cc
@@ -86,7 +87,7 @@ at-put {A} {IsAt} {Later} count n things a within others here are = record {
     go m b is false apart = others m b apart (are.each m b (sym (put-away things n m a (eqb-false m n apart)) ∙ is))
 
 -- A disk goes on standing, at rest or with a transfer open, with entries that do not need it.
-pub used-grows : {D : Type 0} (told : D → Option Disk) (faults : D → ℕ) (first : DiskAtFirst) (added past : List Entry) (s : ℕ) (disk : D) (kept : Option Kept) → is_quiet (Device s) added ≡ true → DiskIsUsed told faults first past s disk kept → DiskIsUsed told faults first (added ++ past) s disk kept
+pub used-grows : {D : Type 0} (told : D → Option Disk) (faults : D → ℕ) (first : DiskAtFirst) (added past : List Entry) (s : ℕ) (disk : D) (kept : Option BegunTransfer) → is_quiet (Device s) added ≡ true → DiskIsUsed told faults first past s disk kept → DiskIsUsed told faults first (added ++ past) s disk kept
 used-grows told faults first added past s disk None quiet rest = record {
   stands = disk_grows told faults first added past s disk quiet rest.stands;
   no_transfer = open_of-quiet added past s quiet ∙ rest.no_transfer;
@@ -97,11 +98,11 @@ used-grows told faults first added past s disk (Some kept) quiet carrying = reco
 }
 
 -- the entries were placed, and the queue is as it was
-pub has-placed : {Q : Type 0} (added : List Entry) (j k : JournalState Q) → k ≡ record j { entries = added ++ j.entries; reserved = k.reserved; rows = k.rows } → HasPlaced added j k
+pub has-placed : {Q : Type 0} (added : List Entry) (j k : JournalState Q) → k ≡ record j { entries = added ++ j.entries; reserved = k.reserved; rows = k.rows } → JournalHasPlaced added j k
 has-placed {Q} added j k placed =
     placed ∙ ap (λ queue. record j { entries = added ++ j.entries; reserved = k.reserved; rows = k.rows; queue = queue }) (sym (ap (λ (x : JournalState Q). x.queue) placed))
 
-module _ {D L Q : Type 0} (tells : Tells D L Q) (w : WorldState D L Q) (stands : WorldStands tells w) (s : ℕ) (row : Row D) (there : slice_get w.rows s ≡ Some row) where
+module _ {D L Q : Type 0} (tells : Tells D L Q) (w : WorldState D L Q) (stands : WorldStands tells w) (s : ℕ) (row : StreamRow D) (there : slice_get w.rows s ≡ Some row) where
   first : DiskAtFirst
   first = disk_at_first tells.disk tells.disk_faults (slice_get w.begun.disks s)
 
@@ -112,7 +113,7 @@ module _ {D L Q : Type 0} (tells : Tells D L Q) (w : WorldState D L Q) (stands :
   row-stream = home.stream
 
   -- the row stands under the setup
-  pub row-stands : StandsUnder tells.disk tells.disk_faults (setup_of tells w.begun) (disk_at_first tells.disk tells.disk_faults (slice_get w.begun.disks s)) 0 row w.journal
+  pub row-stands : StandsUnder tells.disk tells.disk_faults (setup_in tells w.begun) (disk_at_first tells.disk tells.disk_faults (slice_get w.begun.disks s)) 0 row w.journal
   row-stands = record {
     good = stands.journal.good;
     opening = ap (openings tells.disk tells.disk_faults w.begun.disks) home.stream;
@@ -132,15 +133,15 @@ module _ {D L Q : Type 0} (tells : Tells D L Q) (w : WorldState D L Q) (stands :
   pub row-flushed : AreFlushed row.book.stream w.journal.entries w.logs
   row-flushed handle is =
       let found = is-there w.logs handle (subst (λ (n : ℕ). handle < n) (sym stands.logs.counted)
-      (handle-below (setup_of tells w.begun) w.journal.entries row.book.stream handle stands.journal.good.legal is)) in
+      (handle-below (setup_in tells w.begun) w.journal.entries row.book.stream handle stands.journal.good.legal is)) in
       let log_home = stands.logs.each handle found.0 found.1 in
       (found.0, found.1, log_home.stands.stands.flushed_is ∙ ap (λ (n : ℕ). flushed_to w.journal.entries n) log_home.handle_is)
 
-  module _ (n : ℕ) (added : List Entry) (now : Row D) (k : JournalState Q) (within : AreWithin s added) (gone : RowWent tells.disk tells.disk_faults (setup_of tells w.begun) (disk_at_first tells.disk tells.disk_faults (slice_get w.begun.disks s)) n added row now w.journal k) where
+  module _ (n : ℕ) (added : List Entry) (now : StreamRow D) (k : JournalState Q) (within : AreWithin s added) (gone : RowWent tells.disk tells.disk_faults (setup_in tells w.begun) (disk_at_first tells.disk tells.disk_faults (slice_get w.begun.disks s)) n added row now w.journal k) where
     grown : k.entries ≡ added ++ w.journal.entries
     grown = ap (λ x. x.entries) gone.placed
 
-    other-row : (t : ℕ) (r : Row D) → (t == s) ≡ false → RowIsHome tells w.begun.disks w.journal.entries t r → RowIsHome tells w.begun.disks k.entries t r
+    other-row : (t : ℕ) (r : StreamRow D) → (t == s) ≡ false → RowIsHome tells w.begun.disks w.journal.entries t r → RowIsHome tells w.begun.disks k.entries t r
     other-row t r apart there = record {
       stream = there.stream;
       stands = subst (λ (past : List Entry). RowStands tells.disk tells.disk_faults (openings tells.disk tells.disk_faults w.begun.disks t) (disk_at_first tells.disk tells.disk_faults (slice_get w.begun.disks t)) past r) (sym grown) (record {
@@ -150,7 +151,7 @@ module _ {D L Q : Type 0} (tells : Tells D L Q) (w : WorldState D L Q) (stands :
       });
     }
 
-    each-log : (handle : ℕ) (log : LogState L) → LogIsHome tells.log tells.log_faults w.begun.logs w.journal.entries handle log → LogIsHome tells.log tells.log_faults w.begun.logs k.entries handle log
+    each-log : (handle : ℕ) (log : LogTurnState L) → LogIsHome tells.log tells.log_faults w.begun.logs w.journal.entries handle log → LogIsHome tells.log tells.log_faults w.begun.logs k.entries handle log
     each-log handle log there = record {
       handle_is = there.handle_is;
       stands = subst (λ (past : List Entry). LogStands tells.log tells.log_faults (log_at_first tells.log tells.log_faults (slice_get w.begun.logs handle)) past log) (sym grown)
@@ -191,39 +192,39 @@ module _ {D L Q : Type 0} (tells : Tells D L Q) (w : WorldState D L Q) (stands :
         apart : (t : ℕ) → length w.begun.disks ≤ t → (t == s) ≡ false
         apart t beyond = ne_eqb t s (λ same. absurd (omega (arith, same, beyond, known)))
 
-    pub world-went : Went tells s n added w (record w { rows = slice_set w.rows s now; journal = k })
+    pub world-went : WorldWent tells s n added w (record w { rows = slice_set w.rows s now; journal = k })
     world-went = record { row = row; now = now; was = there; same = refl; placed = has-placed added w.journal k gone.placed; counted = gone.counted }
 
   -- What an event leaves of the row it leaves of the World.
-  abbrev pub Both : Event Q → StepReply Q → Row D → JournalState Q → Type 0
-  Both it answer now k = WorldStands tells (record w { rows = slice_set w.rows s now; journal = k }) × Stepped tells it answer w (record w { rows = slice_set w.rows s now; journal = k })
+  abbrev pub Both : Event Q → StepReply Q → StreamRow D → JournalState Q → Type 0
+  Both it answer now k = WorldStands tells (record w { rows = slice_set w.rows s now; journal = k }) × WorldEventLeft tells it answer w (record w { rows = slice_set w.rows s now; journal = k })
 
-  unchanged : (now : Row D) (k : JournalState Q) → now ≡ row → k ≡ w.journal → record w { rows = slice_set w.rows s now; journal = k } ≡ w
+  unchanged : (now : StreamRow D) (k : JournalState Q) → now ≡ row → k ≡ w.journal → record w { rows = slice_set w.rows s now; journal = k } ≡ w
   unchanged now k same_row same_journal =
-      ap (λ (r : Row D). record w { rows = slice_set w.rows s r; journal = k }) same_row
+      ap (λ (r : StreamRow D). record w { rows = slice_set w.rows s r; journal = k }) same_row
       ∙ (ap (λ (j : JournalState Q). record w { rows = slice_set w.rows s row; journal = j }) same_journal
-      ∙ ap (λ (rows : List (Row D)). record w { rows = rows }) (put-same w.rows s row there))
+      ∙ ap (λ (rows : List (StreamRow D)). record w { rows = rows }) (put-same w.rows s row there))
 
   still : (v : WorldState D L Q) → v ≡ w → WorldStands tells v
   still v same = subst (λ (x : WorldState D L Q). WorldStands tells x) (sym same) stands
 
-  same-queue : (n : ℕ) (added : List Entry) (now : Row D) (k : JournalState Q) → RowWent tells.disk tells.disk_faults (setup_of tells w.begun) (disk_at_first tells.disk tells.disk_faults (slice_get w.begun.disks s)) n added row now w.journal k → k.queue ≡ w.journal.queue
+  same-queue : (n : ℕ) (added : List Entry) (now : StreamRow D) (k : JournalState Q) → RowWent tells.disk tells.disk_faults (setup_in tells w.begun) (disk_at_first tells.disk tells.disk_faults (slice_get w.begun.disks s)) n added row now w.journal k → k.queue ≡ w.journal.queue
   same-queue n added now k gone = ap (λ (x : JournalState Q). x.queue) gone.placed
 
-  faulted : (o : Option Entry) (now : Row D) (k : JournalState Q) → length k.entries + k.reserved ≤ k.capacity → ((e : Entry) → o ≡ Some e → IsOn s e) → RowFaulted tells.disk tells.disk_faults (setup_of tells w.begun) (disk_at_first tells.disk tells.disk_faults (slice_get w.begun.disks s)) o row now w.journal k → WorldStands tells (record w { rows = slice_set w.rows s now; journal = k }) × Faulted tells (OnStream s) o w (record w { rows = slice_set w.rows s now; journal = k }) × (k.queue ≡ w.journal.queue)
+  faulted : (o : Option Entry) (now : StreamRow D) (k : JournalState Q) → length k.entries + k.reserved ≤ k.capacity → ((e : Entry) → o ≡ Some e → IsOn s e) → RowFaulted tells.disk tells.disk_faults (setup_in tells w.begun) (disk_at_first tells.disk tells.disk_faults (slice_get w.begun.disks s)) o row now w.journal k → WorldStands tells (record w { rows = slice_set w.rows s now; journal = k }) × Faulted tells (OnStream s) o w (record w { rows = slice_set w.rows s now; journal = k }) × (k.queue ≡ w.journal.queue)
   faulted None now k fits on gone = absurd gone
   faulted (Some e) now k fits on gone =
       let within = within-one s e (on e refl) in
       (world-stands 1 (e ∷ []) now k within gone fits, world-went 1 (e ∷ []) now k within gone, same-queue 1 (e ∷ []) now k gone)
 
-  pub stepped : (it : Event Q) (answer : StepReply Q) (now : Row D) (k : JournalState Q) → length k.entries + k.reserved ≤ k.capacity → place_of (setup_of tells w.begun) w.journal.entries it ≡ OnStream s → RowLeft tells.disk tells.disk_faults (setup_of tells w.begun) (disk_at_first tells.disk tells.disk_faults (slice_get w.begun.disks s)) it answer row now w.journal k → Both it answer now k
+  pub stepped : (it : Event Q) (answer : StepReply Q) (now : StreamRow D) (k : JournalState Q) → length k.entries + k.reserved ≤ k.capacity → place_of_event (setup_in tells w.begun) w.journal.entries it ≡ OnStream s → RowLeft tells.disk tells.disk_faults (setup_in tells w.begun) (disk_at_first tells.disk tells.disk_faults (slice_get w.begun.disks s)) it answer row now w.journal k → Both it answer now k
   stepped it step.NotNow now k fits at left =
       let same = unchanged now k left.1 left.2 in
-      let leaves = stream-leaves (setup_of tells w.begun) w.journal.entries it s at in
+      let leaves = stream-leaves (setup_in tells w.begun) w.journal.entries it s at in
       (still _ same, ((left.0, same), queue-left tells.posted it step.NotNow w.journal.queue k.queue leaves refl (ap (λ (x : JournalState Q). x.queue) left.2)))
   stepped it (step.Refused (error.JournalFull entries)) now k fits at left =
       let same = unchanged now k left.3 left.4 in
-      let leaves = stream-leaves (setup_of tells w.begun) w.journal.entries it s at in (
+      let leaves = stream-leaves (setup_in tells w.begun) w.journal.entries it s at in (
         still _ same,
         (
           (left.0, left.1, left.2, same),
@@ -231,7 +232,7 @@ module _ {D L Q : Type 0} (tells : Tells D L Q) (w : WorldState D L Q) (stands :
         ),
       )
   stepped it step.Faulted now k fits at left =
-      let u = setup_of tells w.begun in
+      let u = setup_in tells w.begun in
       let past = w.journal.entries in
       let o = faulted_by past it in
       let all = faulted o now k fits (λ e is. fault-within u past it e s at is) left.2.1 in (
@@ -242,7 +243,7 @@ module _ {D L Q : Type 0} (tells : Tells D L Q) (w : WorldState D L Q) (stands :
         ),
       )
   stepped it (step.Refused error.NoMemory) now k fits at left =
-      let u = setup_of tells w.begun in
+      let u = setup_in tells w.begun in
       let past = w.journal.entries in
       let added : List Entry = left.0 in
       let within = wanting-within u past it added s at left.1 in (
@@ -253,9 +254,9 @@ module _ {D L Q : Type 0} (tells : Tells D L Q) (w : WorldState D L Q) (stands :
         ),
       )
   stepped it (step.Kept routine e) now k fits at left =
-      absurd (never-kept (setup_of tells w.begun) w.journal.entries it routine e left.2.0 left.2.1)
+      absurd (never-kept (setup_in tells w.begun) w.journal.entries it routine e left.2.0 left.2.1)
   stepped it other now k fits at left =
-      let u = setup_of tells w.begun in
+      let u = setup_in tells w.begun in
       let past = w.journal.entries in
       let added : List Entry = left.2.0 in
       let within = answers-within u past it other added s at left.2.1 in (

@@ -13,7 +13,7 @@ use Rattle.cc_entry.specs.declared.entry.Entry.TheVariants as entry
 use Rattle.cc_entry.specs.declared.error.CcError.TheVariants as error
 use Rattle.cc_entry.specs.declared.reply.Reply.TheVariants as reply
 use Rattle.cc_book.specs.Stored.{store_done}
-use Rattle.cc_content.specs.Contents.{IsByteOf}
+use Rattle.cc_content.specs.Contents.{IsByteOfContents}
 use Rattle.cc_dirty.specs.Table.{row_of}
 use Rattle.cc_dirty.specs.declared.row.Row.{Row}
 use Rattle.cc_dirty.specs.declared.row.Unwritten.{Unwritten}
@@ -122,7 +122,7 @@ module _ (opening : Option (ℕ → List ℕ)) (h : List Effect) (pass : ℕ) (f
   valid-is : valid_of (Did pass it reply.Unit ∷ h) ≡ max (valid_of h) (stored_range page (size_of h)).to
   valid-is = ap (λ s. s.valid) (sizes-stores pass it reply.Unit h refl)
 
-  inside : (told : Option (ℕ → List ℕ)) (i : ℕ) → i < 4096 → i < size_of h - 4096 * page → IsByteOf told (Did pass it reply.Unit ∷ h) (4096 * page + i) (slice_index bytes i)
+  inside : (told : Option (ℕ → List ℕ)) (i : ℕ) → i < 4096 → i < size_of h - 4096 * page → IsByteOfContents told (Did pass it reply.Unit ∷ h) (4096 * page + i) (slice_index bytes i)
   inside None i small some = λ past.
       absurd (omega (arith, past, valid-is, stored-end page (size_of h) below, small, some))
   inside (Some pages) i small some =
@@ -131,16 +131,16 @@ module _ (opening : Option (ℕ → List ℕ)) (h : List Effect) (pass : ℕ) (f
       place : (i : ℕ) → i ≡ (4096 * page + i) - 4096 * page
       place i = omega arith
 
-  outside : (told : Option (ℕ → List ℕ)) (i : ℕ) → size_of h - 4096 * page ≤ i → IsByteOf told (Did pass it reply.Unit ∷ h) (4096 * page + i) 0
+  outside : (told : Option (ℕ → List ℕ)) (i : ℕ) → size_of h - 4096 * page ≤ i → IsByteOfContents told (Did pass it reply.Unit ∷ h) (4096 * page + i) 0
   outside None i out = λ past. refl
   outside (Some pages) i out =
       let above : valid_of (Did pass it reply.Unit ∷ h) ≤ 4096 * page + i = omega (arith, valid-is, stored-end page (size_of h) below, within, out) in
       sym (byte_of-above pages (Did pass it reply.Unit ∷ h) (4096 * page + i) (le-ltb (4096 * page + i) (valid_of (Did pass it reply.Unit ∷ h)) above))
 
-  bytes-stored : (i : ℕ) → i < 4096 → IsByteOf opening (Did pass it reply.Unit ∷ h) (4096 * page + i) (stored_byte (size_of h) page bytes i)
+  bytes-stored : (i : ℕ) → i < 4096 → IsByteOfContents opening (Did pass it reply.Unit ∷ h) (4096 * page + i) (stored_byte (size_of h) page bytes i)
   bytes-stored i small = by (nat_lt i (size_of h - 4096 * page)) refl
     where
-      by : (t : Bool) → nat_lt i (size_of h - 4096 * page) ≡ t → IsByteOf opening (Did pass it reply.Unit ∷ h) (4096 * page + i) (if t then slice_index bytes i else 0)
+      by : (t : Bool) → nat_lt i (size_of h - 4096 * page) ≡ t → IsByteOfContents opening (Did pass it reply.Unit ∷ h) (4096 * page + i) (if t then slice_index bytes i else 0)
       by true is = inside opening i small (ltb-true i (size_of h - 4096 * page) is)
       by false is = outside opening i (ltb-false i (size_of h - 4096 * page) is)
 
@@ -225,7 +225,7 @@ module _ (u : Setup) (past : List Entry) (pass : ℕ) (file : File) (page : Page
       both owed all stored before first second = omega (arith, first, second)
 
   -- what goes to the disk is what the page holds then
-  pub bytes-begun : (opening : Option (ℕ → List ℕ)) (i : ℕ) → i < 4096 → IsByteOf opening (history (placed ∷ past) page.stream) (4096 * page.page + i) (stored_byte (size_of (history past page.stream)) page.page bytes i)
+  pub bytes-begun : (opening : Option (ℕ → List ℕ)) (i : ℕ) → i < 4096 → IsByteOfContents opening (history (placed ∷ past) page.stream) (4096 * page.page + i) (stored_byte (size_of (history past page.stream)) page.page bytes i)
   bytes-begun opening i small =
-      subst (λ (h : List Effect). IsByteOf opening h (4096 * page.page + i) (stored_byte (size_of (history past page.stream)) page.page bytes i)) (sym history-stored)
+      subst (λ (h : List Effect). IsByteOfContents opening h (4096 * page.page + i) (stored_byte (size_of (history past page.stream)) page.page bytes i)) (sym history-stored)
       (bytes-stored opening (history past page.stream) pass file page.page bytes below (valid_of-good u past page.stream (so-far u past good)) i small)

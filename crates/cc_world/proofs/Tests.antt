@@ -9,12 +9,12 @@ use Rattle.cc_entry.specs.declared.entry.Entry.{Entry}
 use Rattle.cc_book.specs.Book.{BookState, BookStands}
 use Rattle.cc_book.proofs.DirtyRows.{dirty-follows}
 use Rattle.cc_dirty.specs.Table.{row_of, Sound}
-use Rattle.cc_dirty.specs.Unwritten.{joined}
+use Rattle.cc_dirty.specs.Unwritten.{joined_unwritten}
 use Rattle.cc_dirty.specs.declared.row.Row.{Row}
 use Rattle.cc_dirty.specs.declared.row.Unwritten.{Unwritten}
 use Rattle.cc_journal.specs.Rows.{Follows, IsRowOf, journal_place}
 use Rattle.cc_laws.proofs.SoundFacts.{dirty_resident-good}
-use Rattle.cc_log.specs.Turn.{LogState}
+use Rattle.cc_log.specs.Turn.{LogTurnState}
 use Rattle.cc_model.specs.Conditions.{MayBegin, MayComeIn, MayGoOut}
 use Rattle.cc_model.specs.Covered.{FlushedUpTo}
 use Rattle.cc_model.specs.Good.{IsGood}
@@ -65,7 +65,7 @@ pub newest-there : (past : List Entry) (page : Page) (rows : List Row) (row : Ro
 newest-there past page rows row follows is none =
     let there : IsRowOf (journal_place past page.stream) (history past page.stream) page.page (Some row) =
     subst (λ (o : Option Row). IsRowOf (journal_place past page.stream) (history past page.stream) page.page o) is (follows page) in
-    sym (ap (λ (b : Unwritten). newest-in (joined b row.later)) (there.at_rest (rw none refl))) ∙ ap newest-in there.unwritten
+    sym (ap (λ (b : Unwritten). newest-in (joined_unwritten b row.later)) (there.at_rest (rw none refl))) ∙ ap newest-in there.unwritten
 
 begins : (u : Setup) (past : List Entry) (s p : ℕ) (answer : Bool) → IsGood u past → is_dirty (history past s) p ≡ true → is_unstamped (history past s) p ≡ false → open_of (history past s) ≡ None → Says answer (FlushedUpTo past (log_of (history past s)) (newest_of (history past s) p)) → Says answer (MayBegin past s p)
 begins u past s p true good dirty stamped none says = record {
@@ -87,7 +87,7 @@ begins-there u past page s rows row answer stream good sound follows is stamped 
     ∙ ap (λ (n : ℕ). newest_of (history past n) page.page) stream) says)
 
 -- a log that is among those of the World
-pub log-within : {L : Type 0} (s : ℕ) (past : List Entry) (logs : List (LogState L)) (handle : ℕ) → AreFlushed s past logs → log_of (history past s) ≡ Some handle → handle < length logs
+pub log-within : {L : Type 0} (s : ℕ) (past : List Entry) (logs : List (LogTurnState L)) (handle : ℕ) → AreFlushed s past logs → log_of (history past s) ≡ Some handle → handle < length logs
 log-within s past logs handle flushed is =
     let found = flushed handle is in
     slice_get_within logs handle found.0 found.1
@@ -96,13 +96,13 @@ flushed-far : (answer : Bool) (lsn to real n : ℕ) → nat_le n to ≡ answer �
 flushed-far true lsn to real n is same there = subst (λ (m : ℕ). lsn ≤ m) there (subst (λ (m : ℕ). m ≤ to) same (leb-true n to is))
 flushed-far false lsn to real n is same there = λ (least : lsn ≤ real). clash (sym (le-leb n to (subst (λ (m : ℕ). n ≤ m) (sym there) (subst (λ (m : ℕ). m ≤ real) (sym same) least))) ∙ is)
 
-pub reached : {L : Type 0} (s : ℕ) (past : List Entry) (logs : List (LogState L)) (handle lsn n to : ℕ) (newest : Option ℕ) (log : LogState L) → AreFlushed s past logs → log_of (history past s) ≡ Some handle → newest ≡ Some lsn → n ≡ lsn → slice_get logs handle ≡ Some log → to ≡ log.flushed → Says (nat_le n to) (FlushedUpTo past (log_of (history past s)) newest)
+pub reached : {L : Type 0} (s : ℕ) (past : List Entry) (logs : List (LogTurnState L)) (handle lsn n to : ℕ) (newest : Option ℕ) (log : LogTurnState L) → AreFlushed s past logs → log_of (history past s) ≡ Some handle → newest ≡ Some lsn → n ≡ lsn → slice_get logs handle ≡ Some log → to ≡ log.flushed → Says (nat_le n to) (FlushedUpTo past (log_of (history past s)) newest)
 reached {L} s past logs handle lsn n to newest log flushed is newest_is same there reads =
     let found = flushed handle is in
     let one : found.0 ≡ log = same-log found.0 log (sym found.1 ∙ there) in
-    rw (is, newest_is) (flushed-far (nat_le n to) lsn to (flushed_to past handle) n refl same (reads ∙ (sym (ap (λ (l : LogState L). l.flushed) one) ∙ found.2)))
+    rw (is, newest_is) (flushed-far (nat_le n to) lsn to (flushed_to past handle) n refl same (reads ∙ (sym (ap (λ (l : LogTurnState L). l.flushed) one) ∙ found.2)))
   where
-    same-log : (a b : LogState L) → Some a ≡ Some b → a ≡ b
+    same-log : (a b : LogTurnState L) → Some a ≡ Some b → a ≡ b
     same-log a b e = cc
 
 -- nothing is to be flushed of no log

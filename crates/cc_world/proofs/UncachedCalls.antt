@@ -15,7 +15,7 @@ use Rattle.cc_entry.specs.declared.reply.Reply.TheVariants as reply
 use Rattle.cc_traits.specs.Disk.{Disk}
 use Rattle.cc_book.specs.Book.{BookState, BookStands, Gains, Stays}
 use Rattle.cc_book.specs.Stored.{GainsStore, MayStoreAndBegin, store_done}
-use Rattle.cc_content.specs.Contents.{IsByteOf}
+use Rattle.cc_content.specs.Contents.{IsByteOfContents}
 use Rattle.cc_content.specs.Filling.{IsReadFrom}
 use Rattle.cc_journal.specs.Calls.{owed_end}
 use Rattle.cc_journal.specs.Journal.{JournalState, room_of}
@@ -36,16 +36,16 @@ use Rattle.cc_turns.proofs.OpenTransfers.{IsUnderWay-read, IsUnderWay-unread}
 use Rattle.cc_turns.specs.Transfers.{CanRead, fill_failed}
 use Rattle.cc_turns.specs.Disk.{DiskStands, opening_of}
 use Rattle.cc_turns.specs.Standing.{DiskAtFirst}
-use Rattle.cc_world.specs.Calls.{CallWent, IsFiledOn, IsRefusedSo, IsUnrefused}
-use Rattle.cc_world.specs.Rows.{DiskIsUsed, IsAtRest, RowEnded, RowLeft, RowWent, StandsUnder}
+use Rattle.cc_world.specs.Calls.{CallWent, IsFiledOn, CallIsRefusedSo, CallIsUnrefused}
+use Rattle.cc_world.specs.Rows.{DiskIsUsed, DiskIsAtRest, RowEnded, RowLeft, RowWent, StandsUnder}
 use Rattle.cc_book.specs.Noncached.{WasRead}
 use Rattle.cc_world.specs.Uncached.{IsAdmittedOn, IsImage, IsReadyOn, MayEndRead, stored_byte}
 use Rattle.cc_effects.specs.Events.{CanEnd, MayDo, asked_for, entries_done, filed_under, reason_of}
 use Rattle.cc_effects.specs.declared.events.Event.TheVariants as event
 use Rattle.cc_effects.specs.declared.events.StepReply.{StepReply}
 use Rattle.cc_effects.specs.declared.events.StepReply.TheVariants as step
-use Rattle.cc_world.specs.declared.rows.Kept.{Kept}
-use Rattle.cc_world.specs.declared.rows.Row.{Row}
+use Rattle.cc_world.specs.declared.rows.BegunTransfer.{BegunTransfer}
+use Rattle.cc_world.specs.declared.rows.StreamRow.{StreamRow}
 use Rattle.cc_world.proofs.CallLeft.{may-replied, unready-never}
 use Rattle.cc_world.proofs.CallRows.{book-stands, row-went, used-called}
 use Rattle.cc_world.proofs.Filling.{book-unread}
@@ -64,32 +64,32 @@ pub one-stream : (m n : ℕ) → Some m ≡ Some n → m ≡ n
 one-stream m n is = cc
 
 -- Whether a page may be read now, by whether bytes are kept.
-pub resting-used : {D : Type 0} (told : D → Option Disk) (faults : D → ℕ) (first : DiskAtFirst) (past : List Entry) (s : ℕ) (disk : D) (kept : Option Kept) (a : Bool) → kept ≡ None → DiskIsUsed told faults first past s disk kept → true ≡ (a || is_none (open_of (history past s)))
+pub resting-used : {D : Type 0} (told : D → Option Disk) (faults : D → ℕ) (first : DiskAtFirst) (past : List Entry) (s : ℕ) (disk : D) (kept : Option BegunTransfer) (a : Bool) → kept ≡ None → DiskIsUsed told faults first past s disk kept → true ≡ (a || is_none (open_of (history past s)))
 resting-used told faults first past s disk None true is rest = refl
 resting-used told faults first past s disk None false is rest = rw rest.no_transfer refl
 resting-used told faults first past s disk (Some kept) a is carrying = absurd (cc)
 
-pub busy-used : {D : Type 0} (told : D → Option Disk) (faults : D → ℕ) (first : DiskAtFirst) (past : List Entry) (s : ℕ) (disk : D) (kept : Option Kept) (bytes : Kept) (a b : Bool) → kept ≡ Some bytes → b ≡ a → DiskIsUsed told faults first past s disk kept → b ≡ (a || is_none (open_of (history past s)))
+pub busy-used : {D : Type 0} (told : D → Option Disk) (faults : D → ℕ) (first : DiskAtFirst) (past : List Entry) (s : ℕ) (disk : D) (kept : Option BegunTransfer) (bytes : BegunTransfer) (a b : Bool) → kept ≡ Some bytes → b ≡ a → DiskIsUsed told faults first past s disk kept → b ≡ (a || is_none (open_of (history past s)))
 busy-used told faults first past s disk None bytes a b is same rest = absurd (cc)
 busy-used told faults first past s disk (Some kept) bytes true b is same carrying = same
 busy-used told faults first past s disk (Some kept) bytes false b is same carrying = same ∙ rw (carried-open told faults first past s disk kept carrying) refl
 
 -- A disk stands whether it is at rest or a transfer is open on it. So it does as it is read, and with the entry of a read
 -- that failed.
-pub used-stands : {D : Type 0} (told : D → Option Disk) (faults : D → ℕ) (first : DiskAtFirst) (past : List Entry) (s : ℕ) (disk : D) (kept : Option Kept) → DiskIsUsed told faults first past s disk kept → DiskStands told faults first past s disk
+pub used-stands : {D : Type 0} (told : D → Option Disk) (faults : D → ℕ) (first : DiskAtFirst) (past : List Entry) (s : ℕ) (disk : D) (kept : Option BegunTransfer) → DiskIsUsed told faults first past s disk kept → DiskStands told faults first past s disk
 used-stands told faults first past s disk None rest = rest.stands
 used-stands told faults first past s disk (Some kept) carrying = carrying.way.stands
 
 module _ {D : Type 0} (told : D → Option Disk) (faults : D → ℕ) (first : DiskAtFirst) (past : List Entry) (s : ℕ) (old new : D)
     (keeps : (first : DiskAtFirst) (past : List Entry) (s : ℕ) → DiskStands told faults first past s old → DiskStands told faults first past s new) where
-  pub used-read : (kept : Option Kept) → DiskIsUsed told faults first past s old kept → DiskIsUsed told faults first past s new kept
+  pub used-read : (kept : Option BegunTransfer) → DiskIsUsed told faults first past s old kept → DiskIsUsed told faults first past s new kept
   used-read None rest = record { stands = keeps first past s rest.stands; no_transfer = rest.no_transfer }
   used-read (Some kept) carrying = record {
     stream = carrying.stream;
     way = IsUnderWay-read told faults first past kept.pass s kept.page.page kept.bytes old new keeps carrying.way;
   }
 
-  pub used-unread : (me p : ℕ) (kept : Option Kept) → ((first : DiskAtFirst) (past : List Entry) (s pass : ℕ) → DiskStands told faults first past s old → DiskStands told faults first (fill_failed pass s p ∷ past) s new) → DiskIsUsed told faults first past s old kept → DiskIsUsed told faults first (fill_failed me s p ∷ past) s new kept
+  pub used-unread : (me p : ℕ) (kept : Option BegunTransfer) → ((first : DiskAtFirst) (past : List Entry) (s pass : ℕ) → DiskStands told faults first past s old → DiskStands told faults first (fill_failed pass s p ∷ past) s new) → DiskIsUsed told faults first past s old kept → DiskIsUsed told faults first (fill_failed me s p ∷ past) s new kept
   used-unread me p None failed rest = record {
     stands = failed first past s me rest.stands;
     no_transfer = open-kept (fill_failed me s p) past s refl ∙ rest.no_transfer;
@@ -100,8 +100,8 @@ module _ {D : Type 0} (told : D → Option Disk) (faults : D → ℕ) (first : D
   }
 
 -- A call on a row that is refused, and one that nothing refuses.
-module _ {D Q : Type 0} (told : D → Option Disk) (faults : D → ℕ) (u : Setup) (first : DiskAtFirst) (row : Row D) (j : JournalState Q) (stand : StandsUnder told faults u first 0 row j) where
-  pub refused-on : (pass : ℕ) (it : Call) (e : CcError) → filed_under j.entries it ≡ Some row.book.stream → IsFiledOn j.entries pass row.book.stream it → reason_of u j.entries it ≡ Some e → IsRefusedSo u pass it e row.book j
+module _ {D Q : Type 0} (told : D → Option Disk) (faults : D → ℕ) (u : Setup) (first : DiskAtFirst) (row : StreamRow D) (j : JournalState Q) (stand : StandsUnder told faults u first 0 row j) where
+  pub refused-on : (pass : ℕ) (it : Call) (e : CcError) → filed_under j.entries it ≡ Some row.book.stream → IsFiledOn j.entries pass row.book.stream it → reason_of u j.entries it ≡ Some e → CallIsRefusedSo u pass it e row.book j
   refused-on pass it e here filed reason = record {
     made = record { stands = book-stands told faults u first 0 row j stand; here = here };
     filed = filed;
@@ -112,7 +112,7 @@ module _ {D Q : Type 0} (told : D → Option Disk) (faults : D → ℕ) (u : Set
   admitted-on it here admitted = record { stands = stand; here = here; admitted = admitted }
 
 -- One that may be done now, for which so many places are asked.
-module _ {D Q : Type 0} (told : D → Option Disk) (faults : D → ℕ) (u : Setup) (first : DiskAtFirst) (pass asked : ℕ) (it : Call) (row : Row D) (j : JournalState Q) (made : IsAdmittedOn told faults u first 0 it row j)
+module _ {D Q : Type 0} (told : D → Option Disk) (faults : D → ℕ) (u : Setup) (first : DiskAtFirst) (pass asked : ℕ) (it : Call) (row : StreamRow D) (j : JournalState Q) (made : IsAdmittedOn told faults u first 0 it row j)
     (asks : asked_for j.entries pass it None ≡ asked) where
   asked-by : asked_for j.entries pass it (reason_of u j.entries it) ≡ asked
   asked-by = ap (λ (o : Option CcError). asked_for j.entries pass it o) made.admitted ∙ asks
@@ -130,7 +130,7 @@ module _ {D Q : Type 0} (told : D → Option Disk) (faults : D → ℕ) (u : Set
         ready = subst (λ (past : List Entry). IsReady past pass row.book.stream it) (sym same) ready;
       }
 
-  pub left-reserving : (r k : JournalState Q) (answer : StepReply Q) (now : Row D) (done : Unit {0}) (x : CcError) → r ≡ record j { reserved = j.reserved + asked } → (room_of j < asked → IsErrOf {T = Unit {0}} {E = CcError} (Ok done) x) → MayDo u j.entries pass it → RowEnded told faults u first (event.Do pass it) answer row now r k → RowLeft told faults u first (event.Do pass it) answer row now j k
+  pub left-reserving : (r k : JournalState Q) (answer : StepReply Q) (now : StreamRow D) (done : Unit {0}) (x : CcError) → r ≡ record j { reserved = j.reserved + asked } → (room_of j < asked → IsErrOf {T = Unit {0}} {E = CcError} (Ok done) x) → MayDo u j.entries pass it → RowEnded told faults u first (event.Do pass it) answer row now r k → RowLeft told faults u first (event.Do pass it) answer row now j k
   left-reserving r k answer now done x reserving full may ended =
       left-from asked told faults u first (event.Do pass it) answer row now j r k may
       (subst (λ (n : ℕ). n ≤ room_of j) (sym asked-by) (roomy (room_of j) asked done x full)) reserving ended
@@ -140,7 +140,7 @@ module _ {D Q : Type 0} (told : D → Option Disk) (faults : D → ℕ) (u : Set
       unreserved told faults u first (event.Do pass it) row j made.stands asked e k may asked-by refl full causes same
 
 -- A noncached read of a page that nothing refuses.
-module _ {D Q : Type 0} (told : D → Option Disk) (faults : D → ℕ) (u : Setup) (first : DiskAtFirst) (more pass : ℕ) (file : File) (page : ℕ) (row : Row D) (j : JournalState Q) (made : IsAdmittedOn told faults u first more (call.NcRead file page) row j) where
+module _ {D Q : Type 0} (told : D → Option Disk) (faults : D → ℕ) (u : Setup) (first : DiskAtFirst) (more pass : ℕ) (file : File) (page : ℕ) (row : StreamRow D) (j : JournalState Q) (made : IsAdmittedOn told faults u first more (call.NcRead file page) row j) where
   abbrev reading : Call
   reading = call.NcRead file page
 
@@ -150,7 +150,7 @@ module _ {D Q : Type 0} (told : D → Option Disk) (faults : D → ℕ) (u : Set
   pub not-read : (IsReady j.entries pass row.book.stream reading → ⊥) → MayDo u j.entries pass reading → ⊥
   not-read never = unready-never u j.entries pass row.book.stream reading made.here made.admitted (λ r may. never may.may_end.1)
 
-  pub unrefused-read : IsUnrefused u more pass reading row.book j
+  pub unrefused-read : CallIsUnrefused u more pass reading row.book j
   unrefused-read = record {
     made = record { stands = book-stands told faults u first more row j made.stands; here = made.here };
     alone = refl;
@@ -164,7 +164,7 @@ module _ {D Q : Type 0} (told : D → Option Disk) (faults : D → ℕ) (u : Set
       may-replied u more pass reading some.0 row.book j (record { unrefused = unrefused-read; may = record { reply_is = some.1; may_end = (tt, ready) } })
 
 -- it may end, once its page was read
-pub may-end-read : {D Q : Type 0} (told : D → Option Disk) (faults : D → ℕ) (u : Setup) (first : DiskAtFirst) (pass : ℕ) (file : File) (page : ℕ) (raw : List ℕ) (row : Row D) (j : JournalState Q) → IsReadyOn told faults u first 1 pass (call.NcRead file page) row j → WasRead (opening_of first.told) (history j.entries row.book.stream) page raw → MayEndRead u pass file page raw row.book j
+pub may-end-read : {D Q : Type 0} (told : D → Option Disk) (faults : D → ℕ) (u : Setup) (first : DiskAtFirst) (pass : ℕ) (file : File) (page : ℕ) (raw : List ℕ) (row : StreamRow D) (j : JournalState Q) → IsReadyOn told faults u first 1 pass (call.NcRead file page) row j → WasRead (opening_of first.told) (history j.entries row.book.stream) page raw → MayEndRead u pass file page raw row.book j
 may-end-read told faults u first pass file page raw row j ready read = record {
   unrefused = unrefused-read told faults u first 1 pass file page row j ready.made;
   ready = ready.ready;
@@ -172,7 +172,7 @@ may-end-read told faults u first pass file page raw row j ready read = record {
 }
 
 -- It may be done now, a place is reserved for it, and its page is read from the disk.
-module _ {D Q : Type 0} (told : D → Option Disk) (faults : D → ℕ) (u : Setup) (first : DiskAtFirst) (pass : ℕ) (file : File) (page : ℕ) (row : Row D) (j : JournalState Q) (ready : IsReadyOn told faults u first 1 pass (call.NcRead file page) row j)
+module _ {D Q : Type 0} (told : D → Option Disk) (faults : D → ℕ) (u : Setup) (first : DiskAtFirst) (pass : ℕ) (file : File) (page : ℕ) (row : StreamRow D) (j : JournalState Q) (ready : IsReadyOn told faults u first 1 pass (call.NcRead file page) row j)
     (now : D) (keeps : (first : DiskAtFirst) (past : List Entry) (s : ℕ) → DiskStands told faults first past s row.disk → DiskStands told faults first past s now) where
   pub ready-read : IsReadyOn told faults u first 1 pass (call.NcRead file page) (record row { disk = now }) j
   ready-read = record {
@@ -221,7 +221,7 @@ module _ {D Q : Type 0} (told : D → Option Disk) (faults : D → ℕ) (u : Set
       (used-read told faults first j.entries row.book.stream row.disk now keeps row.kept ready.made.stands.row_is.disk) counted
 
 -- Nothing was placed for want of memory, and the places are given back that were reserved.
-pub given-back : {D Q : Type 0} (told : D → Option Disk) (faults : D → ℕ) (u : Setup) (first : DiskAtFirst) (more : ℕ) (row : Row D) (j x k : JournalState Q) (c : BookState) → StandsUnder told faults u first more row j → Stays j x row.book c → k ≡ record x { reserved = x.reserved - more } → RowWent told faults u first 0 [] row (record row { book = c }) j k
+pub given-back : {D Q : Type 0} (told : D → Option Disk) (faults : D → ℕ) (u : Setup) (first : DiskAtFirst) (more : ℕ) (row : StreamRow D) (j x k : JournalState Q) (c : BookState) → StandsUnder told faults u first more row j → Stays j x row.book c → k ≡ record x { reserved = x.reserved - more } → RowWent told faults u first 0 [] row (record row { book = c }) j k
 given-back {D} {Q} told faults u first more row j x k c stand stays given =
     let same : k ≡ record j { reserved = j.reserved - more } =
     given ∙ ap (λ (y : JournalState Q). record y { reserved = y.reserved - more }) stays.0 in
@@ -237,7 +237,7 @@ given-back {D} {Q} told faults u first more row j x k c stand stays given =
     no-more n = omega arith
 
 -- A noncached store of a page that nothing refuses.
-module _ {D Q : Type 0} (told : D → Option Disk) (faults : D → ℕ) (u : Setup) (first : DiskAtFirst) (more pass : ℕ) (file : File) (page : ℕ) (bytes : List ℕ) (row : Row D) (j : JournalState Q) (made : IsAdmittedOn told faults u first more (call.NcStore file page bytes) row j) where
+module _ {D Q : Type 0} (told : D → Option Disk) (faults : D → ℕ) (u : Setup) (first : DiskAtFirst) (more pass : ℕ) (file : File) (page : ℕ) (bytes : List ℕ) (row : StreamRow D) (j : JournalState Q) (made : IsAdmittedOn told faults u first more (call.NcStore file page bytes) row j) where
   abbrev storing : Call
   storing = call.NcStore file page bytes
 
@@ -258,7 +258,7 @@ module _ {D Q : Type 0} (told : D → Option Disk) (faults : D → ℕ) (u : Set
   }
 
 -- It may be done now, and four places are reserved for it.
-module _ {D Q : Type 0} (told : D → Option Disk) (faults : D → ℕ) (u : Setup) (first : DiskAtFirst) (pass : ℕ) (file : File) (page : Page) (bytes : List ℕ) (row : Row D) (j : JournalState Q) (stream : page.stream ≡ row.book.stream) (ready : IsReadyOn told faults u first 4 pass (call.NcStore file page.page bytes) row j) where
+module _ {D Q : Type 0} (told : D → Option Disk) (faults : D → ℕ) (u : Setup) (first : DiskAtFirst) (pass : ℕ) (file : File) (page : Page) (bytes : List ℕ) (row : StreamRow D) (j : JournalState Q) (stream : page.stream ≡ row.book.stream) (ready : IsReadyOn told faults u first 4 pass (call.NcStore file page.page bytes) row j) where
   abbrev its : Call
   its = call.NcStore file page.page bytes
 
@@ -294,7 +294,7 @@ module _ {D Q : Type 0} (told : D → Option Disk) (faults : D → ℕ) (u : Set
   idle : is_some row.kept ≡ false
   idle = is-idle told faults u first 4 row j ready.made.stands ready.ready.no_transfer
 
-  rests : IsAtRest told faults first (store ∷ j.entries) row.book.stream row.disk
+  rests : DiskIsAtRest told faults first (store ∷ j.entries) row.book.stream row.disk
   rests =
       used-called told faults first j.entries row.book.stream row.disk None pass (suc (calls_of j.entries pass)) (Some page.stream) its (outcome.Done reply.Unit)
       (is-resting told faults u first 4 row j ready.made.stands idle)
@@ -337,8 +337,8 @@ module _ {D Q : Type 0} (told : D → Option Disk) (faults : D → ℕ) (u : Set
         (begun-carries told faults first (store ∷ j.entries) row.book.stream row.disk pass page image stream
         (numbered u j.entries page.stream page.page ready.made.stands.good (below-size u j.entries (history j.entries page.stream) file page.page bytes admitted))
         rests is.whole
-        (λ i small. subst (λ (s : ℕ). IsByteOf (opening_of first.told) (history (store ∷ j.entries) s) (4096 * page.page + i) (slice_index image i)) stream
-        (subst (λ (byte : ℕ). IsByteOf (opening_of first.told) (history (store ∷ j.entries) page.stream) (4096 * page.page + i) byte)
+        (λ i small. subst (λ (s : ℕ). IsByteOfContents (opening_of first.told) (history (store ∷ j.entries) s) (4096 * page.page + i) (slice_index image i)) stream
+        (subst (λ (byte : ℕ). IsByteOfContents (opening_of first.told) (history (store ∷ j.entries) page.stream) (4096 * page.page + i) byte)
         (ap (λ (s : ℕ). stored_byte (size_of (history j.entries s)) page.page bytes i) stream ∙ sym (is.bytes_are i small))
         (bytes-begun u j.entries pass file page bytes ready.made.stands.good here admitted may (opening_of first.told) i small))))
         (no-more (faults row.disk)))

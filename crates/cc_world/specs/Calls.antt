@@ -47,7 +47,7 @@ places_one (call.NcStore file page bytes) = false
 places_one other = true
 
 -- A call is made that is filed under the book's stream.
-pub record IsMade {Q : Type 0} (u : Setup) (more : ℕ) (it : Call) (b : BookState) (j : JournalState Q) : Type 0 where
+pub record CallIsMade {Q : Type 0} (u : Setup) (more : ℕ) (it : Call) (b : BookState) (j : JournalState Q) : Type 0 where
   pub stands : BookStandsUnder u more b j
   pub here : filed_under j.entries it ≡ Some b.stream
 
@@ -61,21 +61,21 @@ pub record MayReply (u : Setup) (past : List Entry) (pass s : ℕ) (it : Call) (
   pub may_end : MayEnd u past pass (Some s) it (outcome.Done r)
 
 -- What a call answers that may end now; none where it may not.
-abbrev pub IsAnswer : Setup → List Entry → ℕ → ℕ → Call → Option Reply → Type 0
-IsAnswer u past pass s it None = (r : Reply) → MayReply u past pass s it r → ⊥
-IsAnswer u past pass s it (Some r) = MayReply u past pass s it r
+abbrev pub IsCallAnswer : Setup → List Entry → ℕ → ℕ → Call → Option Reply → Type 0
+IsCallAnswer u past pass s it None = (r : Reply) → MayReply u past pass s it r → ⊥
+IsCallAnswer u past pass s it (Some r) = MayReply u past pass s it r
 
 -- a call of a pass is made, and is refused so
-pub record IsRefusedSo {Q : Type 0} (u : Setup) (pass : ℕ) (it : Call) (e : CcError) (b : BookState) (j : JournalState Q)
+pub record CallIsRefusedSo {Q : Type 0} (u : Setup) (pass : ℕ) (it : Call) (e : CcError) (b : BookState) (j : JournalState Q)
     : Type 0 where
-  pub made : IsMade u 0 it b j
+  pub made : CallIsMade u 0 it b j
   pub filed : IsFiledOn j.entries pass b.stream it
   pub reason : reason_of u j.entries it ≡ Some e
 
 -- it is made and places its entry alone, and nothing refuses it
-pub record IsUnrefused {Q : Type 0} (u : Setup) (more pass : ℕ) (it : Call) (b : BookState) (j : JournalState Q)
+pub record CallIsUnrefused {Q : Type 0} (u : Setup) (more pass : ℕ) (it : Call) (b : BookState) (j : JournalState Q)
     : Type 0 where
-  pub made : IsMade u more it b j
+  pub made : CallIsMade u more it b j
   pub alone : places_one it ≡ true
   pub filed : IsFiledOn j.entries pass b.stream it
   pub admitted : reason_of u j.entries it ≡ None
@@ -83,7 +83,7 @@ pub record IsUnrefused {Q : Type 0} (u : Setup) (more pass : ℕ) (it : Call) (b
 -- it may end now with this reply
 pub record IsReplied {Q : Type 0} (u : Setup) (more pass : ℕ) (it : Call) (r : Reply) (b : BookState) (j : JournalState Q)
     : Type 0 where
-  pub unrefused : IsUnrefused u more pass it b j
+  pub unrefused : CallIsUnrefused u more pass it b j
   pub may : MayReply u j.entries pass b.stream it r
 
 -- how many places it asks then, with that of its entry
@@ -109,33 +109,33 @@ pub record CallWent {Q : Type 0} (u : Setup) (added : List Entry) (b c : BookSta
 
 -- What the placing of a call's entry leaves that may be done with this reply. There is no room exactly where there is less
 -- than it asks, and then nothing changed.
-abbrev pub PlaceLeft : {Q : Type 0} → Setup → ℕ → Call → Reply → Result (Unit {0}) CcError
+abbrev pub CallPlacingLeft : {Q : Type 0} → Setup → ℕ → Call → Reply → Result (Unit {0}) CcError
     → BookState → BookState → JournalState Q → JournalState Q → Type 0
-PlaceLeft u pass it r (Err (error.JournalFull entries)) b c j k =
+CallPlacingLeft u pass it r (Err (error.JournalFull entries)) b c j k =
     (room_of j < asked_ready j.entries pass it) × (entries ≡ length j.entries) × (c ≡ b) × (k ≡ j)
-PlaceLeft u pass it r (Err error.NoMemory) b c j k = CallWent u [] b c j k
-PlaceLeft u pass it r (Err other) b c j k = ⊥
-PlaceLeft u pass it r (Ok done) b c j k =
+CallPlacingLeft u pass it r (Err error.NoMemory) b c j k = CallWent u [] b c j k
+CallPlacingLeft u pass it r (Err other) b c j k = ⊥
+CallPlacingLeft u pass it r (Ok done) b c j k =
     (asked_ready j.entries pass it ≤ room_of j) × CallWent u (call_entry j.entries pass it (outcome.Done r) ∷ []) b c j k
 
 -- What a call leaves. It is not now exactly where it may not end, and refused for want of room exactly where there is less
 -- than it asks; then nothing changed.
-abbrev pub CallLeft : {Q : Type 0} → Setup → ℕ → Call → StepReply Q
+abbrev pub CallEventLeft : {Q : Type 0} → Setup → ℕ → Call → StepReply Q
     → BookState → BookState → JournalState Q → JournalState Q → Type 0
-CallLeft u pass it step.NotNow b c j k = (MayDo u j.entries pass it → ⊥) × (c ≡ b) × (k ≡ j)
-CallLeft u pass it (step.Refused (error.JournalFull entries)) b c j k =
+CallEventLeft u pass it step.NotNow b c j k = (MayDo u j.entries pass it → ⊥) × (c ≡ b) × (k ≡ j)
+CallEventLeft u pass it (step.Refused (error.JournalFull entries)) b c j k =
     MayDo u j.entries pass it × (room_of j < asked_for j.entries pass it (reason_of u j.entries it))
     × (entries ≡ length j.entries) × (c ≡ b) × (k ≡ j)
-CallLeft u pass it (step.Refused error.NoMemory) b c j k = CallWent u [] b c j k
-CallLeft u pass it (step.Refused e) b c j k =
+CallEventLeft u pass it (step.Refused error.NoMemory) b c j k = CallWent u [] b c j k
+CallEventLeft u pass it (step.Refused e) b c j k =
     MayDo u j.entries pass it × (asked_for j.entries pass it (reason_of u j.entries it) ≤ room_of j)
     × (reason_of u j.entries it ≡ Some e)
     × CallWent u (call_entry j.entries pass it (outcome.Failed e) ∷ []) b c j k
-CallLeft u pass it (step.Done r) b c j k =
+CallEventLeft u pass it (step.Done r) b c j k =
     MayDo u j.entries pass it × (asked_for j.entries pass it (reason_of u j.entries it) ≤ room_of j)
     × (reason_of u j.entries it ≡ None)
     × CallWent u (call_entry j.entries pass it (outcome.Done r) ∷ []) b c j k
-CallLeft u pass it other b c j k = ⊥
+CallEventLeft u pass it other b c j k = ⊥
 
 -- the reply to a call that answers nothing but that it is done, where it may end
 abbrev pub unit_if : Bool → Option Reply

@@ -22,32 +22,32 @@ pub record IsFailing {Q : Type 0} (u : Setup) (it : Call) (b : BookState) (j : J
   pub here : filed_under j.entries it ≡ Some b.stream
 
 -- A call of a pass may tell the oldest fault of the pass since its last call by this error.
-pub record MayTell (u : Setup) (past : List Entry) (pass : ℕ) (it : Call) (e : CcError) : Type 0 where
+pub record MayTellFault (u : Setup) (past : List Entry) (pass : ℕ) (it : Call) (e : CcError) : Type 0 where
   pub fault : is_fault e ≡ true
   pub told : fault_told past pass it ≡ Some (call_entry past pass it (outcome.Failed e))
   pub may : MayStand u past (call_entry past pass it (outcome.Failed e))
 
 -- The error by which it tells that fault; none where it may not tell one.
-abbrev pub IsToldBy : Setup → List Entry → ℕ → Call → Option CcError → Type 0
-IsToldBy u past pass it None = MayStandIf u past (fault_told past pass it) → ⊥
-IsToldBy u past pass it (Some e) = MayTell u past pass it e
+abbrev pub IsFaultToldBy : Setup → List Entry → ℕ → Call → Option CcError → Type 0
+IsFaultToldBy u past pass it None = MayStandIf u past (fault_told past pass it) → ⊥
+IsFaultToldBy u past pass it (Some e) = MayTellFault u past pass it e
 
 -- a call is made that may tell a fault by this error
 pub record IsTelling {Q : Type 0} (u : Setup) (pass : ℕ) (it : Call) (e : CcError) (b : BookState) (j : JournalState Q)
     : Type 0 where
   pub failing : IsFailing u it b j
-  pub may : MayTell u j.entries pass it e
+  pub may : MayTellFault u j.entries pass it e
 
 -- What such a call leaves. It is not now exactly where it may not stand, and refused for want of room exactly where there is
 -- less than it asks; then, and where memory is wanting, nothing changed.
-abbrev pub FailLeft : {Q : Type 0} → Setup → ℕ → Call → StepReply Q
+abbrev pub FailEventLeft : {Q : Type 0} → Setup → ℕ → Call → StepReply Q
     → BookState → BookState → JournalState Q → JournalState Q → Type 0
-FailLeft u pass it step.NotNow b c j k = (MayStandIf u j.entries (fault_told j.entries pass it) → ⊥) × (c ≡ b) × (k ≡ j)
-FailLeft u pass it (step.Refused (error.JournalFull entries)) b c j k =
+FailEventLeft u pass it step.NotNow b c j k = (MayStandIf u j.entries (fault_told j.entries pass it) → ⊥) × (c ≡ b) × (k ≡ j)
+FailEventLeft u pass it (step.Refused (error.JournalFull entries)) b c j k =
     MayStandIf u j.entries (fault_told j.entries pass it) × (room_of j < asked_to_fail j.entries pass it)
     × (entries ≡ length j.entries) × (c ≡ b) × (k ≡ j)
-FailLeft u pass it (step.Refused error.NoMemory) b c j k = (c ≡ b) × (k ≡ j)
-FailLeft u pass it (step.Refused e) b c j k =
-    MayTell u j.entries pass it e × (asked_to_fail j.entries pass it ≤ room_of j)
+FailEventLeft u pass it (step.Refused error.NoMemory) b c j k = (c ≡ b) × (k ≡ j)
+FailEventLeft u pass it (step.Refused e) b c j k =
+    MayTellFault u j.entries pass it e × (asked_to_fail j.entries pass it ≤ room_of j)
     × CallWent u (call_entry j.entries pass it (outcome.Failed e) ∷ []) b c j k
-FailLeft u pass it other b c j k = ⊥
+FailEventLeft u pass it other b c j k = ⊥

@@ -11,7 +11,7 @@ use Rattle.cc_model.specs.History.{history}
 use Rattle.cc_effects.specs.Events.{filed_under}
 use Rattle.cc_world.specs.declared.filing.Filing.{Filing}
 use Rattle.cc_world.specs.declared.filing.Filing.TheVariants as filing
-use Rattle.cc_world.specs.declared.rows.Row.{Row}
+use Rattle.cc_world.specs.declared.rows.StreamRow.{StreamRow}
 
 -- a call is filed under no stream: it asks for the dirty page table of a log, or whether any page is dirty
 abbrev pub is_unfiled : Call → Bool
@@ -20,10 +20,10 @@ is_unfiled call.IsDirtyData = true
 is_unfiled other = false
 
 -- There is a row for each stream to which something happened, at most 16, in their order, and its book stands.
-pub record AreBooks {D : Type 0} (past : List Entry) (rows : List (Row D)) : Type 0 where
+pub record AreBooks {D : Type 0} (past : List Entry) (rows : List (StreamRow D)) : Type 0 where
   pub few : length rows ≤ 16
-  pub stream : (s : ℕ) (row : Row D) → slice_get rows s ≡ Some row → row.book.stream ≡ s
-  pub stands : (s : ℕ) (row : Row D) → slice_get rows s ≡ Some row →
+  pub stream : (s : ℕ) (row : StreamRow D) → slice_get rows s ≡ Some row → row.book.stream ≡ s
+  pub stands : (s : ℕ) (row : StreamRow D) → slice_get rows s ≡ Some row →
       (opening : Option (ℕ → List ℕ)) × BookStands opening past row.book
   pub beyond : (s : ℕ) → length rows ≤ s → history past s ≡ []
 

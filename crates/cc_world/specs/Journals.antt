@@ -11,15 +11,15 @@ use Rattle.cc_model.specs.Good.{IsGood}
 use Rattle.cc_model.specs.Room.{reserved_in}
 use Rattle.cc_model.specs.Setup.{Setup}
 use Rattle.cc_model.specs.Throttle.{pages_for}
-use Rattle.cc_effects.specs.Events.{Answers, IsWanting, MayHappen, asked_by}
+use Rattle.cc_effects.specs.Events.{Answers, IsWanting, MayHappen, asked_by_event}
 use Rattle.cc_effects.specs.declared.events.Event.{Event}
 use Rattle.cc_effects.specs.declared.events.Event.TheVariants as event
 use Rattle.cc_effects.specs.declared.events.StepReply.{StepReply}
 use Rattle.cc_effects.specs.declared.events.StepReply.TheVariants as step
 
 -- The journal gained these entries, and nothing else of it changed but what is reserved, its rows and its queue.
-abbrev pub HasPlaced : {Q : Type 0} → List Entry → JournalState Q → JournalState Q → Type 0
-HasPlaced added j k =
+abbrev pub JournalHasPlaced : {Q : Type 0} → List Entry → JournalState Q → JournalState Q → Type 0
+JournalHasPlaced added j k =
     k ≡ record j { entries = added ++ j.entries; reserved = k.reserved; rows = k.rows; queue = k.queue }
 
 -- a deferral that is refused hands its routine back
@@ -55,18 +55,18 @@ IsJournalStanding posted j = (u : Setup) × JournalStandsUnder posted u j
 -- these entries were placed, and the journal goes on standing
 pub record JournalWent {Q : Type 0} (posted : Q → Bool) (u : Setup) (added : List Entry) (j k : JournalState Q) : Type 0 where
   pub stands : JournalStandsUnder posted u k
-  pub placed : HasPlaced added j k
+  pub placed : JournalHasPlaced added j k
 
 -- What an event leaves of the journal alone, its routine aside, by cases over its reply.
 abbrev pub JournalEnded : {Q : Type 0} → (Q → Bool) → Setup → Event Q → StepReply Q → JournalState Q → JournalState Q → Type 0
 JournalEnded posted u it step.NotNow j k = (MayHappen u j.entries it → ⊥) × (k ≡ j)
 JournalEnded posted u it step.Faulted j k = ⊥
 JournalEnded posted u it (step.Refused (error.JournalFull entries)) j k =
-    MayHappen u j.entries it × (room_of j < asked_by u j.entries it) × (entries ≡ length j.entries) × (k ≡ j)
+    MayHappen u j.entries it × (room_of j < asked_by_event u j.entries it) × (entries ≡ length j.entries) × (k ≡ j)
 JournalEnded posted u it (step.Refused error.NoMemory) j k =
     (added : List Entry) × IsWanting j.entries it added × JournalWent posted u added j k
 JournalEnded posted u it other j k =
-    MayHappen u j.entries it × (asked_by u j.entries it ≤ room_of j)
+    MayHappen u j.entries it × (asked_by_event u j.entries it ≤ room_of j)
     × ((added : List Entry) × Answers u j.entries it other added × JournalWent posted u added j k)
 
 abbrev pub JournalLeft : {Q : Type 0} → (Q → Bool) → Setup → Event Q → StepReply Q → JournalState Q → JournalState Q → Type 0

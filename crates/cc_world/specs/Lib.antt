@@ -12,4 +12,5 @@ pub mod Calls
 pub mod Residents
 pub mod HoldUses
 pub mod Failing
+pub mod Settled
 pub mod Uncached

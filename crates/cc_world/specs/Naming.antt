@@ -11,8 +11,8 @@ use Rattle.cc_world.specs.declared.filing.Named.TheVariants as named
 
 -- A call that names a file is filed under its stream, and one that names a hold where it is open. One that names nothing is
 -- filed under none.
-abbrev pub IsNamed : Call → Named → Type 0
-IsNamed it (named.File file) = (file_of it ≡ Some file) × ((past : List Entry) → filed_under past it ≡ Some file.stream)
-IsNamed it (named.Hold hold) =
+abbrev pub CallIsNamed : Call → Named → Type 0
+CallIsNamed it (named.File file) = (file_of it ≡ Some file) × ((past : List Entry) → filed_under past it ≡ Some file.stream)
+CallIsNamed it (named.Hold hold) =
     (is_unfiled it ≡ false) × (file_of it ≡ None) × ((past : List Entry) → filed_under past it ≡ holder_of past hold)
-IsNamed it named.Nothing = (is_unfiled it ≡ true) × ((past : List Entry) → filed_under past it ≡ None)
+CallIsNamed it named.Nothing = (is_unfiled it ≡ true) × ((past : List Entry) → filed_under past it ≡ None)

@@ -7,7 +7,7 @@ use Rattle.cc_entry.specs.Place.{Page}
 use Rattle.cc_entry.specs.declared.entry.Entry.{Entry}
 use Rattle.cc_book.specs.Book.{BookState, BookStands}
 use Rattle.cc_dirty.specs.declared.row.Row.{Row}
-use Rattle.cc_log.specs.Turn.{LogState}
+use Rattle.cc_log.specs.Turn.{LogTurnState}
 use Rattle.cc_model.specs.Conditions.{MayBegin, MayComeIn, MayGoOut}
 use Rattle.cc_model.specs.Covered.{FlushedUpTo}
 use Rattle.cc_model.specs.Good.{IsGood}
@@ -44,18 +44,18 @@ CanBegin b past page answer =
     open_of (history past b.stream) ≡ None → Says answer (MayBegin past b.stream page.page)
 
 -- The log of a stream, where it has one, is among these, and is flushed to what the past says.
-abbrev pub AreFlushed : {L : Type 0} → ℕ → List Entry → List (LogState L) → Type 0
+abbrev pub AreFlushed : {L : Type 0} → ℕ → List Entry → List (LogTurnState L) → Type 0
 AreFlushed {L} s past logs =
     (handle : ℕ) → log_of (history past s) ≡ Some handle →
-    (log : LogState L) × (slice_get logs handle ≡ Some log) × (log.flushed ≡ flushed_to past handle)
+    (log : LogTurnState L) × (slice_get logs handle ≡ Some log) × (log.flushed ≡ flushed_to past handle)
 
 -- a book stands for a past, and the log of its stream is among these
-abbrev pub IsLoggedBy : {L : Type 0} → BookState → List Entry → List (LogState L) → Type 0
+abbrev pub IsLoggedBy : {L : Type 0} → BookState → List Entry → List (LogTurnState L) → Type 0
 IsLoggedBy b past logs = ((opening : Option (ℕ → List ℕ)) × BookStands opening past b) × AreFlushed b.stream past logs
 
 -- the answer says whether the stream's log, where it has one, is flushed to the LSN, where there is one
-abbrev pub IsReached : {L : Type 0} → BookState → List (LogState L) → Option ℕ → Bool → Type 0
-IsReached b logs newest answer =
+abbrev pub LsnIsReached : {L : Type 0} → BookState → List (LogTurnState L) → Option ℕ → Bool → Type 0
+LsnIsReached b logs newest answer =
     (opening : Option (ℕ → List ℕ)) (past : List Entry) → BookStands opening past b → AreFlushed b.stream past logs →
     Says answer (FlushedUpTo past (log_of (history past b.stream)) newest)
 

@@ -26,10 +26,10 @@ pub record CanDefer {Q : Type 0} (file : File) (j : JournalState Q) : Type 0 whe
   pub few : length (queue j.entries) < 64
 
 -- Why a deferral is refused: for want of room, since the object is not cached, since 64 wait, or for want of memory.
-abbrev pub IsKept : {Q : Type 0} → File → CcError → JournalState Q → Type 0
-IsKept file (error.JournalFull entries) j = (room_of j < 1) × (entries ≡ length j.entries)
-IsKept file error.NotCached j = (1 ≤ room_of j) × (is_open (history j.entries file.stream) file ≡ false)
-IsKept file error.QueueFull j =
+abbrev pub IsDeferralRefusal : {Q : Type 0} → File → CcError → JournalState Q → Type 0
+IsDeferralRefusal file (error.JournalFull entries) j = (room_of j < 1) × (entries ≡ length j.entries)
+IsDeferralRefusal file error.NotCached j = (1 ≤ room_of j) × (is_open (history j.entries file.stream) file ≡ false)
+IsDeferralRefusal file error.QueueFull j =
     (1 ≤ room_of j) × (is_open (history j.entries file.stream) file ≡ true) × (64 ≤ length (queue j.entries))
-IsKept file error.NoMemory j = Unit {0}
-IsKept file other j = ⊥
+IsDeferralRefusal file error.NoMemory j = Unit {0}
+IsDeferralRefusal file other j = ⊥

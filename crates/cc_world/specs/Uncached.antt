@@ -19,30 +19,30 @@ use Rattle.cc_model.specs.Residency.{is_resident}
 use Rattle.cc_model.specs.Setup.{Setup}
 use Rattle.cc_model.specs.Touches.{size_of}
 use Rattle.cc_turns.specs.Standing.{DiskAtFirst}
-use Rattle.cc_world.specs.Calls.{IsUnrefused}
+use Rattle.cc_world.specs.Calls.{CallIsUnrefused}
 use Rattle.cc_world.specs.Pages.{Says}
 use Rattle.cc_world.specs.Rows.{RowWent, StandsUnder}
 use Rattle.cc_effects.specs.Events.{entries_done, filed_under, reason_of}
-use Rattle.cc_world.specs.declared.rows.Row.{Row}
+use Rattle.cc_world.specs.declared.rows.StreamRow.{StreamRow}
 
 -- A call is made that is filed under the row's stream, and nothing refuses it. So many places are reserved beyond what the
 -- journal's entries owe.
 pub record IsAdmittedOn {D Q : Type 0} (told : D → Option Disk) (faults : D → ℕ) (u : Setup) (first : DiskAtFirst)
-    (more : ℕ) (it : Call) (row : Row D) (j : JournalState Q) : Type 0 where
+    (more : ℕ) (it : Call) (row : StreamRow D) (j : JournalState Q) : Type 0 where
   pub stands : StandsUnder told faults u first more row j
   pub here : filed_under j.entries it ≡ Some row.book.stream
   pub admitted : reason_of u j.entries it ≡ None
 
 -- and a pass may do it now
 pub record IsReadyOn {D Q : Type 0} (told : D → Option Disk) (faults : D → ℕ) (u : Setup) (first : DiskAtFirst)
-    (more pass : ℕ) (it : Call) (row : Row D) (j : JournalState Q) : Type 0 where
+    (more pass : ℕ) (it : Call) (row : StreamRow D) (j : JournalState Q) : Type 0 where
   pub made : IsAdmittedOn told faults u first more it row j
   pub ready : IsReady j.entries pass row.book.stream it
 
 -- a noncached read of a page may end now, for whose entry a place is reserved, and of which this was read
 pub record MayEndRead {Q : Type 0} (u : Setup) (pass : ℕ) (file : File) (page : ℕ) (raw : List ℕ) (b : BookState)
     (j : JournalState Q) : Type 0 where
-  pub unrefused : IsUnrefused u 1 pass (call.NcRead file page) b j
+  pub unrefused : CallIsUnrefused u 1 pass (call.NcRead file page) b j
   pub ready : IsReady j.entries pass b.stream (call.NcRead file page)
   pub read : WasRead (u.opening b.stream) (history j.entries b.stream) page raw
 
@@ -64,9 +64,9 @@ pub record IsImage (size page : ℕ) (bytes image : List ℕ) : Type 0 where
 
 -- What a store that may be done leaves, for which places are reserved: its entries, or where there is no memory all as it
 -- was.
-abbrev pub StoreLeft : {D Q : Type 0} → (D → Option Disk) → (D → ℕ) → Setup → DiskAtFirst → ℕ → Call
-    → Result (Unit {0}) NoMemory → Row D → Row D → JournalState Q → JournalState Q → Type 0
-StoreLeft told faults u first pass it (Ok done) old new j k =
+abbrev pub StoreEventLeft : {D Q : Type 0} → (D → Option Disk) → (D → ℕ) → Setup → DiskAtFirst → ℕ → Call
+    → Result (Unit {0}) NoMemory → StreamRow D → StreamRow D → JournalState Q → JournalState Q → Type 0
+StoreEventLeft told faults u first pass it (Ok done) old new j k =
     RowWent told faults u first 0 (entries_done j.entries pass it reply.Unit) old new j k
-StoreLeft told faults u first pass it (Err none) old new j k =
+StoreEventLeft told faults u first pass it (Err none) old new j k =
     (new ≡ record old { book = new.book }) × Stays j k old.book new.book

@@ -1,6 +1,6 @@
 //! A call that ends on the book of its stream and the journal: it is refused, or done, or may not end now.
 
-ghost use Rattle.std.specs.Prelude.{◌≡◌, ℕ, List, [], ◌∷◌, Option, None, Some, true, IfOk, OnErr, OnOk};
+ghost use Rattle.std.specs.Prelude.{◌≡◌, ◌<◌, ◌^◌, ℕ, List, [], ◌∷◌, Option, None, Some, true, IfOk, OnErr, OnOk};
 ghost use Rattle.cc_entry.specs.declared.entry.Entry.{Entry};
 ghost use Rattle.cc_entry.specs.declared.reply.Outcome.TheVariants as outcome;
 ghost use Rattle.cc_book.specs.Book.{BookStands, Stays};
@@ -8,7 +8,7 @@ ghost use Rattle.cc_model.specs.History.{history};
 ghost use Rattle.cc_model.specs.Holds.{holds_of};
 ghost use Rattle.cc_model.specs.Images.{open_of};
 ghost use Rattle.cc_model.specs.Setup.{Setup};
-ghost use Rattle.cc_world.specs.Calls.{CallLeft, CallWent, IsFiledOn, IsMade, IsRefusedSo, IsReplied, IsUnrefused, PlaceLeft, asked_on, asked_ready, ends_on_book, spared_on};
+ghost use Rattle.cc_world.specs.Calls.{CallEventLeft, CallWent, IsFiledOn, CallIsMade, CallIsRefusedSo, IsReplied, CallIsUnrefused, CallPlacingLeft, asked_on, asked_ready, ends_on_book, spared_on};
 ghost use Rattle.cc_world.specs.Pages.{Says};
 ghost use Rattle.cc_effects.specs.Events.{call_entry, reason_of};
 
@@ -32,17 +32,17 @@ pub(crate) fn end_call<Q>(
     call: Call,
     resting: bool,
 ) -> StepReply<Q>
-    requires made { (u : Setup) × IsMade u 0 call book.old journal.old }
+    requires made { (u : Setup) × CallIsMade u 0 call book.old journal.old }
     requires on_book { ends_on_book call ≡ true }
+    requires recorded { journal.old.capacity < 2 ^ 32 }
     requires resting { Says resting (open_of (history journal.old.entries book.old.stream) ≡ None) }
-    ensures { (u : Setup) → IsMade u 0 call book.old journal.old →
-        CallLeft u pass call result book.old book.new journal.old journal.new }
+    ensures { (u : Setup) → CallIsMade u 0 call book.old journal.old →
+        CallEventLeft u pass call result book.old book.new journal.old journal.new }
 {
-    match is_filed(alloc, book, journal, pass, &call) {
-        Ok(true) => end_filed(alloc, book, journal, pass, call, resting),
-        Ok(false) => StepReply::NotNow,
-        Err(NoMemory) => StepReply::Refused(CcError::NoMemory),
+    if !is_filed(book, pass, &call) {
+        return StepReply::NotNow;
     }
+    end_filed(alloc, book, journal, pass, call, resting)
 }
 
 // Ends a call that may be filed under the book's stream.
@@ -54,12 +54,13 @@ fn end_filed<Q>(
     call: Call,
     resting: bool,
 ) -> StepReply<Q>
-    requires made { (u : Setup) × IsMade u 0 call book.old journal.old }
+    requires made { (u : Setup) × CallIsMade u 0 call book.old journal.old }
     requires on_book { ends_on_book call ≡ true }
+    requires recorded { journal.old.capacity < 2 ^ 32 }
     requires filed { IsFiledOn journal.old.entries pass book.old.stream call }
     requires resting { Says resting (open_of (history journal.old.entries book.old.stream) ≡ None) }
-    ensures { (u : Setup) → IsMade u 0 call book.old journal.old →
-        CallLeft u pass call result book.old book.new journal.old journal.new }
+    ensures { (u : Setup) → CallIsMade u 0 call book.old journal.old →
+        CallEventLeft u pass call result book.old book.new journal.old journal.new }
 {
     match reason(alloc, book, journal, &call) {
         Ok(None) => admit(alloc, book, journal, pass, call, resting),
@@ -75,7 +76,7 @@ fn reason<Q>(
     journal: &Journal<Q>,
     call: &Call,
 ) -> Result<Option<CcError>, NoMemory>
-    ensures { IfOk result (λ refused. (u : Setup) → IsMade u 0 call.now book.now journal.now →
+    ensures { IfOk result (λ refused. (u : Setup) → CallIsMade u 0 call.now book.now journal.now →
         refused ≡ reason_of u journal.now.entries call.now) }
 {
     match call {
@@ -92,9 +93,9 @@ pub(crate) fn refuse<Q>(
     call: Call,
     refused: CcError,
 ) -> StepReply<Q>
-    requires refused { (u : Setup) × IsRefusedSo u pass call refused book.old journal.old }
-    ensures { (u : Setup) → IsRefusedSo u pass call refused book.old journal.old →
-        CallLeft u pass call result book.old book.new journal.old journal.new }
+    requires refused { (u : Setup) × CallIsRefusedSo u pass call refused book.old journal.old }
+    ensures { (u : Setup) → CallIsRefusedSo u pass call refused book.old journal.old →
+        CallEventLeft u pass call result book.old book.new journal.old journal.new }
 {
     match journal.reserve(1) {
         Ok(()) => {
@@ -116,11 +117,12 @@ fn admit<Q>(
     call: Call,
     resting: bool,
 ) -> StepReply<Q>
-    requires unrefused { (u : Setup) × IsUnrefused u 0 pass call book.old journal.old }
+    requires unrefused { (u : Setup) × CallIsUnrefused u 0 pass call book.old journal.old }
     requires on_book { ends_on_book call ≡ true }
+    requires recorded { journal.old.capacity < 2 ^ 32 }
     requires resting { Says resting (open_of (history journal.old.entries book.old.stream) ≡ None) }
-    ensures { (u : Setup) → IsUnrefused u 0 pass call book.old journal.old →
-        CallLeft u pass call result book.old book.new journal.old journal.new }
+    ensures { (u : Setup) → CallIsUnrefused u 0 pass call book.old journal.old →
+        CallEventLeft u pass call result book.old book.new journal.old journal.new }
 {
     match reply_now(alloc, book, journal, pass, &call, resting) {
         Ok(Some(reply)) => finish(alloc, book, journal, pass, call, reply),
@@ -140,7 +142,7 @@ fn finish<Q>(
 ) -> StepReply<Q>
     requires replied { (u : Setup) × IsReplied u 0 pass call reply book.old journal.old }
     ensures { (u : Setup) → IsReplied u 0 pass call reply book.old journal.old →
-        CallLeft u pass call result book.old book.new journal.old journal.new }
+        CallEventLeft u pass call result book.old book.new journal.old journal.new }
 {
     match copy_of(alloc, &reply) {
         Ok(copy) => match place(alloc, book, journal, pass, call, reply) {
@@ -162,7 +164,7 @@ fn place<Q>(
 ) -> Result<(), CcError>
     requires replied { (u : Setup) × IsReplied u 0 pass call reply book.old journal.old }
     ensures { (u : Setup) → IsReplied u 0 pass call reply book.old journal.old →
-        PlaceLeft u pass call reply result book.old book.new journal.old journal.new }
+        CallPlacingLeft u pass call reply result book.old book.new journal.old journal.new }
 {
     let asked = asked(book, &call);
     match journal.reserve(asked) {

@@ -1,17 +1,17 @@
 //! A call that tells a fault of a device or a log.
 
-ghost use Rattle.std.specs.Prelude.{◌≡◌, not, true, false, IfOk, Some};
+ghost use Rattle.std.specs.Prelude.{◌≡◌, ◌<◌, ◌^◌, not, true, false, IfOk, Some};
 ghost use Rattle.cc_model.specs.Legal.{NothingElse, ends_own_store};
 ghost use Rattle.cc_model.specs.Setup.{Setup};
 ghost use Rattle.cc_turns.specs.Standing.{DiskAtFirst};
-ghost use Rattle.cc_world.specs.Failing.{FailLeft, IsFailing, IsTelling, IsToldBy};
+ghost use Rattle.cc_world.specs.Failing.{FailEventLeft, IsFailing, IsTelling, IsFaultToldBy};
 ghost use Rattle.cc_world.specs.Pages.{Says};
 ghost use Rattle.cc_world.specs.Rows.{IsStanding, RowLeft, StandsUnder};
 ghost use Rattle.cc_effects.specs.Events.{filed_under};
 ghost use Rattle.cc_effects.specs.declared.events.Event.TheVariants as event;
 
 use crate::filed::is_filed;
-use crate::rows::Row;
+use crate::rows::StreamRow;
 use crate::told::error_of;
 use cc_book::Book;
 use cc_effects::StepReply;
@@ -22,7 +22,7 @@ use cc_readers::stores::ends_own_store;
 use cc_traits::PageDisk;
 use std::alloc::Global;
 
-impl<D: PageDisk> Row<D> {
+impl<D: PageDisk> StreamRow<D> {
     /// A call of a pass, which is filed under the row's stream, tells the oldest fault of the pass since its last call.
     pub(crate) fn fail_call<Q>(
         &mut self,
@@ -33,6 +33,7 @@ impl<D: PageDisk> Row<D> {
     ) -> StepReply<Q>
         requires filed { filed_under journal.old.entries call ≡ Some self.old.book.stream }
         requires standing { IsStanding D.told D.faults 0 self.old journal.old }
+        requires recorded { journal.old.capacity < 2 ^ 32 }
         ensures { (u : Setup) (first : DiskAtFirst) → StandsUnder D.told D.faults u first 0 self.old journal.old →
             RowLeft D.told D.faults u first (event.Fail pass call) result self.old self.new journal.old journal.new }
     {
@@ -49,8 +50,9 @@ fn fail_on<Q>(
     call: Call,
 ) -> StepReply<Q>
     requires failing { (u : Setup) × IsFailing u call book.old journal.old }
+    requires recorded { journal.old.capacity < 2 ^ 32 }
     ensures { (u : Setup) → IsFailing u call book.old journal.old →
-        FailLeft u pass call result book.old book.new journal.old journal.new }
+        FailEventLeft u pass call result book.old book.new journal.old journal.new }
 {
     match error_now(alloc, book, journal, pass, &call) {
         Ok(Some(error)) => tell(book, journal, pass, call, error),
@@ -68,13 +70,14 @@ fn error_now<Q>(
     call: &Call,
 ) -> Result<Option<CcError>, NoMemory>
     requires failing { (u : Setup) × IsFailing u call.now book.now journal.now }
+    requires recorded { journal.now.capacity < 2 ^ 32 }
     ensures { IfOk result (λ error. (u : Setup) → IsFailing u call.now book.now journal.now →
-        IsToldBy u journal.now.entries pass call.now error) }
+        IsFaultToldBy u journal.now.entries pass call.now error) }
 {
     let Some(fault) = oldest_fault(journal.entries(), pass) else {
         return Ok(None);
     };
-    if !is_filed(alloc, book, journal, pass, call)? {
+    if !is_filed(book, pass, call) {
         return Ok(None);
     }
     if is_refused(alloc, book, journal, pass, call)? {
@@ -91,6 +94,7 @@ fn is_refused<Q>(
     pass: u32,
     call: &Call,
 ) -> Result<bool, NoMemory>
+    requires { journal.now.capacity < 2 ^ 32 }
     ensures { IfOk result (λ refused. (u : Setup) → IsFailing u call.now book.now journal.now →
         Says (not refused) (NothingElse u journal.now.entries pass (Some book.now.stream) call.now)) }
 {
@@ -103,6 +107,7 @@ fn is_refused<Q>(
 
 // Whether a call is the end of a noncached write whose store is the last call of the pass.
 fn ends_store<Q>(book: &Book, journal: &Journal<Q>, pass: u32, call: &Call) -> bool
+    requires { journal.now.capacity < 2 ^ 32 }
     ensures { result ≡ ends_own_store journal.now.entries pass (Some book.now.stream) call.now }
 {
     match call {
@@ -122,8 +127,9 @@ fn tell<Q>(
     error: CcError,
 ) -> StepReply<Q>
     requires telling { (u : Setup) × IsTelling u pass call error book.old journal.old }
+    requires recorded { journal.old.capacity < 2 ^ 32 }
     ensures { (u : Setup) → IsTelling u pass call error book.old journal.old →
-        FailLeft u pass call result book.old book.new journal.old journal.new }
+        FailEventLeft u pass call result book.old book.new journal.old journal.new }
 {
     if ends_store(book, journal, pass, &call) {
         book.fail(journal, pass, call, error);

@@ -1,18 +1,17 @@
 //! Whether a call may be filed under the stream of a book.
 
-ghost use Rattle.std.specs.Prelude.{◌≡◌, IfOk, Option, Some};
-ghost use Rattle.cc_model.specs.Holds.{hold_at};
-ghost use Rattle.cc_readers.specs.HoldReads.{hold_of, holds_in};
+ghost use Rattle.std.specs.Prelude.{◌≡◌, ℕ, List, Option, Some};
+ghost use Rattle.cc_book.specs.Book.{BookStands};
+ghost use Rattle.cc_entry.specs.declared.entry.Entry.{Entry};
+ghost use Rattle.cc_model.specs.History.{history};
+ghost use Rattle.cc_model.specs.Holds.{hold_at, holds_of};
 ghost use Rattle.cc_world.specs.Calls.{IsFiledOn};
-ghost use Rattle.cc_world.specs.HoldUses.{fits, has_range, is_of_kind, serves_use, use_of, used};
+ghost use Rattle.cc_world.specs.HoldUses.{fits, hold_has_range, hold_in_row, is_of_kind, serves_use, use_of, hold_use};
 ghost use Rattle.cc_world.specs.Pages.{Says};
 ghost use Rattle.cc_effects.specs.Events.{filed_under};
 
 use cc_book::Book;
-use cc_entry::{Call, HoldKind, NoMemory};
-use cc_journal::Journal;
-use cc_readers::holds::{OpenHold, open_holds};
-use std::alloc::Global;
+use cc_entry::{Call, HoldKind, HoldRow};
 
 /// What a call asks of the hold that it names: its id, its kind, where not each kind serves, and so many bytes from a place
 /// on, where it asks any.
@@ -25,22 +24,14 @@ pub(crate) struct HoldUse {
 
 /// Whether a call of a pass that is filed under the book's stream may be: it names a file, or a hold that this pass made,
 /// of the call's kind and with its range.
-pub(crate) fn is_filed<Q>(
-    alloc: Global,
-    book: &Book,
-    journal: &Journal<Q>,
-    pass: u32,
-    call: &Call,
-) -> Result<bool, NoMemory>
-    requires { filed_under journal.now.entries call.now ≡ Some book.now.stream }
-    ensures { IfOk result (λ filed. Says filed (IsFiledOn journal.now.entries pass book.now.stream call.now)) }
+pub(crate) fn is_filed(book: &Book, pass: u32, call: &Call) -> bool
+    ensures { (opening : Option (ℕ → List ℕ)) (past : List Entry) → BookStands opening past book.now →
+        filed_under past call.now ≡ Some book.now.stream →
+        Says result (IsFiledOn past pass book.now.stream call.now) }
 {
     match use_of(call) {
-        Some(asked) => {
-            let holds = open_holds(alloc, journal.entries(), book.stream())?;
-            Ok(serves(&holds, pass, asked))
-        }
-        None => Ok(true),
+        Some(asked) => serves(book, pass, asked),
+        None => true,
     }
 }
 
@@ -71,7 +62,7 @@ fn use_of(call: &Call) -> Option<HoldUse>
 
 // A hold of this id and kind is asked for, with these bytes.
 fn used(hold: u64, kind: HoldKind, range: Option<(u64, u64)>) -> Option<HoldUse>
-    ensures { result ≡ used hold kind range }
+    ensures { result ≡ hold_use hold kind range }
 {
     Some(HoldUse {
         hold,
@@ -81,22 +72,24 @@ fn used(hold: u64, kind: HoldKind, range: Option<(u64, u64)>) -> Option<HoldUse>
 }
 
 // Whether an open hold of the pass is what is asked.
-fn serves(holds: &[OpenHold], pass: u32, asked: HoldUse) -> bool
-    ensures { result ≡ serves_use pass asked (hold_at (holds_in holds.now) asked.hold) }
+fn serves(book: &Book, pass: u32, asked: HoldUse) -> bool
+    ensures { (opening : Option (ℕ → List ℕ)) (past : List Entry) → BookStands opening past book.now →
+        result ≡ serves_use pass asked (hold_at (holds_of (history past book.now.stream)) asked.hold) }
 {
-    for hold in holds {
-        if hold.id == asked.hold {
-            return fits(hold, pass, asked);
-        }
+    let Some(maker) = book.maker(asked.hold) else {
+        return false;
+    };
+    match book.hold(asked.hold) {
+        Some(hold) => fits(maker, &hold, pass, asked),
+        None => false,
     }
-    false
 }
 
 // Whether a hold was made by the pass, is of the kind that is asked and has the bytes.
-fn fits(hold: &OpenHold, pass: u32, asked: HoldUse) -> bool
-    ensures { result ≡ fits pass asked (hold_of hold.now) }
+fn fits(maker: u32, row: &HoldRow, pass: u32, asked: HoldUse) -> bool
+    ensures { result ≡ fits pass asked (hold_in_row maker row.now) }
 {
-    hold.pass == pass && is_of_kind(hold.kind, asked.kind) && has_range(hold, asked.range)
+    maker == pass && is_of_kind(row.kind, asked.kind) && has_range(row, asked.range)
 }
 
 // Whether a kind is the one that is asked, where one is.
@@ -115,13 +108,13 @@ fn is_of_kind(kind: HoldKind, asked: Option<HoldKind>) -> bool
 }
 
 // Whether a hold has the bytes that are asked, where any are.
-fn has_range(hold: &OpenHold, asked: Option<(u64, u64)>) -> bool
-    ensures { result ≡ has_range asked (hold_of hold.now) }
+fn has_range(row: &HoldRow, asked: Option<(u64, u64)>) -> bool
+    ensures { (maker : ℕ) → result ≡ hold_has_range asked (hold_in_row maker row.now) }
 {
     match asked {
         Some((at, len)) => {
             let end = u128::from(at) + u128::from(len);
-            hold.at <= at && end <= u128::from(hold.at) + u128::from(hold.len)
+            row.at <= at && end <= u128::from(row.at) + u128::from(row.len)
         }
         None => true,
     }

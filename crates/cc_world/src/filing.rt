@@ -3,10 +3,10 @@
 ghost use Rattle.std.specs.Prelude.{◌≡◌, ◌<◌, IfSome, List, length};
 ghost use Rattle.cc_entry.specs.declared.entry.Entry.{Entry};
 ghost use Rattle.cc_world.specs.Filing.{AreBooks, FilesUnder};
-ghost use Rattle.cc_world.specs.Naming.{IsNamed};
+ghost use Rattle.cc_world.specs.Naming.{CallIsNamed};
 ghost use Rattle.cc_effects.specs.Events.{holder_of};
 
-use crate::rows::Row;
+use crate::rows::StreamRow;
 use cc_entry::{Call, FileId, StreamId};
 
 /// Under which stream a call is filed.
@@ -29,7 +29,7 @@ enum Named {
 }
 
 /// Under which stream a call is filed, by the books of all streams.
-pub(crate) fn filing_of<D>(rows: &[Row<D>], call: &Call) -> Filing
+pub(crate) fn filing_of<D>(rows: &[StreamRow<D>], call: &Call) -> Filing
     ensures { (past : List Entry) → AreBooks past rows.now → FilesUnder (length rows.now) past call.now result }
 {
     match named_by(call) {
@@ -44,7 +44,7 @@ pub(crate) fn filing_of<D>(rows: &[Row<D>], call: &Call) -> Filing
 
 // What a call names: a file, or a hold, or nothing.
 fn named_by(call: &Call) -> Named
-    ensures { IsNamed call.now result }
+    ensures { CallIsNamed call.now result }
 {
     match call {
         Call::PinMapped { hold, .. }
@@ -87,7 +87,7 @@ fn named_by(call: &Call) -> Named
 }
 
 // The first stream in which a hold is open.
-fn holder_of<D>(rows: &[Row<D>], hold: u64) -> Option<StreamId>
+fn holder_of<D>(rows: &[StreamRow<D>], hold: u64) -> Option<StreamId>
     ensures first { (past : List Entry) → AreBooks past rows.now → result ≡ holder_of past hold }
     ensures within { (past : List Entry) → AreBooks past rows.now →
         IfSome result (λ stream. stream < length rows.now) }

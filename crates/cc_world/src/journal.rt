@@ -1,6 +1,6 @@
 //! The events of the journal alone: scans, deferrals and posts, and the calls that are filed under no stream.
 
-ghost use Rattle.std.specs.Prelude.{◌≡◌, ℕ, ◌+◌, true, false, is_some, List, Option, Some, [], ◌∷◌, IfOk, IfErr, OnOk, OnErr};
+ghost use Rattle.std.specs.Prelude.{◌≡◌, ◌<◌, ◌^◌, ℕ, ◌+◌, true, false, is_some, List, Option, Some, [], ◌∷◌, IfOk, IfErr, OnOk, OnErr};
 ghost use Rattle.cc_book.specs.Book.{BookStands};
 ghost use Rattle.cc_entry.specs.declared.call.Call.TheVariants as call;
 ghost use Rattle.cc_model.specs.Faults.{faults_since, oldest};
@@ -11,7 +11,7 @@ ghost use Rattle.cc_model.specs.Stamps.{dirty_table};
 ghost use Rattle.cc_readers.specs.FaultReads.{fault_in};
 ghost use Rattle.cc_world.specs.Filing.{is_unfiled};
 ghost use Rattle.cc_world.specs.Journals.{IsJournalStanding, JournalLeft, JournalStandsUnder, JournalWent};
-ghost use Rattle.cc_world.specs.Reserving.{CanDefer, HasReserved, IsKept, unreserved};
+ghost use Rattle.cc_world.specs.Reserving.{CanDefer, HasReserved, IsDeferralRefusal, unreserved};
 ghost use Rattle.cc_effects.specs.Events.{call_entry};
 ghost use Rattle.cc_effects.specs.declared.events.Event.TheVariants as event;
 
@@ -78,11 +78,11 @@ fn reserve_deferral<Q>(book: &Book, journal: &mut Journal<Q>, file: FileId) -> R
     requires book { (opening : Option (ℕ → List ℕ)) × BookStands opening journal.old.entries book.now }
     ensures ok { OnOk result (CanDefer file journal.old × (journal.new ≡ record journal.old { reserved = journal.old.reserved + 1 })) }
     ensures err { OnErr result (journal.new ≡ journal.old) }
-    ensures causes { IfErr result (λ e. IsKept file e journal.old) }
+    ensures causes { IfErr result (λ e. IsDeferralRefusal file e journal.old) }
 {
     if journal.room() == 0 {
         return Err(CcError::JournalFull {
-            entries: journal.entries().len() as u64,
+            entries: journal.len(),
         });
     }
     if !book.is_open(file.object()) {
@@ -193,6 +193,7 @@ pub(crate) fn fail_unfiled<Q: PostRoutine>(
 ) -> StepReply<Q>
     requires unfiled { is_unfiled call ≡ true }
     requires standing { IsJournalStanding Q.posted journal.old }
+    requires recorded { journal.old.capacity < 2 ^ 32 }
     ensures { (u : Setup) → JournalStandsUnder Q.posted u journal.old →
         JournalLeft Q.posted u (event.Fail pass call) result journal.old journal.new }
 {

@@ -3,7 +3,7 @@
 ghost use Rattle.std.specs.Prelude.{◌≡◌, false};
 ghost use Rattle.cc_model.specs.Setup.{Setup};
 ghost use Rattle.cc_turns.specs.Standing.{LogAtFirst};
-ghost use Rattle.cc_world.specs.Logs.{IsLogStanding, IsToFlush, LogEnded, LogLeft, LogStandsUnder};
+ghost use Rattle.cc_world.specs.Logs.{IsLogStanding, IsToFlush, LogEnded, LogEventLeft, LogStandsUnder};
 ghost use Rattle.cc_effects.specs.declared.events.Event.TheVariants as event;
 
 use cc_effects::StepReply;
@@ -25,7 +25,7 @@ pub(crate) fn append<L: LogFile, Q>(
     requires handle { log.old.handle ≡ handle }
     requires standing { IsLogStanding L.told L.faults 0 log.old journal.old }
     ensures { (u : Setup) (first : LogAtFirst) → LogStandsUnder L.told L.faults u first 0 log.old journal.old →
-        LogLeft L.told L.faults u first (event.Append pass handle bytes) result log.old log.new
+        LogEventLeft L.told L.faults u first (event.Append pass handle bytes) result log.old log.new
         journal.old journal.new }
 {
     match journal.reserve(1) {
@@ -108,7 +108,7 @@ pub(crate) fn flush<L: LogFile, Q>(
     requires handle { log.old.handle ≡ handle }
     requires standing { IsLogStanding L.told L.faults 0 log.old journal.old }
     ensures { (u : Setup) (first : LogAtFirst) → LogStandsUnder L.told L.faults u first 0 log.old journal.old →
-        LogLeft L.told L.faults u first (event.LogFlush pass handle to) result log.old log.new
+        LogEventLeft L.told L.faults u first (event.LogFlush pass handle to) result log.old log.new
         journal.old journal.new }
 {
     if to.number() <= log.flushed() {

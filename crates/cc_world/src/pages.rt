@@ -7,7 +7,7 @@ ghost use Rattle.cc_model.specs.History.{history};
 ghost use Rattle.cc_model.specs.Residency.{mapped_blocks_with};
 ghost use Rattle.cc_model.specs.Settings.{quota_of};
 ghost use Rattle.cc_model.specs.Touches.{is_dirty, valid_of};
-ghost use Rattle.cc_world.specs.Pages.{CanBegin, CanComeIn, CanGoOut, IsLoggedBy, IsReached, newest_later};
+ghost use Rattle.cc_world.specs.Pages.{CanBegin, CanComeIn, CanGoOut, IsLoggedBy, LsnIsReached, newest_later};
 ghost use Rattle.cc_world.specs.Uncached.{CanStore};
 
 use cc_book::Book;
@@ -134,7 +134,7 @@ fn newest_later(row: &Row) -> Option<Lsn>
 // Whether the log of a stream, where it has one, is flushed to an LSN, where there is one.
 fn is_flushed<L: LogFile>(book: &Book, logs: &[LogTurn<L>], newest: Option<Lsn>) -> bool
     requires { (past : List Entry) × IsLoggedBy book.now past logs.now }
-    ensures { IsReached book.now logs.now newest result }
+    ensures { LsnIsReached book.now logs.now newest result }
 {
     let Some(handle) = book.log() else {
         return true;

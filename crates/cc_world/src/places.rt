@@ -5,7 +5,7 @@ ghost use Rattle.cc_turns.specs.Desk.{LogIsHome};
 ghost use Rattle.cc_turns.specs.Places.{IsRoomFor};
 ghost use Rattle.cc_world.specs.World.{AreAt, IsNewBook, IsNewRow};
 
-use crate::rows::Row;
+use crate::rows::StreamRow;
 use cc_book::Book;
 use cc_entry::{NoMemory, StreamId};
 use cc_log::LogTurn;
@@ -30,8 +30,8 @@ pub(crate) fn books_of(alloc: Global, streams: u8) -> Result<Vec<Book>, NoMemory
 pub(crate) fn rows_of<D: PageDisk>(
     disks: &mut Vec<D>,
     mut books: Vec<Book>,
-    mut rows: Vec<Row<D>>,
-) -> Vec<Row<D>>
+    mut rows: Vec<StreamRow<D>>,
+) -> Vec<StreamRow<D>>
     requires books { AreAt (length disks.old.items) IsNewBook books.items }
     requires room { IsRoomFor (length disks.old.items) rows.items (vec_capacity rows) }
     ensures rows { AreAt (length disks.old.items) (IsNewRow disks.old.items) result.items }
@@ -41,7 +41,7 @@ pub(crate) fn rows_of<D: PageDisk>(
     books.reverse();
     while let Some(disk) = disks.pop() {
         let book = books.pop().unwrap();
-        rows.push_reserved(Row {
+        rows.push_reserved(StreamRow {
             disk,
             book,
             kept: None,
@@ -66,12 +66,12 @@ pub(crate) fn logs_of<L: LogFile>(files: &mut Vec<L>, mut logs: Vec<LogTurn<L>>)
 }
 
 /// The disks of all rows, in their order.
-pub(crate) fn disks_of<D>(mut rows: Vec<Row<D>>, mut disks: Vec<D>) -> Vec<D>
+pub(crate) fn disks_of<D>(mut rows: Vec<StreamRow<D>>, mut disks: Vec<D>) -> Vec<D>
     requires { IsRoomFor (length rows.items) disks.items (vec_capacity disks) }
     ensures { result.items ≡ map (λ row. row.disk) rows.items }
 {
     while let Some(row) = rows.pop() {
-        let Row {
+        let StreamRow {
             disk,
             book: _book,
             kept: _kept,

@@ -1,19 +1,19 @@
 //! What a call answers that may end now on the book of its stream and the journal.
 
-ghost use Rattle.std.specs.Prelude.{◌≡◌, ℕ, List, Option, None, IfOk, true};
+ghost use Rattle.std.specs.Prelude.{◌≡◌, ◌<◌, ◌^◌, ℕ, List, Option, None, IfOk, true};
 ghost use Rattle.cc_model.specs.Conditions.{MayFinish};
 ghost use Rattle.cc_model.specs.History.{history};
 ghost use Rattle.cc_model.specs.Images.{open_of};
 ghost use Rattle.cc_model.specs.Setup.{Setup};
 ghost use Rattle.cc_step.specs.Step.{is_stepped};
-ghost use Rattle.cc_world.specs.Calls.{IsAnswer, IsUnrefused, ends_on_book, unit_if};
+ghost use Rattle.cc_world.specs.Calls.{IsCallAnswer, CallIsUnrefused, ends_on_book, unit_if};
 ghost use Rattle.cc_world.specs.Pages.{Says};
 
+use crate::flushed::is_flushed;
 use crate::residents::has_resident;
 use cc_book::Book;
 use cc_entry::{Call, NoMemory, Reply, StreamId};
 use cc_journal::Journal;
-use cc_readers::flushed::is_flushed;
 use cc_readers::stores::{ends_own_store, is_written_since};
 use cc_step::{absent, reply};
 use std::alloc::Global;
@@ -29,13 +29,14 @@ pub(crate) fn reply_now<Q>(
     resting: bool,
 ) -> Result<Option<Reply>, NoMemory>
     requires on_book { ends_on_book call.now ≡ true }
+    requires recorded { journal.now.capacity < 2 ^ 32 }
     requires resting { Says resting (open_of (history journal.now.entries book.now.stream) ≡ None) }
-    ensures { IfOk result (λ answer. (u : Setup) → IsUnrefused u 0 pass call.now book.now journal.now →
-        IsAnswer u journal.now.entries pass book.now.stream call.now answer) }
+    ensures { IfOk result (λ answer. (u : Setup) → CallIsUnrefused u 0 pass call.now book.now journal.now →
+        IsCallAnswer u journal.now.entries pass book.now.stream call.now answer) }
 {
     match call {
         Call::Flush { span, .. } => {
-            let flushed = is_flushed(alloc, journal.entries(), pass, book.stream(), *span)?;
+            let flushed = is_flushed(alloc, journal, pass, book.stream(), span)?;
             Ok(unit_if(flushed))
         }
         Call::Purge { span, .. } => Ok(unit_if(!has_resident(book, journal, span))),
@@ -55,8 +56,8 @@ fn reply_stepped<Q>(
     call: &Call,
 ) -> Result<Option<Reply>, NoMemory>
     requires stepped { is_stepped call.now ≡ true }
-    ensures { IfOk result (λ answer. (u : Setup) (pass : ℕ) → IsUnrefused u 0 pass call.now book.now journal.now →
-        IsAnswer u journal.now.entries pass book.now.stream call.now answer) }
+    ensures { IfOk result (λ answer. (u : Setup) (pass : ℕ) → CallIsUnrefused u 0 pass call.now book.now journal.now →
+        IsCallAnswer u journal.now.entries pass book.now.stream call.now answer) }
 {
     match absent(alloc, book, call)? {
         Some(_) => Ok(None),
@@ -66,6 +67,7 @@ fn reply_stepped<Q>(
 
 // Whether the noncached write of a page may end: its store is the pass's last call, and is on the disk.
 fn may_finish<Q>(journal: &Journal<Q>, pass: u32, stream: StreamId, page: u64) -> bool
+    requires { journal.now.capacity < 2 ^ 32 }
     ensures { Says result (MayFinish journal.now.entries pass stream page) }
 {
     let entries = journal.entries();

@@ -7,7 +7,7 @@ ghost use Rattle.cc_model.specs.Setup.{Setup};
 ghost use Rattle.cc_turns.specs.Disk.{opening_of};
 ghost use Rattle.cc_turns.specs.Standing.{DiskAtFirst};
 ghost use Rattle.cc_world.specs.Pages.{AreFlushed};
-ghost use Rattle.cc_world.specs.Rows.{IsBeginning, IsBringing, IsStanding, IsUnread, RowEnded, RowLeft, StandsUnder, reply_to};
+ghost use Rattle.cc_world.specs.Rows.{IsBeginning, IsBringing, IsStanding, DiskIsUnread, RowEnded, RowLeft, StandsUnder, reply_to};
 ghost use Rattle.cc_effects.specs.declared.events.Event.TheVariants as event;
 
 use crate::pages::{has_valid_byte, may_begin, may_come_in, may_go_out};
@@ -22,20 +22,20 @@ use cc_turns::{read, sync, transfer};
 
 /// The bytes of a page whose transfer a pass began.
 #[derive(Drop)]
-pub(crate) struct Kept {
+pub(crate) struct BegunTransfer {
     pub(crate) pass: u32,
     pub(crate) page: PageId,
     pub(crate) bytes: Frame,
 }
 
 /// The disk and the book of a stream, and what is kept of the transfer that is open on the disk.
-pub(crate) struct Row<D> {
+pub(crate) struct StreamRow<D> {
     pub(crate) disk: D,
     pub(crate) book: Book,
-    pub(crate) kept: Option<Kept>,
+    pub(crate) kept: Option<BegunTransfer>,
 }
 
-impl<D: PageDisk> Row<D> {
+impl<D: PageDisk> StreamRow<D> {
     /// A page comes in, from the disk where it has a byte below the valid data length; where it has none, nothing is asked
     /// of the disk.
     pub(crate) fn fill<Q>(
@@ -48,7 +48,7 @@ impl<D: PageDisk> Row<D> {
         requires standing { IsStanding D.told D.faults 0 self.old journal.old }
         ensures left { (u : Setup) (first : DiskAtFirst) → StandsUnder D.told D.faults u first 0 self.old journal.old →
             RowLeft D.told D.faults u first (event.Fill pass page) result self.old self.new journal.old journal.new }
-        ensures unread { IsUnread self.old.book page.page self.old.disk self.new.disk }
+        ensures unread { DiskIsUnread self.old.book page.page self.old.disk self.new.disk }
     {
         if self.kept.is_some() {
             return StepReply::NotNow;
@@ -69,14 +69,14 @@ impl<D: PageDisk> Row<D> {
         ensures ended { (u : Setup) (first : DiskAtFirst) → StandsUnder D.told D.faults u first 1 self.old journal.old →
             RowEnded D.told D.faults u first (event.Fill pass page) result
             self.old self.new journal.old journal.new }
-        ensures unread { IsUnread self.old.book page.page self.old.disk self.new.disk }
+        ensures unread { DiskIsUnread self.old.book page.page self.old.disk self.new.disk }
     {
         let mut raw = [0; 4096];
         if !has_valid_byte(&self.book, page) {
-            return self.land(journal, pass, page, &raw);
+            return self.land_read(journal, pass, page, &raw);
         }
         match read(&mut self.disk, page.page(), &mut raw) {
-            Ok(()) => self.land(journal, pass, page, &raw),
+            Ok(()) => self.land_read(journal, pass, page, &raw),
             Err(Stop::Failed) => {
                 journal.push(Entry::FillFailed { pass, page });
                 StepReply::Faulted
@@ -89,7 +89,7 @@ impl<D: PageDisk> Row<D> {
     }
 
     // A page comes in of which this was read, where it has a byte below the valid data length.
-    fn land<Q>(
+    fn land_read<Q>(
         &mut self,
         journal: &mut Journal<Q>,
         pass: u32,
@@ -172,7 +172,7 @@ impl<D: PageDisk> Row<D> {
     {
         match self.book.begin(journal, pass, page) {
             Ok(bytes) => {
-                self.kept = Some(Kept { pass, page, bytes });
+                self.kept = Some(BegunTransfer { pass, page, bytes });
                 StepReply::Done(Reply::Unit)
             }
             Err(NoMemory) => {

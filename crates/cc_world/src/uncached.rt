@@ -12,14 +12,14 @@ ghost use Rattle.cc_turns.specs.Standing.{DiskAtFirst};
 ghost use Rattle.cc_world.specs.Pages.{AreFlushed};
 ghost use Rattle.cc_world.specs.Rows.{IsStanding, RowEnded, RowLeft, RowStands, StandsUnder};
 ghost use Rattle.cc_book.specs.Noncached.{WasRead};
-ghost use Rattle.cc_world.specs.Uncached.{IsAdmittedOn, IsReadyOn, StoreLeft};
+ghost use Rattle.cc_world.specs.Uncached.{IsAdmittedOn, IsReadyOn, StoreEventLeft};
 ghost use Rattle.cc_effects.specs.Events.{filed_under};
 ghost use Rattle.cc_effects.specs.declared.events.Event.TheVariants as event;
 
 use crate::ends::refuse;
 use crate::page_bytes::{finish_read, image_of};
 use crate::pages::may_store;
-use crate::rows::{Kept, Row};
+use crate::rows::{BegunTransfer, StreamRow};
 use cc_effects::StepReply;
 use cc_entry::{Bytes, Call, CcError, Entry, FileId, NoMemory, PageId, Reply, StreamId};
 use cc_journal::Journal;
@@ -28,7 +28,7 @@ use cc_traits::{LogFile, PageDisk, Stop};
 use cc_turns::read;
 use std::alloc::Global;
 
-impl<D: PageDisk> Row<D> {
+impl<D: PageDisk> StreamRow<D> {
     /// A noncached read of a page ends, which is filed under the row's stream.
     pub(crate) fn read_uncached<Q>(
         &mut self,
@@ -259,14 +259,14 @@ impl<D: PageDisk> Row<D> {
             × IsReadyOn D.told D.faults u first 4 pass (call.NcStore file page.page bytes) self.old journal.old }
         ensures { (u : Setup) (first : DiskAtFirst) →
             IsReadyOn D.told D.faults u first 4 pass (call.NcStore file page.page bytes) self.old journal.old →
-            StoreLeft D.told D.faults u first pass (call.NcStore file page.page bytes) result
+            StoreEventLeft D.told D.faults u first pass (call.NcStore file page.page bytes) result
             self.old self.new journal.old journal.new }
     {
         let image = image_of(alloc, &self.book, page, &bytes)?;
         let owed = journal.owed_end(pass);
         self.book.store(alloc, journal, pass, file, page, bytes)?;
         journal.release(owed);
-        self.kept = Some(Kept {
+        self.kept = Some(BegunTransfer {
             pass,
             page,
             bytes: image,

@@ -1,24 +1,26 @@
 //! The machine: a row for each stream, the logs, and the journal.
 
-ghost use Rattle.std.specs.Prelude.{◌≡◌, ◌<◌, ◌≤◌, false, IfOk, IfErr, List, length, map, reverse};
+ghost use Rattle.std.specs.Prelude.{◌≡◌, ◌<◌, ◌≤◌, ◌^◌, false, IfOk, IfErr, List, length, map, reverse};
 ghost use Rattle.cc_entry.specs.declared.error.CcError.TheVariants as error;
 ghost use Rattle.cc_journal.specs.Capacity.{IsWithinCapacity};
 ghost use Rattle.cc_journal.specs.Queue.{routines_of};
 ghost use Rattle.cc_model.specs.Acts.{file_of};
 ghost use Rattle.cc_model.specs.Good.{IsGood};
 ghost use Rattle.cc_model.specs.Throttle.{queue};
+ghost use Rattle.cc_traits.specs.Setup.{capacity_of};
 ghost use Rattle.cc_turns.specs.Desk.{made_from, tells_of};
 ghost use Rattle.cc_effects.specs.Events.{IsKnown, IsUnposted, NamesOf};
 ghost use Rattle.cc_turns.specs.Crash.{DisksAreCrashSafe, LogsAreDurable};
 ghost use Rattle.cc_world.specs.Crash.{disks_in, files_in};
-ghost use Rattle.cc_world.specs.World.{AreRowsFor, DisksEnded, IsFresh, IsNoLogReply, JournalRests, LogsEnded, Stepped, setup_of};
+ghost use Rattle.cc_world.specs.World.{AreWorldRowsFor, WorldDisksEnded, WorldIsFresh, IsNoLogReply, JournalRests, WorldLogsEnded, WorldEventLeft};
 ghost use Rattle.cc_effects.specs.declared.events.Event.TheVariants as event;
+ghost use Rattle.cc_turns.specs.Slots.{setup_in};
 
 use crate::filing::{Filing, filing_of};
 use crate::journal::{defer, do_unfiled, fail_unfiled, post, scan};
 use crate::logs::{append, flush};
 use crate::places::{books_of, disks_of, files_of, logs_of, rows_of};
-use crate::rows::Row;
+use crate::rows::StreamRow;
 use cc_book::Book;
 use cc_effects::{Event, StepReply};
 use cc_entry::{Bytes, Call, CcError, FileId, Lsn, NoMemory, PageId, StreamId};
@@ -32,7 +34,7 @@ use std::snapshot::Snapshot;
 /// The cache over the disks and the logs of a setup, to which one event happens after the other.
 pub struct World<D: PageDisk, L: LogFile, Q: PostRoutine> {
     alloc: Global,
-    rows: Vec<Row<D>>,
+    rows: Vec<StreamRow<D>>,
     logs: Vec<LogTurn<L>>,
     journal: Journal<Q>,
     /// Empty, with room for the disks as they are given back.
@@ -48,7 +50,7 @@ struct Rows<D, L, Q> {
     journal: Journal<Q>,
     books: Vec<Book>,
     logs: Vec<LogTurn<L>>,
-    rows: Vec<Row<D>>,
+    rows: Vec<StreamRow<D>>,
 }
 
 impl<D: PageDisk, L: LogFile, Q: PostRoutine> Model for World<D, L, Q> {
@@ -70,12 +72,12 @@ impl<D: PageDisk, L: LogFile, Q: PostRoutine> Model for World<D, L, Q> {
 
 impl<D: PageDisk, L: LogFile, Q: PostRoutine> Rows<D, L, Q> {
     fn new(alloc: Global, setup: &Setup<D, L>) -> Result<Rows<D, L, Q>, NoMemory>
-        ensures { IfOk result (λ rows. AreRowsFor (made_from setup.now) rows) }
+        ensures { IfOk result (λ rows. AreWorldRowsFor (made_from setup.now) rows) }
     {
         let streams = setup.disks.len();
         let logs = setup.logs.len();
         Ok(Rows {
-            journal: Journal::new(alloc, setup.journal, setup.threshold, logs as u8)?,
+            journal: Journal::new(alloc, setup.journal.capacity(), setup.threshold, logs as u8)?,
             books: books_of(alloc, streams as u8)?,
             logs: Vec::with_capacity(alloc, logs)?,
             rows: Vec::with_capacity(alloc, streams)?,
@@ -84,9 +86,10 @@ impl<D: PageDisk, L: LogFile, Q: PostRoutine> Rows<D, L, Q> {
 }
 
 impl<D: PageDisk, L: LogFile, Q: PostRoutine> World<D, L, Q> {
-    /// The World of a run of which nothing happened yet. Where memory is wanting the setup comes back.
+    /// The World of a run of which nothing happened yet, whose journal is recorded. Where memory is wanting the setup comes back.
     pub fn new(alloc: Global, setup: Setup<D, L>) -> Result<World<D, L, Q>, (Setup<D, L>, CcError)>
-        ensures fresh { IfOk result (λ world. IsFresh (made_from setup) world) }
+        requires { capacity_of setup.journal < 2 ^ 32 }
+        ensures fresh { IfOk result (λ world. WorldIsFresh (made_from setup) world) }
         ensures crash { IfOk result (λ world. DisksAreCrashSafe (tells_of D.told D.faults L.told L.faults Q.posted)
             world.begun.disks world.journal.entries (disks_in world)) }
         ensures logged { IfOk result (λ world. LogsAreDurable (tells_of D.told D.faults L.told L.faults Q.posted)
@@ -105,8 +108,9 @@ impl<D: PageDisk, L: LogFile, Q: PostRoutine> World<D, L, Q> {
 
     // The World of a setup, over rows with room for it. It takes no memory.
     fn over(alloc: Global, setup: Setup<D, L>, rows: Rows<D, L, Q>) -> World<D, L, Q>
-        requires { AreRowsFor (made_from setup) rows }
-        ensures { IsFresh (made_from setup) result }
+        requires rows { AreWorldRowsFor (made_from setup) rows }
+        requires recorded { capacity_of setup.journal < 2 ^ 32 }
+        ensures { WorldIsFresh (made_from setup) result }
     {
         let begun = Snapshot::of(&setup);
         let Setup {
@@ -137,7 +141,7 @@ impl<D: PageDisk, L: LogFile, Q: PostRoutine> World<D, L, Q> {
     pub fn step(&mut self, event: Event<Q>) -> StepReply<Q>
         requires known { IsKnown (length self.old.begun.disks) event }
         requires unposted { IsUnposted Q.posted event }
-        ensures stepped { Stepped (tells_of D.told D.faults L.told L.faults Q.posted) event result self.old self.new }
+        ensures stepped { WorldEventLeft (tells_of D.told D.faults L.told L.faults Q.posted) event result self.old self.new }
         ensures crash { DisksAreCrashSafe (tells_of D.told D.faults L.told L.faults Q.posted)
             self.new.begun.disks self.new.journal.entries (disks_in self.new) }
         ensures logged { LogsAreDurable (tells_of D.told D.faults L.told L.faults Q.posted)
@@ -162,7 +166,7 @@ impl<D: PageDisk, L: LogFile, Q: PostRoutine> World<D, L, Q> {
     fn happen(&mut self, event: Event<Q>) -> StepReply<Q>
         requires known { IsKnown (length self.old.begun.disks) event }
         requires unposted { IsUnposted Q.posted event }
-        ensures { Stepped (tells_of D.told D.faults L.told L.faults Q.posted) event result self.old self.new }
+        ensures { WorldEventLeft (tells_of D.told D.faults L.told L.faults Q.posted) event result self.old self.new }
     {
         match event {
             Event::Fill { pass, page } => self.fill(pass, page),
@@ -201,7 +205,7 @@ impl<D: PageDisk, L: LogFile, Q: PostRoutine> World<D, L, Q> {
     // A call of a pass ends.
     fn do_call(&mut self, pass: u32, call: Call) -> StepReply<Q>
         requires { NamesOf (length self.old.begun.disks) (file_of call) }
-        ensures { Stepped (tells_of D.told D.faults L.told L.faults Q.posted) (event.Do pass call) result
+        ensures { WorldEventLeft (tells_of D.told D.faults L.told L.faults Q.posted) (event.Do pass call) result
             self.old self.new }
     {
         match filing_of(&self.rows, &call) {
@@ -223,7 +227,7 @@ impl<D: PageDisk, L: LogFile, Q: PostRoutine> World<D, L, Q> {
     // A call of a pass tells a fault.
     fn fail_call(&mut self, pass: u32, call: Call) -> StepReply<Q>
         requires { NamesOf (length self.old.begun.disks) (file_of call) }
-        ensures { Stepped (tells_of D.told D.faults L.told L.faults Q.posted) (event.Fail pass call) result
+        ensures { WorldEventLeft (tells_of D.told D.faults L.told L.faults Q.posted) (event.Fail pass call) result
             self.old self.new }
     {
         match filing_of(&self.rows, &call) {
@@ -253,7 +257,7 @@ impl<D: PageDisk, L: LogFile, Q: PostRoutine> World<D, L, Q> {
     ) -> StepReply<Q>
         requires stream { file.stream < length self.old.begun.disks }
         requires unposted { Q.posted routine ≡ false }
-        ensures { Stepped (tells_of D.told D.faults L.told L.faults Q.posted)
+        ensures { WorldEventLeft (tells_of D.told D.faults L.told L.faults Q.posted)
             (event.Defer pass file bytes retrying routine) result self.old self.new }
     {
         let row = &self.rows[usize::from(file.stream().number())];
@@ -273,7 +277,7 @@ impl<D: PageDisk, L: LogFile, Q: PostRoutine> World<D, L, Q> {
     // A page comes in.
     fn fill(&mut self, pass: u32, page: PageId) -> StepReply<Q>
         requires { page.stream < length self.old.begun.disks }
-        ensures { Stepped (tells_of D.told D.faults L.told L.faults Q.posted) (event.Fill pass page) result
+        ensures { WorldEventLeft (tells_of D.told D.faults L.told L.faults Q.posted) (event.Fill pass page) result
             self.old self.new }
     {
         let row = &mut self.rows[usize::from(page.stream().number())];
@@ -285,7 +289,7 @@ impl<D: PageDisk, L: LogFile, Q: PostRoutine> World<D, L, Q> {
     // A page goes out.
     fn drop_page(&mut self, page: PageId) -> StepReply<Q>
         requires { page.stream < length self.old.begun.disks }
-        ensures { Stepped (tells_of D.told D.faults L.told L.faults Q.posted) (event.Drop page) result
+        ensures { WorldEventLeft (tells_of D.told D.faults L.told L.faults Q.posted) (event.Drop page) result
             self.old self.new }
     {
         let row = &mut self.rows[usize::from(page.stream().number())];
@@ -297,7 +301,7 @@ impl<D: PageDisk, L: LogFile, Q: PostRoutine> World<D, L, Q> {
     // The transfer of a page begins.
     fn begin(&mut self, pass: u32, page: PageId) -> StepReply<Q>
         requires { page.stream < length self.old.begun.disks }
-        ensures { Stepped (tells_of D.told D.faults L.told L.faults Q.posted) (event.WriteBegin pass page) result
+        ensures { WorldEventLeft (tells_of D.told D.faults L.told L.faults Q.posted) (event.WriteBegin pass page) result
             self.old self.new }
     {
         let row = &mut self.rows[usize::from(page.stream().number())];
@@ -309,7 +313,7 @@ impl<D: PageDisk, L: LogFile, Q: PostRoutine> World<D, L, Q> {
     // The transfer of a page ends.
     fn end_transfer(&mut self, page: PageId) -> StepReply<Q>
         requires { page.stream < length self.old.begun.disks }
-        ensures { Stepped (tells_of D.told D.faults L.told L.faults Q.posted) (event.WriteEnd page) result
+        ensures { WorldEventLeft (tells_of D.told D.faults L.told L.faults Q.posted) (event.WriteEnd page) result
             self.old self.new }
     {
         let row = &mut self.rows[usize::from(page.stream().number())];
@@ -321,7 +325,7 @@ impl<D: PageDisk, L: LogFile, Q: PostRoutine> World<D, L, Q> {
     // The disk of a stream is synced.
     fn sync(&mut self, pass: u32, stream: StreamId) -> StepReply<Q>
         requires { stream < length self.old.begun.disks }
-        ensures { Stepped (tells_of D.told D.faults L.told L.faults Q.posted) (event.Sync pass stream) result
+        ensures { WorldEventLeft (tells_of D.told D.faults L.told L.faults Q.posted) (event.Sync pass stream) result
             self.old self.new }
     {
         let row = &mut self.rows[usize::from(stream.number())];
@@ -332,7 +336,7 @@ impl<D: PageDisk, L: LogFile, Q: PostRoutine> World<D, L, Q> {
 
     // An entry is appended to a log.
     fn append(&mut self, pass: u32, handle: u8, bytes: Bytes) -> StepReply<Q>
-        ensures { Stepped (tells_of D.told D.faults L.told L.faults Q.posted) (event.Append pass handle bytes) result
+        ensures { WorldEventLeft (tells_of D.told D.faults L.told L.faults Q.posted) (event.Append pass handle bytes) result
             self.old self.new }
     {
         if self.logs.len() <= usize::from(handle) {
@@ -346,7 +350,7 @@ impl<D: PageDisk, L: LogFile, Q: PostRoutine> World<D, L, Q> {
 
     // A log is flushed.
     fn flush_log(&mut self, pass: u32, handle: u8, to: Lsn) -> StepReply<Q>
-        ensures { Stepped (tells_of D.told D.faults L.told L.faults Q.posted) (event.LogFlush pass handle to) result
+        ensures { WorldEventLeft (tells_of D.told D.faults L.told L.faults Q.posted) (event.LogFlush pass handle to) result
             self.old self.new }
     {
         if self.logs.len() <= usize::from(handle) {
@@ -367,7 +371,7 @@ impl<D: PageDisk, L: LogFile, Q: PostRoutine> World<D, L, Q> {
     {
         if self.journal.room() == 0 {
             return StepReply::Refused(CcError::JournalFull {
-                entries: self.journal.entries().len() as u64,
+                entries: self.journal.len(),
             });
         }
         StepReply::Refused(CcError::NoLog {
@@ -388,11 +392,11 @@ impl<D: PageDisk, L: LogFile, Q: PostRoutine> World<D, L, Q> {
     /// Gives all back. It takes no memory.
     pub fn end(self) -> Parts<D, L, Q>
         ensures journal { reverse result.journal.items ≡ self.journal.entries }
-        ensures good { IsGood (setup_of (tells_of D.told D.faults L.told L.faults Q.posted) self.begun)
+        ensures good { IsGood (setup_in (tells_of D.told D.faults L.told L.faults Q.posted) self.begun)
             self.journal.entries }
         ensures within { IsWithinCapacity self.begun.capacity self.journal.entries }
-        ensures disks { DisksEnded (tells_of D.told D.faults L.told L.faults Q.posted) self result.disks.items }
-        ensures logs { LogsEnded (tells_of D.told D.faults L.told L.faults Q.posted) self result.logs.items }
+        ensures disks { WorldDisksEnded (tells_of D.told D.faults L.told L.faults Q.posted) self result.disks.items }
+        ensures logs { WorldLogsEnded (tells_of D.told D.faults L.told L.faults Q.posted) self result.logs.items }
         ensures crash { DisksAreCrashSafe (tells_of D.told D.faults L.told L.faults Q.posted)
             self.begun.disks self.journal.entries result.disks.items }
         ensures logged { LogsAreDurable (tells_of D.told D.faults L.told L.faults Q.posted)

@@ -24,8 +24,8 @@ use Rattle.cc_writes.specs.Alone.{NobodyElseChanged, changer_of}
 use Rattle.cc_writes.specs.Hands.{WentWith}
 use Rattle.cc_writes.specs.Visits.{HasPlaced}
 use Rattle.cc_writes.specs.Writes.{HasTransferred, IsBefore, WriteShown}
-use Rattle.cc_writes.specs.declared.writes.PageWrite.{PageWrite}
-use Rattle.cc_writes.specs.declared.writes.PageWrite.TheVariants as write
+use Rattle.cc_writes.specs.declared.writes.PageTransfer.{PageTransfer}
+use Rattle.cc_writes.specs.declared.writes.PageTransfer.TheVariants as write
 
 is_held : (n : ℕ) (held : Option ℕ) → held ≡ Some n → is_the n held ≡ true
 is_held n held is = rw is (eq-eqb n n refl)
@@ -110,10 +110,10 @@ module _ (w : Standing) (s : ℕ) (book : w.held.book ≡ Some s) (device : w.he
       })
 
   -- whatever the writing of a page answers, with the book kept
-  pub alone-shown : (page : ℕ) (keeps : Bool) (r : Result PageWrite CcError) (seen : List Entry) → keeps ≡ true → WriteShown w (record { stream = s; page = page }) keeps r seen → NobodyElseChanged w.number s w.seen seen
+  pub alone-shown : (page : ℕ) (keeps : Bool) (r : Result PageTransfer CcError) (seen : List Entry) → keeps ≡ true → WriteShown w (record { stream = s; page = page }) keeps r seen → NobodyElseChanged w.number s w.seen seen
   alone-shown page keeps r seen kept shown = by r (subst (λ (k : Bool). WriteShown w (record { stream = s; page = page }) k r seen) kept shown)
     where
-      by : (r : Result PageWrite CcError) → WriteShown w (record { stream = s; page = page }) true r seen → NobodyElseChanged w.number s w.seen seen
+      by : (r : Result PageTransfer CcError) → WriteShown w (record { stream = s; page = page }) true r seen → NobodyElseChanged w.number s w.seen seen
       by (Ok write.Written) done = alone-transferred page how.Good seen done
       by (Ok write.NotWritten) done = alone-transferred page how.Failed seen done
       by (Ok (write.NotLogged handle)) done =

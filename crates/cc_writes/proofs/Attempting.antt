@@ -29,7 +29,7 @@ use Rattle.cc_turns.specs.Takes.{without_journal}
 use Rattle.cc_writes.specs.Hands.{HasBook}
 use Rattle.cc_writes.specs.Told.{HasAnswered, FitsReply, FitsLast, FitsStepped, TriedAs}
 use Rattle.cc_writes.specs.Visits.{IsFiledNow, IsWaitedFor, TriedLeft, IsFullTried}
-use Rattle.cc_writes.specs.Ways.{FitsIn, IsFull, IsReady}
+use Rattle.cc_writes.specs.Ways.{ReadFitsIn, IsFull, CallIsReady}
 use Rattle.cc_writes.specs.declared.tell.Returned.{Returned}
 use Rattle.cc_writes.specs.declared.visits.Tried.{Tried}
 use Rattle.cc_writes.proofs.VisitEnding.{done-left, refused-left, full-left, memoryless-left}
@@ -116,13 +116,13 @@ module _ {Q : Type 0} (posted : Q → Bool) (w v : Standing) (it : Call) (b c : 
     last = ap (λ (x : JournalState Q). x.entries) left.placed;
   }
 
-  pub fits-done : is_stepped it ≡ true → (r : Reply) (out : List ℕ) → AttemptDone w.setup w.number it r b c j k → FitsIn it out → FitsLast k.entries out
+  pub fits-done : is_stepped it ≡ true → (r : Reply) (out : List ℕ) → AttemptDone w.setup w.number it r b c j k → ReadFitsIn it out → FitsLast k.entries out
   fits-done stepped r out left fits x answered =
       let reply = replied w.setup w.number b.stream it r j.entries (subst (λ (past : List Entry). IsGood w.setup past) (ap (λ (x : JournalState Q). x.entries) left.placed) left.stand.good) in
       subst (λ (y : Reply). FitsReply y out) (same-reply k.entries r x (last-done r left) answered)
       (fits-reply w.setup j.entries (w.setup.opening b.stream) (history j.entries b.stream) w.number it r out stepped reply fits)
 
-  pub fits-stepped : is_stepped it ≡ true → (ended : Stepped) (out : List ℕ) → AttemptLeft w.setup w.number it ended b c j k → FitsIn it out → FitsStepped ended k.entries out
+  pub fits-stepped : is_stepped it ≡ true → (ended : Stepped) (out : List ℕ) → AttemptLeft w.setup w.number it ended b c j k → ReadFitsIn it out → FitsStepped ended k.entries out
   fits-stepped is stepped.Done out left fits = fits-done is left.0 out left.1 fits
   fits-stepped is (stepped.Refused e) out left fits = tt
   fits-stepped is (stepped.Waits page again) out left fits = tt
@@ -186,10 +186,10 @@ module _ {Q : Type 0} (posted : Q → Bool) (w v : Standing) (it : Call) (b c : 
   short-on A asked other stop (inr ready) unchanged given = inl tt
 
   -- so is a call on a file
-  pub full-short : (A : Type 0) (asked : ℕ) (e : CcError) → IsStop asked e j → IsShort w.setup b.stream it e j → k ≡ j → Visited posted w v b.stream w.in_flight c k → IsFull {A = A} 1 (without_journal k v) (Err e) ⊎ IsReady (without_journal k v).setup it (without_journal k v).seen
+  pub full-short : (A : Type 0) (asked : ℕ) (e : CcError) → IsStop asked e j → IsShort w.setup b.stream it e j → k ≡ j → Visited posted w v b.stream w.in_flight c k → IsFull {A = A} 1 (without_journal k v) (Err e) ⊎ CallIsReady (without_journal k v).setup it (without_journal k v).seen
   full-short A asked e stop short unchanged given = named (short-on A asked e stop short unchanged given)
     where
-      named : IsFull {A = A} 1 (without_journal k v) (Err e) ⊎ IsReadyFor (without_journal k v).setup (without_journal k v).seen b.stream it → IsFull {A = A} 1 (without_journal k v) (Err e) ⊎ IsReady (without_journal k v).setup it (without_journal k v).seen
+      named : IsFull {A = A} 1 (without_journal k v) (Err e) ⊎ IsReadyFor (without_journal k v).setup (without_journal k v).seen b.stream it → IsFull {A = A} 1 (without_journal k v) (Err e) ⊎ CallIsReady (without_journal k v).setup it (without_journal k v).seen
       named (inl none) = inl none
       named (inr ready) = inr (of-file (λ (s : ℕ). IsReadyFor (without_journal k v).setup (without_journal k v).seen s it) (holds_of (history j.entries b.stream)) w.number b.stream it filed-front ready)
 

@@ -6,8 +6,8 @@ use Rattle.cc_entry.specs.Place.{Page}
 use Rattle.cc_entry.specs.declared.entry.Entry.{Entry}
 use Rattle.cc_entry.specs.declared.entry.Entry.TheVariants as entry
 use Rattle.cc_entry.specs.declared.error.CcError.{CcError}
-use Rattle.cc_book.specs.Book.{BookState, BookStands, GoesOn, MayPlace}
-use Rattle.cc_content.specs.Contents.{IsByteOf}
+use Rattle.cc_book.specs.Book.{BookState, BookStands, GoesOn, MayPlaceOnBook}
+use Rattle.cc_content.specs.Contents.{IsByteOfContents}
 use Rattle.cc_journal.specs.Journal.{JournalState}
 use Rattle.cc_model.specs.Covered.{IsLogged}
 use Rattle.cc_model.specs.Good.{IsGood}
@@ -18,11 +18,11 @@ use Rattle.cc_model.specs.Touches.{is_dirty}
 use Rattle.cc_step.proofs.Placed.{so-far}
 use Rattle.cc_turns.specs.Standing.{Standing}
 use Rattle.cc_turns.specs.Journal.{JournalStands}
-use Rattle.cc_turns.specs.Takes.{Grows, Adds, without_journal}
+use Rattle.cc_turns.specs.Takes.{Grows, AddsEvent, without_journal}
 use Rattle.cc_writes.specs.Hands.{HasBook, IsAtRest, WentWith}
 use Rattle.cc_writes.specs.Visits.{HasPlaced}
 use Rattle.cc_writes.specs.Logs.{IsWant, IsStopAt}
-use Rattle.cc_writes.specs.Transfers.{BeginLeft, IsBegun, IsUnbegun, BegunLeft}
+use Rattle.cc_writes.specs.Transfers.{BeginLeft, TransferIsBegun, IsUnbegun, BegunLeft}
 use Rattle.cc_writes.proofs.OneVisit.{Visiting, Visited, visited, stepping-none}
 use Rattle.cc_writes.proofs.Quiet.{holds_no_journal, holds_the_book, history-kept, stands-same, flushed_to-grows, logged-kept, book-after}
 use Rattle.cc_writes.proofs.Placed.{may_begin, good-begun, quiet-page}
@@ -48,7 +48,7 @@ want-stop n j e stop = ⊎_elim (λ full. subst IsWant (sym full.0) tt) (λ none
 
 -- What the pass gives after the begin, and how it goes on.
 pub record Beginning {Q : Type 0} (posted : Q → Bool) (w v : Standing) (page : Page) (result : Result (List ℕ) CcError) (c : BookState) (k : JournalState Q) : Type 0 where
-  pub adds : Adds v k.entries
+  pub adds : AddsEvent v k.entries
   pub journal : JournalStands posted (without_journal k v) k
   pub book : HasBook (without_journal k v) page.stream c
   pub went : WentWith w.in_flight w (without_journal k v)
@@ -71,11 +71,11 @@ module _ {Q : Type 0} (posted : Q → Bool) (w v : Standing) (page : Page) (b : 
   stands : BookStands (w.setup.opening page.stream) j.entries b
   stands = stands-same (w.setup.opening page.stream) w.seen j.entries b (subst (λ (n : ℕ). history j.entries n ≡ history w.seen n) (sym has.stream) same) has.stands
 
-  pub may_be_begun : (pass : ℕ) → MayPlace j.entries (entry.WriteBegin pass page) b
+  pub may_be_begun : (pass : ℕ) → MayPlaceOnBook j.entries (entry.WriteBegin pass page) b
   may_be_begun pass = (w.setup, so-far w.setup (entry.WriteBegin pass page ∷ j.entries) (good pass), subst (λ (n : ℕ). BookStands (w.setup.opening n) j.entries b) (sym has.stream) stands)
 
   module _ (pass : ℕ) (me : pass ≡ w.number) (known : page.stream < 16) (c : BookState) (k : JournalState Q) where
-    module _ (bytes : List ℕ) (begun : IsBegun pass page bytes b c j k) where
+    module _ (bytes : List ℕ) (begun : TransferIsBegun pass page bytes b c j k) where
       entries : k.entries ≡ entry.WriteBegin w.number page ∷ j.entries
       entries = ap (λ x. x.entries) begun.placed ∙ ap (λ (n : ℕ). entry.WriteBegin n page ∷ j.entries) me
 
@@ -108,7 +108,7 @@ module _ {Q : Type 0} (posted : Q → Bool) (w v : Standing) (page : Page) (b : 
           placed = placed;
           numbered = numbered w.setup w.seen page.stream page.page has.good dirty;
           whole = begun.snapshot.whole;
-          bytes_are = λ i within. subst (λ (n : ℕ). IsByteOf (w.setup.opening page.stream) (history j.entries n) (4096 * page.page + i) (slice_index bytes i)) has.stream
+          bytes_are = λ i within. subst (λ (n : ℕ). IsByteOfContents (w.setup.opening page.stream) (history j.entries n) (4096 * page.page + i) (slice_index bytes i)) has.stream
               (begun.snapshot.bytes_are (w.setup.opening page.stream) j.entries stands i within);
         };
       }

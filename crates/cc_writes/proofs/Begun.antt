@@ -20,8 +20,8 @@ use Rattle.cc_turns.specs.Standing.{Standing}
 use Rattle.cc_effects.specs.Begins.{AscendWithin, BeginsNone, BeginsAscending, TakesNoneOut, is_page_out}
 use Rattle.cc_writes.specs.Hands.{WentWith}
 use Rattle.cc_writes.specs.Writes.{IsBefore, HasTransferred, HasNotLogged, WriteShown}
-use Rattle.cc_writes.specs.declared.writes.PageWrite.{PageWrite}
-use Rattle.cc_writes.specs.declared.writes.PageWrite.TheVariants as write
+use Rattle.cc_writes.specs.declared.writes.PageTransfer.{PageTransfer}
+use Rattle.cc_writes.specs.declared.writes.PageTransfer.TheVariants as write
 
 -- before the transfer of a page nothing began, and it alone did
 pub none-before : (w : Standing) (past : List Entry) → IsBefore w past → BeginsNone w.number w.seen past
@@ -51,7 +51,7 @@ ascend-transferred w page how keeps seen is =
     ascend = rw (eq-eqb w.number w.number refl, own-after w.number is.later (entry.WriteBegin w.number page ∷ []) is.others, eq-eqb w.number w.number refl) (omega arith, omega arith)
 
 -- so whatever the writing of a page answers
-pub ascend-shown : (w : Standing) (page : Page) (keeps : Bool) (r : Result PageWrite CcError) (seen : List Entry) → WriteShown w page keeps r seen → BeginsAscending w.number page.page (page.page + 1) w.seen seen
+pub ascend-shown : (w : Standing) (page : Page) (keeps : Bool) (r : Result PageTransfer CcError) (seen : List Entry) → WriteShown w page keeps r seen → BeginsAscending w.number page.page (page.page + 1) w.seen seen
 ascend-shown w page keeps (Ok write.Written) seen shown = ascend-transferred w page how.Good keeps seen shown
 ascend-shown w page keeps (Ok write.NotWritten) seen shown = ascend-transferred w page how.Failed keeps seen shown
 ascend-shown w page keeps (Ok (write.NotLogged handle)) seen shown =
@@ -111,7 +111,7 @@ stays-transferred w page how keeps seen is =
     (stays-idle w.number (entry.WriteBegin w.number page ∷ is.before) (is.later ++ (entry.WriteBegin w.number page ∷ is.before)) (record { during = is.later; grew = refl; others = is.others }))))
 
 -- so where a page was written, whatever that answers
-pub stays-shown : (w : Standing) (page : Page) (keeps : Bool) (r : Result PageWrite CcError) (seen : List Entry) → WriteShown w page keeps r seen → TakesNoneOut w.number w.seen seen
+pub stays-shown : (w : Standing) (page : Page) (keeps : Bool) (r : Result PageTransfer CcError) (seen : List Entry) → WriteShown w page keeps r seen → TakesNoneOut w.number w.seen seen
 stays-shown w page keeps (Ok write.Written) seen shown = stays-transferred w page how.Good keeps seen shown
 stays-shown w page keeps (Ok write.NotWritten) seen shown = stays-transferred w page how.Failed keeps seen shown
 stays-shown w page keeps (Ok (write.NotLogged handle)) seen shown =

@@ -13,10 +13,10 @@ use Rattle.cc_step.specs.Step.{is_stepped}
 use Rattle.cc_turns.specs.Standing.{Standing}
 use Rattle.cc_writes.specs.Hands.{WentWith}
 use Rattle.cc_writes.specs.Ways.{WasWanted}
-use Rattle.cc_writes.specs.Visits.{IsOf, IsWaitedFor}
+use Rattle.cc_writes.specs.Visits.{CallIsOfStream, IsWaitedFor}
 use Rattle.cc_writes.proofs.Others.{under_way-on}
-use Rattle.cc_writes.specs.Calls.{PageLeft}
-use Rattle.cc_writes.specs.Rounds.{IsWanted}
+use Rattle.cc_writes.specs.Calls.{PageStepLeft}
+use Rattle.cc_writes.specs.Rounds.{CallWantedPage}
 use Rattle.cc_writes.proofs.Going.{wanted}
 
 module _ (flight : ℕ) (w v : Standing) (s page : ℕ) (it : Call) (went : WentWith flight w v) (idle : IsIdle w.number w.seen v.seen) where
@@ -30,22 +30,22 @@ module _ (flight : ℕ) (w v : Standing) (s page : ℕ) (it : Call) (went : Went
   way_since : (begun : List Entry) → IsUnderWay w.number it begun w.seen → IsUnderWay v.number it begun v.seen
   way_since begun way = subst (λ (n : ℕ). IsUnderWay n it begun v.seen) (sym number_same) (under_way-on w.number it begun w.seen v.seen way idle)
 
-  page_left : (r : Result Call CcError) (begun new : List Entry) → PageLeft v.setup v.number it r begun new → PageLeft w.setup w.number it r begun new
-  page_left r begun new left = subst (λ (n : ℕ). PageLeft w.setup n it r begun new) number_same
-      (subst (λ (u : Setup). PageLeft u v.number it r begun new) setup_same left)
+  page_left : (r : Result Call CcError) (begun new : List Entry) → PageStepLeft v.setup v.number it r begun new → PageStepLeft w.setup w.number it r begun new
+  page_left r begun new left = subst (λ (n : ℕ). PageStepLeft w.setup n it r begun new) number_same
+      (subst (λ (u : Setup). PageStepLeft u v.number it r begun new) setup_same left)
 
   -- what it leaves from then on, it leaves from before the read
-  pub left_since : (r : Result Call CcError) (new : List Entry) → ((begun : List Entry) → IsUnderWay v.number it begun v.seen → PageLeft v.setup v.number it r begun new) → (begun : List Entry) → IsUnderWay w.number it begun w.seen → PageLeft w.setup w.number it r begun new
+  pub left_since : (r : Result Call CcError) (new : List Entry) → ((begun : List Entry) → IsUnderWay v.number it begun v.seen → PageStepLeft v.setup v.number it r begun new) → (begun : List Entry) → IsUnderWay w.number it begun w.seen → PageStepLeft w.setup w.number it r begun new
   left_since r new left begun way = page_left r begun new (left begun (way_since begun way))
 
-  module _ (stepped : is_stepped it ≡ true) (brings : brings_in it ≡ true) (filed : IsOf it s) (waited : IsWaitedFor w.setup s it page w.seen) where
+  module _ (stepped : is_stepped it ≡ true) (brings : brings_in it ≡ true) (filed : CallIsOfStream it s) (waited : IsWaitedFor w.setup s it page w.seen) where
     wanted_since : (begun : List Entry) → IsUnderWay w.number it begun w.seen → WasWanted v.setup it (record { stream = s; page = page }) begun v.seen
     wanted_since begun way = subst (λ (u : Setup). WasWanted u it (record { stream = s; page = page }) begun v.seen) (sym setup_same)
         (wanted w.setup w.number s page it begun w.seen v.seen stepped brings filed way idle waited)
 
-    pub is_wanted : IsWanted v s it page
+    pub is_wanted : CallWantedPage v s it page
     is_wanted = (w.seen, way_since w.seen (begins w.number it w.seen), wanted_since w.seen (begins w.number it w.seen))
 
     -- the same where its failure is told as one of a page that the call wanted
-    pub left_wanted : (r : Result Call CcError) (new : List Entry) → ((begun : List Entry) → IsUnderWay v.number it begun v.seen → WasWanted v.setup it (record { stream = s; page = page }) begun v.seen → PageLeft v.setup v.number it r begun new) → (begun : List Entry) → IsUnderWay w.number it begun w.seen → PageLeft w.setup w.number it r begun new
+    pub left_wanted : (r : Result Call CcError) (new : List Entry) → ((begun : List Entry) → IsUnderWay v.number it begun v.seen → WasWanted v.setup it (record { stream = s; page = page }) begun v.seen → PageStepLeft v.setup v.number it r begun new) → (begun : List Entry) → IsUnderWay w.number it begun w.seen → PageStepLeft w.setup w.number it r begun new
     left_wanted r new left begun way = page_left r begun new (left begun (way_since begun way) (wanted_since begun way))

@@ -18,8 +18,8 @@ use Rattle.cc_step.specs.Step.{is_awaited}
 use Rattle.cc_step.proofs.Waiting.{needs}
 use Rattle.cc_turns.specs.Standing.{Standing}
 use Rattle.cc_writes.specs.Hands.{HasBook, WentWith}
-use Rattle.cc_writes.specs.Visits.{HasLanded, IsElsewhere, IsWaitedFor, LandLeft}
-use Rattle.cc_writes.specs.Rounds.{BringLeft, CameIn, IsPassedOver}
+use Rattle.cc_writes.specs.Visits.{HasLanded, IsElsewhere, IsWaitedFor, VisitLandLeft}
+use Rattle.cc_writes.specs.Rounds.{AwaitedPageLeft, CameIn, AwaitedPageIsPassedOver}
 use Rattle.cc_writes.proofs.Landing.{history-held}
 
 -- a call that failed goes on with no page
@@ -56,27 +56,27 @@ module _ (flight : ℕ) (w v : Standing) (s page : ℕ) (it : Call) (went : Went
     awaited = subst (λ (u : Setup). is_awaited u came.placed.front s it page ≡ true) setup_same came.awaited;
   }
 
-  pub brought : (raw : List ℕ) (seen : List Entry) → LandLeft v s it page (Some raw) seen → BringLeft w s it page seen
+  pub brought : (raw : List ℕ) (seen : List Entry) → VisitLandLeft v s it page (Some raw) seen → AwaitedPageLeft w s it page seen
   brought raw seen (inl came) = inl (came_in seen came)
   brought raw seen (inr none) = inr (by none.reason)
     where
-      by : IsNotToLand v.setup seen s it page (Some raw) → IsPassedOver w.setup s it page seen
+      by : IsNotToLand v.setup seen s it page (Some raw) → AwaitedPageIsPassedOver w.setup s it page seen
       by (inl other) = inl (subst (λ (u : Setup). is_awaited u seen s it page ≡ false) setup_same other)
       by (inr (inl full)) = inr (inl full)
       by (inr (inr (below, unread))) = absurd (cc)
 
   -- one that the disk failed to read
-  pub brought-not : (r : Result Call CcError) (n : ℕ) (seen : List Entry) → n ≡ s → OnOk r (IsElsewhere v n page seen) → OnOk r (BringLeft w s it page seen)
+  pub brought-not : (r : Result Call CcError) (n : ℕ) (seen : List Entry) → n ≡ s → OnOk r (IsElsewhere v n page seen) → OnOk r (AwaitedPageLeft w s it page seen)
   brought-not r n seen same = on-ok-weaker r (λ gone. inr (inr (inr (subst (λ (t : ℕ). is_on_disk_alone (record { stream = t; page = page }) seen ≡ false) same gone.elsewhere))))
 
 -- A page with no byte below the valid data length, which is not read: the book stays in hand, so it has none when it
 -- lands.
-pub brought-unread : (w : Standing) (s page : ℕ) (it : Call) (seen : List Entry) → w.held.book ≡ Some s → w.held.device ≡ Some s → nat_lt (4096 * page) (valid_of (history w.seen s)) ≡ false → LandLeft w s it page None seen → BringLeft w s it page seen
+pub brought-unread : (w : Standing) (s page : ℕ) (it : Call) (seen : List Entry) → w.held.book ≡ Some s → w.held.device ≡ Some s → nat_lt (4096 * page) (valid_of (history w.seen s)) ≡ false → VisitLandLeft w s it page None seen → AwaitedPageLeft w s it page seen
 brought-unread w s page it seen book device above (inl came) =
     inl (record { front = came.placed.front; from_disk = came.from_disk; placed = came.placed.placed; awaited = came.awaited })
 brought-unread w s page it seen book device above (inr none) = by none.reason
   where
-    by : IsNotToLand w.setup seen s it page None → BringLeft w s it page seen
+    by : IsNotToLand w.setup seen s it page None → AwaitedPageLeft w s it page seen
     by (inl other) = inr (inl other)
     by (inr (inl full)) = inr (inr (inl full))
     by (inr (inr (below, unread))) =

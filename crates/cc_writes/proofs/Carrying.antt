@@ -10,7 +10,7 @@ use Rattle.cc_laws.proofs.TurnSteps.{is_quiet-none}
 use Rattle.cc_model.specs.Turns.{Device, Book, is_quiet}
 use Rattle.cc_turns.specs.Transfers.{CanTransfer, transferred}
 use Rattle.cc_turns.specs.Disk.{DiskStands}
-use Rattle.cc_turns.specs.Standing.{Standing, Held, DiskAtFirst, nothing}
+use Rattle.cc_turns.specs.Standing.{Standing, TurnsHeld, DiskAtFirst, nothing}
 use Rattle.cc_turns.specs.Takes.{Takes, with_book, without_book}
 use Rattle.cc_writes.specs.Hands.{HasBook}
 use Rattle.cc_writes.specs.Transfers.{GrowsBeside, IsCarried}
@@ -39,5 +39,5 @@ taken-again w y x s n b c has gave is took stream stands = record {
     held : x.held ≡ record nothing { device = w.held.device; book = Some s }
     held = ap (λ z. z.held) took.same
         ∙ (ap (λ (z : Standing). record z.held { book = Some n }) gave
-        ∙ (ap (λ (h : Held). record h { book = Some n }) has.held
+        ∙ (ap (λ (h : TurnsHeld). record h { book = Some n }) has.held
         ∙ ap (λ (m : ℕ). record nothing { device = w.held.device; book = Some m }) is))

@@ -6,7 +6,7 @@ use Rattle.cc_entry.specs.Place.{Page}
 use Rattle.cc_entry.specs.declared.entry.End.{End}
 use Rattle.cc_entry.specs.declared.entry.Entry.{Entry}
 use Rattle.cc_entry.specs.declared.entry.Entry.TheVariants as entry
-use Rattle.cc_book.specs.Book.{BookState, BookStands, Gains, GoesOn, MayPlace}
+use Rattle.cc_book.specs.Book.{BookState, BookStands, Gains, GoesOn, MayPlaceOnBook}
 use Rattle.cc_journal.specs.Journal.{JournalState}
 use Rattle.cc_model.specs.Good.{IsGood}
 use Rattle.cc_model.specs.History.{history}
@@ -15,7 +15,7 @@ use Rattle.cc_model.specs.Room.{reserved_in}
 use Rattle.cc_step.proofs.Placed.{so-far}
 use Rattle.cc_turns.specs.Standing.{Standing}
 use Rattle.cc_turns.specs.Journal.{JournalStands}
-use Rattle.cc_turns.specs.Takes.{Adds, without_journal}
+use Rattle.cc_turns.specs.Takes.{AddsEvent, without_journal}
 use Rattle.cc_writes.specs.Hands.{HasBook, WentWith}
 use Rattle.cc_writes.specs.Visits.{HasPlaced}
 use Rattle.cc_writes.proofs.OneVisit.{Visiting, Visited, visited}
@@ -25,7 +25,7 @@ use Rattle.cc_turns.proofs.Rooms.{reserved-ended}
 
 -- What the pass gives after the end, and how it goes on.
 pub record Ending {Q : Type 0} (posted : Q → Bool) (w v : Standing) (page : Page) (how : End) (c : BookState) (k : JournalState Q) : Type 0 where
-  pub adds : Adds v k.entries
+  pub adds : AddsEvent v k.entries
   pub journal : JournalStands posted (without_journal k v) k
   pub book : HasBook (without_journal k v) page.stream c
   pub went : WentWith w.in_flight w (without_journal k v)
@@ -57,7 +57,7 @@ module _ {Q : Type 0} (posted : Q → Bool) (w v : Standing) (page : Page) (how 
       some : (n owed less mine others : ℕ) → n ≡ owed + mine + others → owed ≡ suc less → 0 < n
       some n owed less mine others is one = omega (arith, is, one)
 
-  pub may_be_ended : MayPlace j.entries (entry.WriteEnd pass page how) b
+  pub may_be_ended : MayPlaceOnBook j.entries (entry.WriteEnd pass page how) b
   may_be_ended = (w.setup, so-far w.setup (entry.WriteEnd pass page how ∷ j.entries) good, subst (λ (n : ℕ). BookStands (w.setup.opening n) j.entries b) (sym has.stream) stands)
 
   module _ (c : BookState) (k : JournalState Q) (gains : Gains (entry.WriteEnd pass page how) j k) (goes : GoesOn j.entries k.entries b c) (stream : c.stream ≡ b.stream) where

@@ -16,14 +16,14 @@ use Rattle.cc_turns.specs.Disk.{DiskStands}
 use Rattle.cc_turns.specs.Standing.{Standing, DiskAtFirst}
 use Rattle.cc_turns.specs.Takes.{Grows}
 use Rattle.cc_writes.specs.Hands.{HasBook, WentWith}
-use Rattle.cc_writes.specs.Ways.{IsAtWork, HasFailed}
-use Rattle.cc_writes.specs.Writes.{HasBoth, IsToWrite, WantedMemory, WriteLeft}
+use Rattle.cc_writes.specs.Ways.{IsAtWork, WorkHasFailed}
+use Rattle.cc_writes.specs.Writes.{HasBoth, IsToWrite, WorkWantedMemory, WorkWriteLeft}
 use Rattle.cc_writes.specs.Logs.{HoldsBoth, FlushLeft, IsWant}
 use Rattle.cc_writes.specs.Transfers.{PutLeft}
 use Rattle.cc_writes.specs.declared.log.LogFlush.{LogFlush}
 use Rattle.cc_writes.specs.declared.log.LogFlush.TheVariants as flush
-use Rattle.cc_writes.specs.declared.writes.PageWrite.{PageWrite}
-use Rattle.cc_writes.specs.declared.writes.PageWrite.TheVariants as write
+use Rattle.cc_writes.specs.declared.writes.PageTransfer.{PageTransfer}
+use Rattle.cc_writes.specs.declared.writes.PageTransfer.TheVariants as write
 use Rattle.cc_writes.proofs.OneVisit.{went-number}
 use Rattle.cc_writes.proofs.Quiet.{holds_both, history-both, rest-kept}
 use Rattle.cc_writes.proofs.Works.{either, may_write-same, work-grown, work-written, work-not_written, work-wanted}
@@ -31,7 +31,7 @@ use Rattle.cc_writes.proofs.Flushing.{flush-history, flush-disk, work-grows, wor
 use Rattle.cc_writes.proofs.Writing.{opening-kept, disks-kept}
 
 -- where room or memory was wanting, the work is under way
-want-left : (me : ℕ) (work : Work) (page : Page) (e : CcError) (begun seen : List Entry) → IsWant e → IsAtWork me work begun seen → WriteLeft me work page (Err e) begun seen
+want-left : (me : ℕ) (work : Work) (page : Page) (e : CcError) (begun seen : List Entry) → IsWant e → IsAtWork me work begun seen → WorkWriteLeft me work page (Err e) begun seen
 want-left me work page (error.JournalFull entries) begun seen want is = is
 want-left me work page error.NoMemory begun seen want is = inl is
 want-left me work page other begun seen want is = absurd want
@@ -45,19 +45,19 @@ module _ (x : Standing) (page : Page) (both : HoldsBoth x page.stream) (work : W
   may-front : (front : List Entry) → Grows x front → may_write work page front ≡ true
   may-front front grows = may_write-same work page x.seen front (history-both x page.stream front both grows) may
 
-  put-work : (keeps : Bool) (result : Result PageWrite CcError) (seen : List Entry) → PutLeft x page keeps result seen → WriteLeft x.number work page result begun seen
+  put-work : (keeps : Bool) (result : Result PageTransfer CcError) (seen : List Entry) → PutLeft x page keeps result seen → WorkWriteLeft x.number work page result begun seen
   put-work keeps (Ok write.Written) seen left =
       subst (λ (past : List Entry). IsAtWork x.number work begun past) (sym left.placed)
       (work-written x.number work page begun left.before left.later (at-front left.before left.grows) (may-front left.before left.grows) left.quiet left.others)
   put-work keeps (Ok write.NotWritten) seen left =
-      subst (λ (past : List Entry). HasFailed x.number work (WriteFailed page.page) begun past) (sym left.placed)
+      subst (λ (past : List Entry). WorkHasFailed x.number work (WriteFailed page.page) begun past) (sym left.placed)
       (work-not_written x.number work page begun left.before left.later (at-front left.before left.grows) (may-front left.before left.grows) left.quiet left.others)
   put-work keeps (Ok (write.NotLogged handle)) seen left = absurd left
   put-work keeps (Err (error.JournalFull entries)) seen left = at-front seen left
   put-work keeps (Err error.NoMemory) seen left =
       ⊎_elim
       (λ grows. inl (at-front seen grows))
-      (λ ended. inr (subst (λ (past : List Entry). WantedMemory x.number work begun past) (sym ended.placed)
+      (λ ended. inr (subst (λ (past : List Entry). WorkWantedMemory x.number work begun past) (sym ended.placed)
       (work-wanted x.number work page begun ended.before ended.later (at-front ended.before ended.grows) (may-front ended.before ended.grows) ended.quiet ended.others)))
       left
   put-work keeps (Err other) seen left = absurd left
@@ -85,19 +85,19 @@ module _ {D : Type 0} (told : D → Option Disk) (faults : D → ℕ) (n : ℕ) 
   dirty-flushed write_it = ap (λ h. is_dirty h page.page) same ∙ write_it.dirty
 
   module _ (write_it : IsToWrite page w.seen) (work : Work) (begun : List Entry) (may : may_write work page w.seen ≡ true) (is : IsAtWork w.number work begun w.seen) where
-    pub written-left : (keeps : Bool) (result : Result PageWrite CcError) (seen : List Entry) → flushed ≡ Ok flush.Reached → PutLeft x page keeps result seen → WriteLeft w.number work page result begun seen
+    pub written-left : (keeps : Bool) (result : Result PageTransfer CcError) (seen : List Entry) → flushed ≡ Ok flush.Reached → PutLeft x page keeps result seen → WorkWriteLeft w.number work page result begun seen
     written-left keeps result seen reached put =
         let there = subst (λ (r : Result LogFlush CcError). FlushLeft w page r x.seen) reached left in
-        subst (λ (m : ℕ). WriteLeft m work page result begun seen) (went-number n w x went)
+        subst (λ (m : ℕ). WorkWriteLeft m work page result begun seen) (went-number n w x went)
         (put-work x page (holds_both x page.stream b has both-flushed.rest.device) work begun (may_write-same work page w.seen x.seen same may)
         (subst (λ (m : ℕ). IsAtWork m work begun x.seen) (sym (went-number n w x went)) (work-reached w page held write_it.stamped work begun (either _ _ may) is x.seen there.0)) keeps result seen put)
 
-    pub unlogged-left : (handle : ℕ) → flushed ≡ Ok (flush.Failed handle) → HasFailed w.number work (LogFailed handle) begun x.seen
+    pub unlogged-left : (handle : ℕ) → flushed ≡ Ok (flush.Failed handle) → WorkHasFailed w.number work (LogFailed handle) begun x.seen
     unlogged-left handle failed =
         let there = subst (λ (r : Result LogFlush CcError). FlushLeft w page r x.seen) failed left in
         work-unlogged w page held write_it.stamped work begun (either _ _ may) is handle there.0 x.seen there.1
 
-    pub unflushed-left : (e : CcError) → flushed ≡ Err e → WriteLeft w.number work page (Err e) begun x.seen
+    pub unflushed-left : (e : CcError) → flushed ≡ Err e → WorkWriteLeft w.number work page (Err e) begun x.seen
     unflushed-left e err =
         let there = subst (λ (r : Result LogFlush CcError). FlushLeft w page r x.seen) err left in
         want-left w.number work page e begun x.seen there.1 (work-grows w page held write_it.stamped work begun (either _ _ may) is x.seen there.0)

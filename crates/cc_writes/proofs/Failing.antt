@@ -28,9 +28,9 @@ use Rattle.cc_turns.specs.Takes.{without_journal}
 use Rattle.cc_effects.specs.Begins.{BeginsNone, TakesNoneOut, is_page_out}
 use Rattle.cc_writes.specs.Alone.{NobodyElseChanged}
 use Rattle.cc_writes.specs.Hands.{HasBook, SameDisk}
-use Rattle.cc_writes.specs.Told.{answer_of}
+use Rattle.cc_writes.specs.Told.{fault_answer}
 use Rattle.cc_writes.specs.Visits.{IsFiledNow}
-use Rattle.cc_writes.specs.Ways.{IsFull, IsHalted, IsReason, is_met}
+use Rattle.cc_writes.specs.Ways.{IsFull, IsHalted, IsCallReason, is_met}
 use Rattle.cc_writes.proofs.Attempting.{filed-front, may-step, number-is, visited-refused, visited-same, full-refused, full-stop}
 use Rattle.cc_effects.proofs.Begun.{none-behind, none-idle}
 use Rattle.cc_writes.proofs.Alone.{alone-effectless, alone-grows}
@@ -153,7 +153,7 @@ module _ {Q : Type 0} (posted : Q → Bool) (w v : Standing) (it : Call) (b c : 
         subst (λ (x : CcError). CallLeft w.setup w.number it (outcome.Failed x) begun j.entries) (sym none.0)
         (memoryless-halted w.setup w.number b.stream it here 0 begun j.entries filed-in fault front-halted stops)
 
-    pub left-fail : (end : Failed) → FailLeft w.setup w.number it fault end b c j k → CallLeft w.setup w.number it (outcome.Failed (answer_of end fault)) begun k.entries
+    pub left-fail : (end : Failed) → FailLeft w.setup w.number it fault end b c j k → CallLeft w.setup w.number it (outcome.Failed (fault_answer end fault)) begun k.entries
     left-fail (ended.Refused e) left =
         subst (λ (past : List Entry). CallLeft w.setup w.number it (outcome.Failed e) begun past) (sym (ap (λ (x : JournalState Q). x.entries) left.placed))
         (overtaken-left w.setup w.number b.stream it here (suc (calls_of j.entries w.number)) begun j.entries filed-in fault front-halted e left.reason)
@@ -163,13 +163,13 @@ module _ {Q : Type 0} (posted : Q → Bool) (w v : Standing) (it : Call) (b c : 
     left-fail (ended.Stopped e) left =
         subst (λ (x : JournalState Q). CallLeft w.setup w.number it (outcome.Failed e) begun x.entries) (sym left.1.same_journal) (stopped-halted e left.0)
 
-  pub full-fail : (end : Failed) → FailLeft w.setup w.number it fault end b c j k → IsFull {A = Unit {0}} 1 (without_journal k v) (Err (answer_of end fault))
+  pub full-fail : (end : Failed) → FailLeft w.setup w.number it fault end b c j k → IsFull {A = Unit {0}} 1 (without_journal k v) (Err (fault_answer end fault))
   full-fail (ended.Refused e) left = full-refused posted w v it b c j k has vis here filed (Unit {0}) 1 e left
   full-fail ended.Told left = full-fault (Unit {0}) (without_journal k v) fault is-fault
   full-fail (ended.Stopped e) left = full-stop posted w v it b c j k has vis here filed (Unit {0}) 1 e left.0 left.1.same_journal (visited-fail (ended.Stopped e) left)
 
   -- why it is answered so
-  pub reason-fail : (end : Failed) → FailLeft w.setup w.number it fault end b c j k → IsReason w.setup b.stream it (answer_of end fault)
+  pub reason-fail : (end : Failed) → FailLeft w.setup w.number it fault end b c j k → IsCallReason w.setup b.stream it (fault_answer end fault)
   reason-fail (ended.Refused e) left = inr (j.entries, left.reason)
   reason-fail ended.Told left = inl (met-fault fault is-fault)
   reason-fail (ended.Stopped e) left = inl (met-stop e left.0)

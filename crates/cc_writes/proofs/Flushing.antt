@@ -28,8 +28,8 @@ use Rattle.cc_turns.specs.Takes.{Grows}
 use Rattle.cc_turns.proofs.DiskGrows.{disk_grows}
 use Rattle.cc_writes.specs.Hands.{HasBook, WentWith}
 use Rattle.cc_writes.specs.Visits.{HasPlaced}
-use Rattle.cc_writes.specs.Ways.{IsAtWork, HasFailed}
-use Rattle.cc_writes.specs.Logs.{HoldsBoth, IsDue, HasFlushed, LogLeft, FlushLeft, ReachedBy, IsWant, newest_on}
+use Rattle.cc_writes.specs.Ways.{IsAtWork, WorkHasFailed}
+use Rattle.cc_writes.specs.Logs.{HoldsBoth, IsDue, HasPlacedDueEntry, FlushToLsnLeft, FlushLeft, ReachedBy, IsWant, newest_on}
 use Rattle.cc_writes.specs.declared.log.LogFlush.{LogFlush}
 use Rattle.cc_writes.specs.declared.log.LogFlush.TheVariants as flush
 use Rattle.cc_writes.proofs.OneVisit.{went-number, went-holds}
@@ -73,7 +73,7 @@ module _ (w : Standing) (page : Page) (both : HoldsBoth w page.stream) (stamped 
   logged-there seen same within =
       logged-by seen page.stream page.page handle to (ap (λ h. is_unstamped h page.page) same ∙ stamped) (ap log_of same ∙ log) (ap (λ h. newest_of h page.page) same ∙ newest) within
 
-  left-here : (result : Result LogFlush CcError) (seen : List Entry) → LogLeft w handle to result seen → FlushLeft w page result seen
+  left-here : (result : Result LogFlush CcError) (seen : List Entry) → FlushToLsnLeft w handle to result seen → FlushLeft w page result seen
   left-here (Ok flush.Reached) seen left =
       ⊎_elim
       (λ found. (inl found.0, logged-there seen (history-both w page.stream seen both found.0) found.1))
@@ -88,12 +88,12 @@ module _ (w : Standing) (page : Page) (both : HoldsBoth w page.stream) (stamped 
       most : (a b : ℕ) → a ≤ max a b
       most a b = omega arith
   left-here (Ok (flush.Failed failed)) seen left =
-      subst (λ (n : ℕ). (lsn : ℕ) × HasFlushed w page n lsn (entry.LogFailed w.number n) seen) (sym left.0)
+      subst (λ (n : ℕ). (lsn : ℕ) × HasPlacedDueEntry w page n lsn (entry.LogFailed w.number n) seen) (sym left.0)
       (to, record { placed = left.1.placed; due = due-there left.1.placed.front left.1.placed.grows left.1.due })
   left-here (Err e) seen left = (left.0, subst IsWant (sym left.1) tt)
 
 -- what the flush leaves, from where the newest LSN was looked for
-pub flush-left : (n : ℕ) (w x : Standing) (page : Page) (handle to : ℕ) (result : Result LogFlush CcError) (seen : List Entry) → HoldsBoth w page.stream → is_unstamped (history w.seen page.stream) page.page ≡ false → log_of (history w.seen page.stream) ≡ Some handle → WentWith n w x → Grows w x.seen → newest_on page x.seen ≡ Some to → LogLeft x handle to result seen → FlushLeft w page result seen
+pub flush-left : (n : ℕ) (w x : Standing) (page : Page) (handle to : ℕ) (result : Result LogFlush CcError) (seen : List Entry) → HoldsBoth w page.stream → is_unstamped (history w.seen page.stream) page.page ≡ false → log_of (history w.seen page.stream) ≡ Some handle → WentWith n w x → Grows w x.seen → newest_on page x.seen ≡ Some to → FlushToLsnLeft x handle to result seen → FlushLeft w page result seen
 flush-left n w x page handle to result seen both stamped log went grows newest left =
     left-here w page both stamped handle to log (ap (λ h. newest_of h page.page) (sym (history-both w page.stream x.seen both grows)) ∙ newest) result seen
     (left-turn w x handle to result seen (went-number n w x went) (went-holds n w x went) grows left)
@@ -156,11 +156,11 @@ module _ (w : Standing) (page : Page) (both : HoldsBoth w page.stream) (stamped 
       (work-grows front grows)))
       reached
 
-  pub work-unlogged : (handle to : ℕ) (seen : List Entry) → HasFlushed w page handle to (entry.LogFailed w.number handle) seen → HasFailed w.number work (LogFailed handle) begun seen
+  pub work-unlogged : (handle to : ℕ) (seen : List Entry) → HasPlacedDueEntry w page handle to (entry.LogFailed w.number handle) seen → WorkHasFailed w.number work (LogFailed handle) begun seen
   work-unlogged handle to seen failed =
       let front = failed.placed.front in
       let grows = failed.placed.grows in
-      subst (λ (past : List Entry). HasFailed w.number work (LogFailed handle) begun past) (sym failed.placed.placed)
+      subst (λ (past : List Entry). WorkHasFailed w.number work (LogFailed handle) begun past) (sym failed.placed.placed)
       (work-log_failed w.number work handle begun front
       (record {
         to = to;

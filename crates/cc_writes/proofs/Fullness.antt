@@ -15,7 +15,7 @@ use Rattle.cc_step.specs.Step.{IsReadyFor, asked_now, most_asked}
 use Rattle.cc_step.proofs.Asking.{most}
 use Rattle.cc_turns.specs.Standing.{Standing}
 use Rattle.cc_turns.specs.Takes.{without_book, without_device}
-use Rattle.cc_writes.specs.Ways.{IsFull, IsFullCall, IsFullError, IsFullOn, IsReady}
+use Rattle.cc_writes.specs.Ways.{IsFull, IsFullCall, IsFullError, IsFullOn, CallIsReady}
 use Rattle.cc_writes.specs.Calls.{IsFullWriting}
 use Rattle.cc_writes.specs.Fetch.{IsFullFetching}
 use Rattle.cc_writes.specs.Rounds.{IsFullCourse, course_of}
@@ -43,7 +43,7 @@ pub full-named : {A : Type 0} (holds : List Hold) (pass s : ℕ) (it : Call) (w 
 full-named holds pass s it w r filed full =
     (full-answer (asked_now w.seen s it) (most_asked it) w r (most (holds_of (history w.seen s)) it) full.0, named full.1)
   where
-    named : IsFull 1 w r ⊎ IsReadyFor w.setup w.seen s it → IsFull 1 w r ⊎ IsReady w.setup it w.seen
+    named : IsFull 1 w r ⊎ IsReadyFor w.setup w.seen s it → IsFull 1 w r ⊎ CallIsReady w.setup it w.seen
     named (inl none) = inl none
     named (inr ready) = inr (of-file (λ (n : ℕ). IsReadyFor w.setup w.seen n it) holds pass s it filed ready)
 
@@ -85,7 +85,7 @@ given-full asked y (Err other) full = tt
 pub given-fetching : {A : Type 0} (it : Call) (y : Standing) (answer : Result A CcError) → IsFullFetching it y answer → IsFullFetching it (without_device (without_book y)) answer
 given-fetching it y answer (inl full) = inl (given-full (most_asked it) y answer full.0, given-ready full.1)
   where
-    given-ready : IsFull 1 y answer ⊎ IsReady y.setup it y.seen → IsFull 1 (without_device (without_book y)) answer ⊎ IsReady y.setup it y.seen
+    given-ready : IsFull 1 y answer ⊎ CallIsReady y.setup it y.seen → IsFull 1 (without_device (without_book y)) answer ⊎ CallIsReady y.setup it y.seen
     given-ready (inl none) = inl (given-full 1 y answer none)
     given-ready (inr ready) = inr ready
 given-fetching it y answer (inr full) = inr (full.0, given-full 2 y answer full.1)

@@ -11,13 +11,13 @@ use Rattle.cc_model.specs.Setup.{Setup}
 use Rattle.cc_step.specs.Step.{is_stepped}
 use Rattle.cc_step.proofs.Failing.{stepped-answered}
 use Rattle.cc_writes.specs.Ways.{WasWanted}
-use Rattle.cc_writes.specs.Visits.{IsOf, IsWaitedFor}
+use Rattle.cc_writes.specs.Visits.{CallIsOfStream, IsWaitedFor}
 use Rattle.cc_writes.proofs.Refusals.{may-tell}
 use Rattle.cc_writes.specs.Calls.{MayFaultInWriting}
 use Rattle.cc_writes.proofs.Reached.{reached}
 
 -- the page that it waited for at a moment was wanted since it began
-pub wanted : (u : Setup) (me s page : ℕ) (it : Call) (old mid new : List Entry) → is_stepped it ≡ true → brings_in it ≡ true → IsOf it s → IsUnderWay me it old mid → IsIdle me mid new → IsWaitedFor u s it page mid → WasWanted u it (record { stream = s; page = page }) old new
+pub wanted : (u : Setup) (me s page : ℕ) (it : Call) (old mid new : List Entry) → is_stepped it ≡ true → brings_in it ≡ true → CallIsOfStream it s → IsUnderWay me it old mid → IsIdle me mid new → IsWaitedFor u s it page mid → WasWanted u it (record { stream = s; page = page }) old new
 wanted u me s page it old mid new stepped brings filed way idle waited = record {
   moment = mid;
   later = idle.during;

@@ -21,9 +21,9 @@ use Rattle.cc_model.specs.History.{history}
 use Rattle.cc_model.specs.Refusals.{refusal}
 use Rattle.cc_model.specs.Setup.{Setup}
 use Rattle.cc_step.specs.Step.{is_answered}
-use Rattle.cc_writes.specs.Ways.{IsAtWork, HasFailed, IsHalted}
+use Rattle.cc_writes.specs.Ways.{IsAtWork, WorkHasFailed, IsHalted}
 use Rattle.cc_writes.proofs.Refusals.{may_be_reserved, may-stop, may-want}
-use Rattle.cc_writes.specs.Writes.{WantedMemory, WriteLeft}
+use Rattle.cc_writes.specs.Writes.{WorkWantedMemory, WorkWriteLeft}
 
 -- a call is work, and this work a call
 pub at-work : (me : ℕ) (it : Call) (old new : List Entry) → IsUnderWay me it old new → IsAtWork me (Calls it) old new
@@ -33,7 +33,7 @@ pub under-way : (me : ℕ) (it : Call) (old new : List Entry) → IsAtWork me (C
 under-way me it old new work = record { during = work.during; grew = work.grew; works = work.works; unsynced = work.unsynced; unstopped = work.unstopped }
 
 -- a fault that came in a later stretch stopped the call
-abbrev failed-since : (me : ℕ) (it : Call) (fault : Fault) (old mid new : List Entry) → IsUnderWay me it old mid → HasFailed me (Calls it) fault mid new → HasFailed me (Calls it) fault old new
+abbrev failed-since : (me : ℕ) (it : Call) (fault : Fault) (old mid new : List Entry) → IsUnderWay me it old mid → WorkHasFailed me (Calls it) fault mid new → WorkHasFailed me (Calls it) fault old new
 failed-since me it fault old mid new way failed = record {
   stop = failed.stop;
   stopped = record {
@@ -50,7 +50,7 @@ failed-since me it fault old mid new way failed = record {
 }
 
 -- it was halted, where nothing refused it as that stretch began
-pub halted-since : (u : Setup) (me s : ℕ) (it : Call) (e : CcError) (fault : Fault) (old mid new : List Entry) → IsUnderWay me it old mid → refusal u mid (history mid s) it ≡ None → tells it e fault ≡ true → HasFailed me (Calls it) fault mid new → IsHalted u me s it e old new
+pub halted-since : (u : Setup) (me s : ℕ) (it : Call) (e : CcError) (fault : Fault) (old mid new : List Entry) → IsUnderWay me it old mid → refusal u mid (history mid s) it ≡ None → tells it e fault ≡ true → WorkHasFailed me (Calls it) fault mid new → IsHalted u me s it e old new
 halted-since u me s it e fault old mid new way admitted is failed = record {
   fault = fault;
   is = is;
@@ -73,7 +73,7 @@ no-room : (me : ℕ) (it : Call) (entries : ℕ) (old new : List Entry) → is_a
 no-room me it entries old new here free way = gives_up me it (error.JournalFull entries) old new way (may-stop it entries here free).0 (may-want it new free)
 
 -- a transfer found no memory
-wanted-memory : (me : ℕ) (it : Call) (old new : List Entry) → is_answered it ≡ true → may_be_reserved it ≡ false → WantedMemory me (Calls it) old new → IsUnplaced me it error.NoMemory old new
+wanted-memory : (me : ℕ) (it : Call) (old new : List Entry) → is_answered it ≡ true → may_be_reserved it ≡ false → WorkWantedMemory me (Calls it) old new → IsUnplaced me it error.NoMemory old new
 wanted-memory me it old new here free left = record {
   during = left.stopped.during;
   grew = left.stopped.grew;
@@ -84,7 +84,7 @@ wanted-memory me it old new here free left = record {
 }
 
 -- the page was not written, for want of room or of memory: the call is given up
-pub given-up : (u : Setup) (me : ℕ) (it : Call) (page : Page) (e : CcError) (old new : List Entry) → is_answered it ≡ true → may_be_reserved it ≡ false → WriteLeft me (Calls it) page (Err e) old new → CallLeft u me it (outcome.Failed e) old new
+pub given-up : (u : Setup) (me : ℕ) (it : Call) (page : Page) (e : CcError) (old new : List Entry) → is_answered it ≡ true → may_be_reserved it ≡ false → WorkWriteLeft me (Calls it) page (Err e) old new → CallLeft u me it (outcome.Failed e) old new
 given-up u me it page (error.JournalFull entries) old new here free left = no-room me it entries old new here free (under-way me it old new left)
 given-up u me it page error.NoMemory old new here free (inl left) = no-memory me it old new here free (under-way me it old new left)
 given-up u me it page error.NoMemory old new here free (inr left) = wanted-memory me it old new here free left

@@ -29,7 +29,7 @@ use Rattle.cc_step.specs.Step.{is_awaited, least_absent, needed_range}
 use Rattle.cc_step.proofs.Awaiting.{awaited-of}
 use Rattle.cc_turns.specs.Standing.{Standing}
 use Rattle.cc_turns.specs.Takes.{Grows}
-use Rattle.cc_writes.specs.Visits.{HasLanded, IsElsewhere, IsWaitedFor, LandLeft}
+use Rattle.cc_writes.specs.Visits.{HasLanded, IsElsewhere, IsWaitedFor, VisitLandLeft}
 use Rattle.cc_writes.proofs.Brought.{apart}
 use Rattle.cc_writes.proofs.Landing.{history-held}
 
@@ -80,7 +80,7 @@ module _ (w : Standing) (s page : ℕ) (it : Call) (seen : List Entry) (book : w
       })
 
   -- so a page for whose block there is room lands, if it was read where it had to be
-  pub lands : (raw : Option (List ℕ)) → has_room (history w.seen s) page ≡ true → (raw ≡ None → nat_lt (4096 * page) (valid_of (history w.seen s)) ≡ false) → LandLeft w s it page raw seen → HasLanded w s it page seen
+  pub lands : (raw : Option (List ℕ)) → has_room (history w.seen s) page ≡ true → (raw ≡ None → nat_lt (4096 * page) (valid_of (history w.seen s)) ≡ false) → VisitLandLeft w s it page raw seen → HasLanded w s it page seen
   lands raw room above (inl came) = came
   lands raw room above (inr none) = by none.reason
     where

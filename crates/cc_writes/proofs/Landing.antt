@@ -7,12 +7,12 @@ use Rattle.cc_entry.specs.declared.entry.Entry.{Entry}
 use Rattle.cc_entry.specs.declared.entry.Entry.TheVariants as entry
 use Rattle.cc_entry.specs.declared.error.CcError.TheVariants as error
 use Rattle.cc_entry.specs.declared.error.NoMemory.{NoMemory}
-use Rattle.cc_book.specs.Book.{BookState, Gains, page_in}
+use Rattle.cc_book.specs.Book.{BookState, Gains, book_page_in}
 use Rattle.cc_content.specs.Filling.{IsReadFrom}
 use Rattle.cc_effects.specs.Asked.{brings_in, reaches}
 use Rattle.cc_effects.specs.Calls.{IsUnderWay}
 use Rattle.cc_effects.proofs.Starts.{brings}
-use Rattle.cc_step.specs.Fill.{MayLand, LandLeft, GivesBack, IsRead, page_of}
+use Rattle.cc_step.specs.Fill.{MayLand, LandLeft, GivesBack, PageIsRead, book_page, UnreadLeft}
 use Rattle.cc_journal.specs.Journal.{JournalState}
 use Rattle.cc_laws.proofs.HistorySteps.{history-fill_failed}
 use Rattle.cc_laws.proofs.QuietSteps.{history-quiet}
@@ -27,9 +27,7 @@ use Rattle.cc_step.specs.Step.{StandUnder, is_answered}
 use Rattle.cc_turns.specs.Standing.{Standing}
 use Rattle.cc_turns.specs.Takes.{Grows, without_journal}
 use Rattle.cc_writes.specs.Hands.{HasBook, IsAtRest, SameDisk}
-use Rattle.cc_writes.specs.Told.{UnreadTold}
-use Rattle.cc_writes.specs.Visits.{HasNotLanded, IsElsewhere, IsFiledNow, UnreadLeft, UnreadPlaced, WasReadFor}
-use Rattle.cc_writes.specs.Visits.{LandLeft as SeenLandLeft}
+use Rattle.cc_writes.specs.Visits.{HasNotLanded, IsElsewhere, IsFiledNow, VisitUnreadLeft, UnreadPlaced, WasReadFor, VisitLandLeft as SeenLandLeft}
 use Rattle.cc_writes.specs.Ways.{IsHalted, WasWanted}
 use Rattle.cc_writes.proofs.Attempting.{number-is, way-on}
 use Rattle.cc_writes.proofs.VisitDisks.{disk-same, disk-page_in}
@@ -79,20 +77,20 @@ module _ {Q : Type 0} (posted : Q → Bool) (w v : Standing) (b c : BookState) (
   gains-kept : (e : Entry) → Gains e j k → k ≡ record j { entries = e ∷ j.entries; reserved = k.reserved; rows = k.rows }
   gains-kept e gains = gains ∙ ap (λ (n : ℕ). record j { entries = e ∷ j.entries; reserved = n; rows = k.rows }) (sym (ap (λ (x : JournalState Q). x.reserved) gains))
 
-  pub visited-in : (page : ℕ) → Gains (page_in w.number (page_of b page) b) j k → StandUnder w.setup c k → c.stream ≡ b.stream → Visited posted w v b.stream 0 c k
+  pub visited-in : (page : ℕ) → Gains (book_page_in w.number (book_page b page) b) j k → StandUnder w.setup c k → c.stream ≡ b.stream → Visited posted w v b.stream 0 c k
   visited-in page gains stand stream =
-      visited posted w v b.stream 0 (page_in w.number (page_of b page) b ∷ []) b c j k has vis
-      (stepping-one posted w v b c j k has vis 0 (page_in w.number (page_of b page) b) (gains-kept (page_in w.number (page_of b page) b) gains) stand stream
+      visited posted w v b.stream 0 (book_page_in w.number (book_page b page) b ∷ []) b c j k has vis
+      (stepping-one posted w v b c j k has vis 0 (book_page_in w.number (book_page b page) b) (gains-kept (book_page_in w.number (book_page b page) b) gains) stand stream
       (eq-eqb w.number w.number refl) (unneeded-page w.held b.stream (has-book posted w v b c j k has vis) rest.device)
-      (reserved-page_in w.number (page_of b page) _ j.entries)
+      (reserved-page_in w.number (book_page b page) _ j.entries)
       (fewer (ap (λ (x : JournalState Q). x.reserved) gains)))
 
-  pub visited-unread : (page : ℕ) → Gains (entry.FillFailed w.number (page_of b page)) j k → StandUnder w.setup c k → c.stream ≡ b.stream → Visited posted w v b.stream 0 c k
+  pub visited-unread : (page : ℕ) → Gains (entry.FillFailed w.number (book_page b page)) j k → StandUnder w.setup c k → c.stream ≡ b.stream → Visited posted w v b.stream 0 c k
   visited-unread page gains stand stream =
-      visited posted w v b.stream 0 (entry.FillFailed w.number (page_of b page) ∷ []) b c j k has vis
-      (stepping-one posted w v b c j k has vis 0 (entry.FillFailed w.number (page_of b page)) (gains-kept (entry.FillFailed w.number (page_of b page)) gains) stand stream
+      visited posted w v b.stream 0 (entry.FillFailed w.number (book_page b page) ∷ []) b c j k has vis
+      (stepping-one posted w v b c j k has vis 0 (entry.FillFailed w.number (book_page b page)) (gains-kept (entry.FillFailed w.number (book_page b page)) gains) stand stream
       (eq-eqb w.number w.number refl) (unneeded-device w.held b.stream (has-book posted w v b c j k has vis) rest.device)
-      (reserved-fill_failed w.number (page_of b page) j.entries)
+      (reserved-fill_failed w.number (book_page b page) j.entries)
       (fewer (ap (λ (x : JournalState Q). x.reserved) gains)))
 
 -- A page for a call.
@@ -100,7 +98,7 @@ module _ {Q : Type 0} (posted : Q → Bool) (w v : Standing) (it : Call) (b c : 
     (has : HasBook w b.stream b) (vis : Visiting posted w v b.stream b j) (here : is_answered it ≡ true) (filed : IsFiledNow w b.stream it)
     (rest : IsAtRest w b.stream) (reserved : w.in_flight ≡ 1) (page : ℕ) where
   -- what was read of it is what its disk has of it, still
-  pub still-read : (raw : Option (List ℕ)) → WasReadFor w b.stream page raw → IsRead w.setup j.entries b.stream page raw
+  pub still-read : (raw : Option (List ℕ)) → WasReadFor w b.stream page raw → PageIsRead w.setup j.entries b.stream page raw
   still-read None read = tt
   still-read (Some bytes) read =
       subst (λ (h : List Effect). is_resident h page ≡ false → IsReadFrom (w.setup.opening b.stream) h page bytes)
@@ -123,7 +121,7 @@ module _ {Q : Type 0} (posted : Q → Bool) (w v : Standing) (it : Call) (b c : 
 
   pub disk-land : (raw : Option (List ℕ)) (answer : Result (Unit {0}) NoMemory) → LandLeft w.setup w.number it page raw answer b c j k → SameDisk w.seen k.entries b.stream
   disk-land raw (Ok done) (inl came) =
-      disk-grew posted w v it b c j k has vis here filed rest (page_in w.number (page_of b page) b ∷ j.entries) (disk-page_in w.number (page_of b page) _ j.entries b.stream) (ap (λ (x : JournalState Q). x.entries) came.placed)
+      disk-grew posted w v it b c j k has vis here filed rest (book_page_in w.number (book_page b page) b ∷ j.entries) (disk-page_in w.number (book_page b page) _ j.entries b.stream) (ap (λ (x : JournalState Q). x.entries) came.placed)
   disk-land raw (Ok done) (inr none) = disk-grew posted w v it b c j k has vis here filed rest j.entries (disk-same j.entries b.stream) (ap (λ (x : JournalState Q). x.entries) none.given_back)
   disk-land raw (Err e) none = disk-grew posted w v it b c j k has vis here filed rest j.entries (disk-same j.entries b.stream) (ap (λ (x : JournalState Q). x.entries) none.given_back)
 
@@ -131,7 +129,7 @@ module _ {Q : Type 0} (posted : Q → Bool) (w v : Standing) (it : Call) (b c : 
   pub left-land : brings_in it ≡ true → (raw : Option (List ℕ)) (answer : Result (Unit {0}) NoMemory) → LandLeft w.setup w.number it page raw answer b c j k → (begun : List Entry) → IsUnderWay w.number it begun w.seen → IsUnderWay w.number it begun k.entries
   left-land may raw (Ok done) (inl came) begun way =
       subst (λ (past : List Entry). IsUnderWay w.number it begun past) (sym (ap (λ (x : JournalState Q). x.entries) came.placed))
-      (brings w.number it begun j.entries (page_of b page) _ (way-on posted w v it b c j k has vis here filed begun way) may came.admitted came.reached)
+      (brings w.number it begun j.entries (book_page b page) _ (way-on posted w v it b c j k has vis here filed begun way) may came.admitted came.reached)
   left-land may raw (Ok done) (inr none) begun way =
       subst (λ (past : List Entry). IsUnderWay w.number it begun past) (sym (ap (λ (x : JournalState Q). x.entries) none.given_back)) (way-on posted w v it b c j k has vis here filed begun way)
   left-land may raw (Err e) none begun way =
@@ -153,14 +151,14 @@ module _ {Q : Type 0} (posted : Q → Bool) (w v : Standing) (it : Call) (b c : 
 -- A page that the disk failed to read.
 module _ {Q : Type 0} (posted : Q → Bool) (w v : Standing) (b : BookState) (j k : JournalState Q)
     (has : HasBook w b.stream b) (vis : Visiting posted w v b.stream b j) (rest : IsAtRest w b.stream) (reserved : w.in_flight ≡ 1) (page : ℕ) where
-  pub unread : (pass : ℕ) (answer : Bool) → pass ≡ v.number → ((u : Setup) → StandUnder u b j → UnreadTold u pass page answer b j k) → UnreadTold w.setup w.number page answer b j k
-  unread pass answer me left = subst (λ (n : ℕ). UnreadTold w.setup n page answer b j k) (me ∙ vis.number_is) (left w.setup vis.stand)
+  pub unread : (pass : ℕ) (answer : Bool) → pass ≡ v.number → ((u : Setup) → StandUnder u b j → UnreadLeft u pass page answer b j k) → UnreadLeft w.setup w.number page answer b j k
+  unread pass answer me left = subst (λ (n : ℕ). UnreadLeft w.setup n page answer b j k) (me ∙ vis.number_is) (left w.setup vis.stand)
 
-  pub visited-told : (answer : Bool) → UnreadTold w.setup w.number page answer b j k → Visited posted w v b.stream 0 b k
+  pub visited-told : (answer : Bool) → UnreadLeft w.setup w.number page answer b j k → Visited posted w v b.stream 0 b k
   visited-told true told = visited-unread posted w v b b j k has vis rest reserved page told.placed told.stand refl
   visited-told false none = visited-back posted w v b b j k has vis rest reserved none.given_back (stand-back posted w v b b j k has vis rest reserved none.given_back refl) refl
 
-  pub rest-told : (answer : Bool) → UnreadTold w.setup w.number page answer b j k → IsAtRest (without_journal k v) b.stream
+  pub rest-told : (answer : Bool) → UnreadLeft w.setup w.number page answer b j k → IsAtRest (without_journal k v) b.stream
   rest-told answer told = record {
     device = ap (λ (x : Standing). x.held.device) (visited-told answer told).went.same ∙ rest.device;
     no_transfer = by answer told;
@@ -169,19 +167,19 @@ module _ {Q : Type 0} (posted : Q → Bool) (w v : Standing) (b : BookState) (j 
       front : open_of (history j.entries b.stream) ≡ None
       front = rest-same w.seen j.entries b.stream (disk-held w b.stream j.entries rest.device vis.grows) rest.no_transfer
 
-      by : (a : Bool) → UnreadTold w.setup w.number page a b j k → open_of (history k.entries b.stream) ≡ None
+      by : (a : Bool) → UnreadLeft w.setup w.number page a b j k → open_of (history k.entries b.stream) ≡ None
       by true placed =
           ap (λ (x : JournalState Q). open_of (history x.entries b.stream)) placed.placed
-          ∙ (ap open_of (history-fill_failed w.number (page_of b page) j.entries b.stream) ∙ front)
+          ∙ (ap open_of (history-fill_failed w.number (book_page b page) j.entries b.stream) ∙ front)
       by false none = ap (λ (x : JournalState Q). open_of (history x.entries b.stream)) none.given_back ∙ front
 
-  pub placed-told : (answer : Bool) → UnreadTold w.setup w.number page answer b j k → UnreadPlaced w (without_journal k v) b.stream page answer
+  pub placed-told : (answer : Bool) → UnreadLeft w.setup w.number page answer b j k → UnreadPlaced w (without_journal k v) b.stream page answer
   placed-told true told = record { front = j.entries; grows = vis.grows; placed = ap (λ (x : JournalState Q). x.entries) told.placed }
   placed-told false none =
       subst (λ (past : List Entry). SameDisk w.seen past b.stream × IsElsewhere w b.stream page past) (sym (ap (λ (x : JournalState Q). x.entries) none.given_back))
       (disk-held w b.stream j.entries rest.device vis.grows, record { grows = vis.grows; elsewhere = none.not_on_disk })
 
-  pub left-told : (answer : Bool) → UnreadTold w.setup w.number page answer b j k → (it : Call) (begun : List Entry) → brings_in it ≡ true → IsUnderWay w.number it begun w.seen → WasWanted w.setup it (record { stream = b.stream; page = page }) begun w.seen → UnreadLeft w.setup w.number b.stream it page answer begun k.entries
+  pub left-told : (answer : Bool) → UnreadLeft w.setup w.number page answer b j k → (it : Call) (begun : List Entry) → brings_in it ≡ true → IsUnderWay w.number it begun w.seen → WasWanted w.setup it (record { stream = b.stream; page = page }) begun w.seen → VisitUnreadLeft w.setup w.number b.stream it page answer begun k.entries
   left-told true told it begun may way wanted =
       subst (λ (past : List Entry). IsHalted w.setup w.number b.stream it (error.ReadFault page) begun past) (sym (ap (λ (x : JournalState Q). x.entries) told.placed))
       (halts w.setup w.number b.stream page it begun j.entries (under_way-on w.number it begun w.seen j.entries way vis.idle) may told.on_disk

@@ -12,7 +12,7 @@ use Rattle.cc_traits.specs.Log.{Log}
 use Rattle.cc_journal.specs.Journal.{JournalState, MayBePushed}
 use Rattle.cc_journal.proofs.GoodEntries.{MayBePushed-good}
 use Rattle.cc_laws.proofs.QueueSteps.{is_defer_or_post}
-use Rattle.cc_log.specs.Turn.{LogState, Stands, left_by, faults_by}
+use Rattle.cc_log.specs.Turn.{LogTurnState, Stands, entry_left_by, log_faults_by}
 use Rattle.cc_model.specs.Good.{IsGood}
 use Rattle.cc_model.specs.History.{history}
 use Rattle.cc_model.specs.Images.{open_of}
@@ -21,13 +21,13 @@ use Rattle.cc_model.specs.Room.{reserved_in}
 use Rattle.cc_model.specs.Turns.{Turn, Device, Book, Log as log_turn, Journal, is_quiet}
 use Rattle.cc_step.proofs.Placed.{so-far}
 use Rattle.cc_turns.specs.Log.{LogStands, log_failures}
-use Rattle.cc_turns.specs.Standing.{Standing, Held, LogAtFirst, holds}
+use Rattle.cc_turns.specs.Standing.{Standing, TurnsHeld, LogAtFirst, holds}
 use Rattle.cc_turns.specs.Takes.{Grows, may_be_of, with_journal, with_log, Takes}
 use Rattle.cc_turns.proofs.LogGrows.{log_grows}
 use Rattle.cc_turns.proofs.Taking.{transfer_kept}
 use Rattle.cc_writes.specs.Hands.{WentWith, IsAtRest}
 use Rattle.cc_writes.specs.Visits.{HasPlaced}
-use Rattle.cc_writes.specs.Logs.{MayLog, HasLogged, LogLeft, ReservedLeft}
+use Rattle.cc_writes.specs.Logs.{MayLog, HasLogged, FlushToLsnLeft, ReservedLeft}
 use Rattle.cc_writes.specs.declared.log.LogFlush.{LogFlush}
 use Rattle.cc_writes.specs.declared.log.LogFlush.TheVariants as flush
 use Rattle.cc_writes.proofs.OneVisit.{Visiting, Visited, visited, stepping-none, grows-then, placed-then}
@@ -88,13 +88,13 @@ logged {Q = Q} posted w v e j k away reserved may vis placed = visited posted w 
     less n owed mine others one is = omega (arith, one, is)
 
 -- a log whose turn is held goes on standing while others go on
-pub log-grown : {L : Type 0} (told : L → Option Log) (faults : L → ℕ) (first : LogAtFirst) (w : Standing) (handle : ℕ) (log : LogState L) (seen : List Entry) → w.held.log ≡ Some handle → log.handle ≡ handle → Grows w seen → LogStands told faults first w.seen log → LogStands told faults first seen log
+pub log-grown : {L : Type 0} (told : L → Option Log) (faults : L → ℕ) (first : LogAtFirst) (w : Standing) (handle : ℕ) (log : LogTurnState L) (seen : List Entry) → w.held.log ≡ Some handle → log.handle ≡ handle → Grows w seen → LogStands told faults first w.seen log → LogStands told faults first seen log
 log-grown told faults first w handle log seen held is grows stands =
     subst (λ (past : List Entry). LogStands told faults first past log) (sym grows.grew)
     (log_grows told faults first grows.later w.seen log (grows.quiet (log_turn log.handle) (is_held log.handle w.held.log (held ∙ ap (λ (n : ℕ). Some n) (sym is)))) stands)
 
 -- what it stands for after a step of it, and an entry that tells the step
-log-after : {L : Type 0} (told : L → Option Log) (faults : L → ℕ) (first : LogAtFirst) (log after : LogState L) (front now : List Entry) (m : ℕ) → after.handle ≡ log.handle → faults after.file ≡ faults log.file + m → log_failures log.handle now ≡ log_failures log.handle front + m → Stands told first.told now after → LogStands told faults first front log → LogStands told faults first now after
+log-after : {L : Type 0} (told : L → Option Log) (faults : L → ℕ) (first : LogAtFirst) (log after : LogTurnState L) (front now : List Entry) (m : ℕ) → after.handle ≡ log.handle → faults after.file ≡ faults log.file + m → log_failures log.handle now ≡ log_failures log.handle front + m → Stands told first.told now after → LogStands told faults first front log → LogStands told faults first now after
 log-after told faults first log after front now m same more failed stands before = record {
   stands = stands;
   counted = subst (λ (n : ℕ). faults after.file ≡ first.faults + log_failures n now) (sym same)
@@ -116,12 +116,12 @@ failures-failed pass log past = rw (eq-eqb log log refl) (more (log_failures log
     more n = omega arith
 
 -- What a step of a log gave, told by its own entry where it was done.
-pub record Gave {L T : Type 0} (told : L → Option Log) (faults : L → ℕ) (done : ℕ → ℕ → T → Entry) (result : Result T CcError) (log after : LogState L) : Type 0 where
-  pub counted : faults after.file ≡ faults log.file + faults_by result
+pub record Gave {L T : Type 0} (told : L → Option Log) (faults : L → ℕ) (done : ℕ → ℕ → T → Entry) (result : Result T CcError) (log after : LogTurnState L) : Type 0 where
+  pub counted : faults after.file ≡ faults log.file + log_faults_by result
   pub handle : after.handle ≡ log.handle
-  pub stands : (begun : Option Log) (past : List Entry) (pass : ℕ) → Stands told begun past log → Stands told begun (cons_option (left_by (done pass log.handle) pass log.handle result) past) after
+  pub stands : (begun : Option Log) (past : List Entry) (pass : ℕ) → Stands told begun past log → Stands told begun (cons_option (entry_left_by (done pass log.handle) pass log.handle result) past) after
 
-module _ {L : Type 0} (told : L → Option Log) (faults : L → ℕ) (w x : Standing) (n handle : ℕ) (log : LogState L)
+module _ {L : Type 0} (told : L → Option Log) (faults : L → ℕ) (w x : Standing) (n handle : ℕ) (log : LogTurnState L)
     (held : w.held.log ≡ Some handle) (is : log.handle ≡ handle) (stands : LogStands told faults (w.logs handle) w.seen log)
     (went : WentWith n w x) where
   logs : x.logs handle ≡ w.logs handle
@@ -152,14 +152,14 @@ module _ {L : Type 0} (told : L → Option Log) (faults : L → ℕ) (w x : Stan
   held-floor seen grows = floor_of-held w seen handle held grows ∙ sym (stands.stands.floor_is ∙ ap (λ m. floor_of w.seen m) is)
 
   -- A step of the log was told by the entry that was placed, or by none: it stands for what was seen since.
-  module _ {T : Type 0} (done : ℕ → ℕ → T → Entry) (result : Result T CcError) (after : LogState L) (gave : Gave told faults done result log after) where
-    told-by : (e : Entry) → left_by (done w.number handle) w.number handle result ≡ Some e → ((past : List Entry) → log_failures log.handle (e ∷ past) ≡ log_failures log.handle past + faults_by result) → HasPlaced w e x.seen → LogStands told faults (x.logs handle) x.seen after
+  module _ {T : Type 0} (done : ℕ → ℕ → T → Entry) (result : Result T CcError) (after : LogTurnState L) (gave : Gave told faults done result log after) where
+    told-by : (e : Entry) → entry_left_by (done w.number handle) w.number handle result ≡ Some e → ((past : List Entry) → log_failures log.handle (e ∷ past) ≡ log_failures log.handle past + log_faults_by result) → HasPlaced w e x.seen → LogStands told faults (x.logs handle) x.seen after
     told-by e left failed placed =
         let step : Stands told (w.logs handle).told (e ∷ placed.front) after =
         rw (is, left) at (gave.stands (w.logs handle).told placed.front w.number (held-before placed.front placed.grows).stands) in
         subst (λ (first : LogAtFirst). LogStands told faults first x.seen after) (sym logs)
         (subst (λ (past : List Entry). LogStands told faults (w.logs handle) past after) (sym placed.placed)
-        (log-after told faults (w.logs handle) log after placed.front (e ∷ placed.front) (faults_by result) gave.handle gave.counted
+        (log-after told faults (w.logs handle) log after placed.front (e ∷ placed.front) (log_faults_by result) gave.handle gave.counted
         (failed placed.front) step (held-before placed.front placed.grows)))
 
     pub held-done : (value : T) → result ≡ Ok value → ((past : List Entry) → log_failures log.handle (done w.number handle value ∷ past) ≡ log_failures log.handle past + 0) → HasPlaced w (done w.number handle value) x.seen → LogStands told faults (x.logs handle) x.seen after
@@ -177,17 +177,17 @@ module _ {L : Type 0} (told : L → Option Log) (faults : L → ℕ) (w x : Stan
         none : (a : ℕ) → a ≡ a + 0
         none a = omega arith
 
-        unraised : (e : CcError) → ((failed : ℕ) → e ≡ error.LogFault failed → ⊥) → faults_by {T = T} (Err e) ≡ 0
+        unraised : (e : CcError) → ((failed : ℕ) → e ≡ error.LogFault failed → ⊥) → log_faults_by {T = T} (Err e) ≡ 0
         unraised (error.LogFault failed) other = absurd (other failed refl)
         unraised e other = refl
 
-        untold : (e : CcError) → ((failed : ℕ) → e ≡ error.LogFault failed → ⊥) → left_by {T = T} (done w.number log.handle) w.number log.handle (Err e) ≡ None
+        untold : (e : CcError) → ((failed : ℕ) → e ≡ error.LogFault failed → ⊥) → entry_left_by {T = T} (done w.number log.handle) w.number log.handle (Err e) ≡ None
         untold (error.LogFault failed) other = absurd (other failed refl)
         untold e other = refl
 
 -- a turn of a log that is taken beside those that are held
 pub holds-log : (w x : Standing) (handle : ℕ) → Takes (with_log handle) w x → w.held.log ≡ None → (t : Turn) → holds w.held t ≡ true → holds x.held t ≡ true
-holds-log w x handle takes none t held = subst (λ (h : Held). holds h t ≡ true) (sym (ap (λ y. y.held) takes.same)) (still t held)
+holds-log w x handle takes none t held = subst (λ (h : TurnsHeld). holds h t ≡ true) (sym (ap (λ y. y.held) takes.same)) (still t held)
   where
     still : (t : Turn) → holds w.held t ≡ true → holds (record w.held { log = Some handle }) t ≡ true
     still (Device n) held = held
@@ -199,7 +199,7 @@ holds-log w x handle takes none t held = subst (λ (h : Held). holds h t ≡ tru
     still Journal held = held
 
 -- what the flush of a log leaves, from where the pass stood before it took its turn
-pub left-turn : (w x : Standing) (handle to : ℕ) (result : Result LogFlush CcError) (seen : List Entry) → x.number ≡ w.number → ((t : Turn) → holds w.held t ≡ true → holds x.held t ≡ true) → Grows w x.seen → LogLeft x handle to result seen → LogLeft w handle to result seen
+pub left-turn : (w x : Standing) (handle to : ℕ) (result : Result LogFlush CcError) (seen : List Entry) → x.number ≡ w.number → ((t : Turn) → holds w.held t ≡ true → holds x.held t ≡ true) → Grows w x.seen → FlushToLsnLeft x handle to result seen → FlushToLsnLeft w handle to result seen
 left-turn w x handle to (Ok flush.Reached) seen same keeps first left =
     ⊎_elim
     (λ found. inl (grows-then w x seen same keeps first found.0, found.1))

@@ -11,9 +11,9 @@ use Rattle.cc_laws.proofs.TurnSteps.{is_quiet-none, is_quiet-append}
 use Rattle.cc_model.specs.Good.{IsGood}
 use Rattle.cc_model.specs.Room.{reserved_in}
 use Rattle.cc_model.specs.Turns.{Turn, is_quiet}
-use Rattle.cc_turns.specs.Standing.{Standing, Held, holds}
+use Rattle.cc_turns.specs.Standing.{Standing, TurnsHeld, holds}
 use Rattle.cc_turns.specs.Journal.{JournalStands}
-use Rattle.cc_turns.specs.Takes.{Grows, Takes, Adds, IsOneEvent, IsThere, with_journal, without_journal, may_be_of}
+use Rattle.cc_turns.specs.Takes.{Grows, Takes, AddsEvent, IsOneEvent, IsThere, with_journal, without_journal, may_be_of}
 use Rattle.cc_writes.specs.Hands.{WentWith}
 use Rattle.cc_writes.specs.Visits.{HasPlaced}
 
@@ -55,7 +55,7 @@ pub record SteppingThere {Q : Type 0} (w v : Standing) (flight : ℕ) (added : L
 
 -- What the pass gives, and how it goes on with the journal given.
 pub record Visited {Q : Type 0} (posted : Q → Bool) (w v : Standing) (flight : ℕ) (k : JournalState Q) : Type 0 where
-  pub adds : Adds v k.entries
+  pub adds : AddsEvent v k.entries
   pub journal : JournalStands posted (without_journal k v) k
   pub good : IsGood (without_journal k v).setup k.entries
   pub went : WentWith flight w (without_journal k v)
@@ -67,7 +67,7 @@ visited-there {Q = Q} posted w v flight added j k away vis step = record {
     added = added;
     grew = ap (λ x. x.entries) step.kept ∙ ap (λ past. added ++ past) vis.journal.entries_are;
     event = step.event;
-    held = λ t there free. step.held t (subst (λ (n : ℕ). IsThere n t) (ap (λ (x : Standing). x.streams) vis.taken.same) there) (subst (λ (h : Held). holds h t ≡ false) (ap (λ x. x.held) vis.taken.same) free);
+    held = λ t there free. step.held t (subst (λ (n : ℕ). IsThere n t) (ap (λ (x : Standing). x.streams) vis.taken.same) there) (subst (λ (h : TurnsHeld). holds h t ≡ false) (ap (λ x. x.held) vis.taken.same) free);
     own = subst (λ (n : ℕ). AllByRecursion (λ e. may_be_of n e ≡ true) added) (sym (ap (λ x. x.number) vis.taken.same)) step.own;
   };
   journal = record {
@@ -136,7 +136,7 @@ pub went-held : (n : ℕ) (w x : Standing) → WentWith n w x → x.held ≡ w.h
 went-held n w x went = ap (λ y. y.held) went.same
 
 pub went-holds : (n : ℕ) (w x : Standing) → WentWith n w x → (t : Turn) → holds w.held t ≡ true → holds x.held t ≡ true
-went-holds n w x went t held = subst (λ (h : Held). holds h t ≡ true) (sym (went-held n w x went)) held
+went-holds n w x went t held = subst (λ (h : TurnsHeld). holds h t ≡ true) (sym (went-held n w x went)) held
 
 -- it goes on twice
 pub went-then : (n m : ℕ) (w x y : Standing) → WentWith n w x → WentWith m x y → WentWith m w y

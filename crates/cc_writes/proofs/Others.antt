@@ -12,7 +12,7 @@ use Rattle.cc_effects.proofs.WorkSteps.{works-after, unsynced-append, unsynced-o
 use Rattle.cc_laws.proofs.PassSteps.{faults_since-not_mine}
 use Rattle.cc_model.specs.Faults.{Fault, faults_since}
 use Rattle.cc_model.specs.Setup.{Setup}
-use Rattle.cc_writes.specs.Ways.{IsAtWork, IsStoppedBy, HasFailed, IsHalted}
+use Rattle.cc_writes.specs.Ways.{IsAtWork, IsStoppedBy, WorkHasFailed, IsHalted}
 
 -- a call is still under way
 pub under_way-on : (me : ℕ) (it : Call) (begun old new : List Entry) → IsUnderWay me it begun old → IsIdle me old new → IsUnderWay me it begun new
@@ -55,7 +55,7 @@ pub faults-others : (me : ℕ) (later past : List Entry) → Others me later →
 faults-others me [] past others = refl
 faults-others me (e ∷ later) past others = faults_since-not_mine e (later ++ past) me others.0 ∙ faults-others me later past others.1
 
-pub failed-on : (me : ℕ) (work : Work) (fault : Fault) (begun old new : List Entry) → HasFailed me work fault begun old → IsIdle me old new → HasFailed me work fault begun new
+pub failed-on : (me : ℕ) (work : Work) (fault : Fault) (begun old new : List Entry) → WorkHasFailed me work fault begun old → IsIdle me old new → WorkHasFailed me work fault begun new
 failed-on me work fault begun old new failed idle = record {
   stop = failed.stop;
   stopped = stopped_by-on me work failed.stop begun old new failed.stopped idle;

@@ -20,7 +20,7 @@ use Rattle.cc_model.specs.Setup.{Setup}
 use Rattle.cc_model.specs.Touches.{is_dirty}
 use Rattle.cc_model.specs.Turns.{Turn, Device, Book, Log, Journal, needs, is_quiet}
 use Rattle.cc_step.proofs.Placed.{so-far}
-use Rattle.cc_turns.specs.Standing.{Held, is_the, holds}
+use Rattle.cc_turns.specs.Standing.{TurnsHeld, is_the, holds}
 
 nothing_owed : (e : Entry) (past : List Entry) → owed_begin past ≡ None → IsOwed (owed_begin past) e
 nothing_owed e past none = rw none tt
@@ -81,7 +81,7 @@ clash e = absurd (cc)
 away : (n m : ℕ) (held : Option ℕ) → held ≡ Some m → is_the n held ≡ false → (n == m) ≡ false
 away n m held is free = eqb-swapped m n (rw is at free)
 
-pub quiet-log : (h : Held) (handle : ℕ) (e : Entry) → ((t : Turn) → needs e t ≡ needs (entry.LogFailed 0 handle) t) → h.log ≡ Some handle → h.journal ≡ true → (t : Turn) → holds h t ≡ false → is_quiet t (e ∷ []) ≡ true
+pub quiet-log : (h : TurnsHeld) (handle : ℕ) (e : Entry) → ((t : Turn) → needs e t ≡ needs (entry.LogFailed 0 handle) t) → h.log ≡ Some handle → h.journal ≡ true → (t : Turn) → holds h t ≡ false → is_quiet t (e ∷ []) ≡ true
 quiet-log h handle e same log journal t free = is_quiet-unneeded t e [] (same t ∙ unneeded t free) ∙ is_quiet-none t
   where
     unneeded : (x : Turn) → holds h x ≡ false → needs (entry.LogFailed 0 handle) x ≡ false
@@ -90,7 +90,7 @@ quiet-log h handle e same log journal t free = is_quiet-unneeded t e [] (same t 
     unneeded (Log n) apart = eqb-swapped handle n (rw log at apart)
     unneeded Journal apart = absurd (clash (sym journal ∙ apart))
 
-pub quiet-page : (h : Held) (page : Page) (e : Entry) → ((t : Turn) → needs e t ≡ needs (entry.WriteBegin 0 page) t) → h.book ≡ Some page.stream → h.device ≡ Some page.stream → h.journal ≡ true → (t : Turn) → holds h t ≡ false → is_quiet t (e ∷ []) ≡ true
+pub quiet-page : (h : TurnsHeld) (page : Page) (e : Entry) → ((t : Turn) → needs e t ≡ needs (entry.WriteBegin 0 page) t) → h.book ≡ Some page.stream → h.device ≡ Some page.stream → h.journal ≡ true → (t : Turn) → holds h t ≡ false → is_quiet t (e ∷ []) ≡ true
 quiet-page h page e same book device journal t free = is_quiet-unneeded t e [] (same t ∙ unneeded t free) ∙ is_quiet-none t
   where
     unneeded : (x : Turn) → holds h x ≡ false → needs (entry.WriteBegin 0 page) x ≡ false

@@ -18,7 +18,7 @@ use Rattle.cc_model.specs.Passes.{calls_of}
 use Rattle.cc_model.specs.Room.{reserved_in}
 use Rattle.cc_model.specs.Turns.{Turn, Device, Book, Log as log_turn, Journal, is_book, is_device, is_journal, call_needs, needs}
 use Rattle.cc_step.specs.Step.{StandUnder, Adds, AddsOwing, AttemptDone, is_stepped}
-use Rattle.cc_turns.specs.Standing.{Standing, Held, holds}
+use Rattle.cc_turns.specs.Standing.{Standing, TurnsHeld, holds}
 use Rattle.cc_turns.specs.Takes.{may_be_of}
 use Rattle.cc_writes.specs.Hands.{HasBook}
 use Rattle.cc_writes.proofs.Visiting.{Visiting, Stepping}
@@ -52,13 +52,13 @@ needs-book s (call.Discard file span) (outcome.Failed e) t alone = refl
 needs-book s other (outcome.Failed e) t alone = refl
 
 -- a turn that is not held is none of a book's that is
-away-book : (held : Held) (s : ℕ) (t : Turn) → held.book ≡ Some s → holds (record held { journal = true }) t ≡ false → (is_journal t || is_book s t) ≡ false
+away-book : (held : TurnsHeld) (s : ℕ) (t : Turn) → held.book ≡ Some s → holds (record held { journal = true }) t ≡ false → (is_journal t || is_book s t) ≡ false
 away-book held s (Device n) book away = refl
 away-book held s (Book n) book away = eqb-swapped s n (rw book at away)
 away-book held s (log_turn n) book away = refl
 away-book held s Journal book away = absurd (cc)
 
-away-device : (held : Held) (s : ℕ) (t : Turn) → held.device ≡ Some s → holds (record held { journal = true }) t ≡ false → is_device s t ≡ false
+away-device : (held : TurnsHeld) (s : ℕ) (t : Turn) → held.device ≡ Some s → holds (record held { journal = true }) t ≡ false → is_device s t ≡ false
 away-device held s (Device n) device away = eqb-swapped s n (rw device at away)
 away-device held s (Book n) device away = refl
 away-device held s (log_turn n) device away = refl
@@ -74,20 +74,20 @@ last-two false b c none other = other
 last-two true b c none other = absurd (cc)
 
 -- what is not held is needed by no call on the stream, and by no page that comes in or goes out
-pub unneeded-call : (held : Held) (me nth s : ℕ) (it : Call) (ended : Outcome) → IsBookAlone it ended → held.book ≡ Some s → (t : Turn) → holds (record held { journal = true }) t ≡ false → needs (entry.Call me nth (Some s) it ended) t ≡ false
+pub unneeded-call : (held : TurnsHeld) (me nth s : ℕ) (it : Call) (ended : Outcome) → IsBookAlone it ended → held.book ≡ Some s → (t : Turn) → holds (record held { journal = true }) t ≡ false → needs (entry.Call me nth (Some s) it ended) t ≡ false
 unneeded-call held me nth s it ended is book t away = ap (λ b. is_journal t || b) (needs-book s it ended t is) ∙ away-book held s t book away
 
-pub unneeded-page : (held : Held) (s : ℕ) → held.book ≡ Some s → held.device ≡ Some s → (t : Turn) → holds (record held { journal = true }) t ≡ false → (is_journal t || (is_book s t || is_device s t)) ≡ false
+pub unneeded-page : (held : TurnsHeld) (s : ℕ) → held.book ≡ Some s → held.device ≡ Some s → (t : Turn) → holds (record held { journal = true }) t ≡ false → (is_journal t || (is_book s t || is_device s t)) ≡ false
 unneeded-page held s book device t away = either (is_journal t) (is_book s t) (is_device s t) (away-book held s t book away) (away-device held s t device away)
 
-pub unneeded-device : (held : Held) (s : ℕ) → held.book ≡ Some s → held.device ≡ Some s → (t : Turn) → holds (record held { journal = true }) t ≡ false → (is_journal t || is_device s t) ≡ false
+pub unneeded-device : (held : TurnsHeld) (s : ℕ) → held.book ≡ Some s → held.device ≡ Some s → (t : Turn) → holds (record held { journal = true }) t ≡ false → (is_journal t || is_device s t) ≡ false
 unneeded-device held s book device t away = last-two (is_journal t) (is_book s t) (is_device s t) (away-book held s t book away) (away-device held s t device away)
 
 module _ {Q : Type 0} (posted : Q → Bool) (w v : Standing) (b c : BookState) (j k : JournalState Q)
     (has : HasBook w b.stream b) (vis : Visiting posted w v b.stream b j) where
   -- the book's turn is held
   pub has-book : w.held.book ≡ Some b.stream
-  has-book = ap (λ (h : Held). h.book) has.held
+  has-book = ap (λ (h : TurnsHeld). h.book) has.held
 
   -- it placed nothing, and so many places are under way now
   pub stepping-none : (flight : ℕ) → k ≡ record j { reserved = k.reserved } → StandUnder w.setup c k → c.stream ≡ b.stream → k.reserved + w.in_flight ≡ j.reserved + flight → Stepping w v b.stream flight [] c j k

@@ -14,7 +14,7 @@ use Rattle.cc_model.specs.Logs.{floor_of, flush_of, flushed_to}
 use Rattle.cc_model.specs.Settings.{log_of}
 use Rattle.cc_model.specs.Stamps.{newest_of}
 use Rattle.cc_model.specs.Turns.{Device, Book, Log}
-use Rattle.cc_turns.specs.Standing.{Standing, Held, is_the, nothing}
+use Rattle.cc_turns.specs.Standing.{Standing, TurnsHeld, is_the, nothing}
 use Rattle.cc_turns.specs.Takes.{Grows}
 use Rattle.cc_writes.specs.Hands.{HasBook, IsAtRest, WentWith}
 use Rattle.cc_writes.specs.Logs.{HoldsBoth}
@@ -92,7 +92,7 @@ logged-kept past now s p same further is = record {
 -- The pass has the book in its hands as before, where it goes on.
 pub book-after : (n : ℕ) (w x : Standing) (s : ℕ) (b c : BookState) → HasBook w s b → WentWith n w x → c.stream ≡ s → BookStands (w.setup.opening s) x.seen c → IsGood x.setup x.seen → HasBook x s c
 book-after n w x s b c has went stream stands good = record {
-  held = went-held n w x went ∙ (has.held ∙ ap (λ (h : Held). record nothing { device = h.device; book = Some s }) (sym (went-held n w x went)));
+  held = went-held n w x went ∙ (has.held ∙ ap (λ (h : TurnsHeld). record nothing { device = h.device; book = Some s }) (sym (went-held n w x went)));
   stream = stream;
   stands = subst (λ u. BookStands (u.opening s) x.seen c) (sym (ap (λ y. y.setup) went.same)) stands;
   good = good;

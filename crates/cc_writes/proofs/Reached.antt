@@ -10,7 +10,7 @@ use Rattle.cc_entry.specs.Place.{Range}
 use Rattle.cc_entry.specs.declared.call.Call.{Call}
 use Rattle.cc_entry.specs.declared.call.Call.TheVariants as call
 use Rattle.cc_entry.specs.declared.entry.Entry.{Entry}
-use Rattle.cc_effects.specs.Asked.{brings_in, is_of, range_has, reaches}
+use Rattle.cc_effects.specs.Asked.{brings_in, is_file_of_page, range_has, reaches}
 use Rattle.cc_model.specs.Acts.{file_of}
 use Rattle.cc_model.specs.History.{Effect, history}
 use Rattle.cc_model.specs.Ranges.{range_of}
@@ -18,7 +18,7 @@ use Rattle.cc_model.specs.Residency.{is_resident}
 use Rattle.cc_model.specs.Touches.{size_of}
 use Rattle.cc_step.proofs.Waiting.{needed-range}
 use Rattle.cc_step.specs.Step.{is_stepped, least_absent, needed_range}
-use Rattle.cc_writes.specs.Visits.{IsOf}
+use Rattle.cc_writes.specs.Visits.{CallIsOfStream}
 
 -- what is found among numbers that follow one another lies between the ends
 find-range : (test : ℕ → Bool) (from len p : ℕ) → find test (range_with_len from len) ≡ Some p → (from ≤ p) × (p < from + len)
@@ -52,7 +52,7 @@ same-stream : (a b : ℕ) → Some a ≡ Some b → (b == a) ≡ true
 same-stream a b e = eq-eqb b a (cc)
 
 -- a call that fetches pages is of its file's stream
-of-stream : (it : Call) (s p : ℕ) → is_stepped it ≡ true → brings_in it ≡ true → IsOf it s → is_of (file_of it) (record { stream = s; page = p }) ≡ true
+of-stream : (it : Call) (s p : ℕ) → is_stepped it ≡ true → brings_in it ≡ true → CallIsOfStream it s → is_file_of_page (file_of it) (record { stream = s; page = p }) ≡ true
 of-stream (call.CopyRead file at len true) s p stepped brings filed = same-stream s file.stream (filed [] 0)
 of-stream (call.CopyRead file at len false) s p stepped brings filed = absurd (cc)
 of-stream (call.CopyWrite file at bytes) s p stepped brings filed = same-stream s file.stream (filed [] 0)
@@ -65,7 +65,7 @@ of-stream (call.MdlWrite file at len) s p stepped brings filed = same-stream s f
 of-stream (call.AheadStep request) s p stepped brings filed = same-stream s request.file.stream (filed [] 0)
 of-stream other s p stepped brings filed = absurd (cc)
 
-pub reached : (it : Call) (s p : ℕ) (past : List Entry) → is_stepped it ≡ true → brings_in it ≡ true → IsOf it s → least_absent (history past s) (needed_range (history past s) it) ≡ Some p → reaches it (record { stream = s; page = p }) past ≡ true
+pub reached : (it : Call) (s p : ℕ) (past : List Entry) → is_stepped it ≡ true → brings_in it ≡ true → CallIsOfStream it s → least_absent (history past s) (needed_range (history past s) it) ≡ Some p → reaches it (record { stream = s; page = p }) past ≡ true
 reached it s p past stepped brings filed least = both-so _ _ (of-stream it s p stepped brings filed) (by (needed_range h it) refl least)
   where
     h : List Effect

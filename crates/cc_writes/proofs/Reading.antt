@@ -16,7 +16,7 @@ use Rattle.cc_model.specs.History.{history}
 use Rattle.cc_model.specs.Setup.{Setup}
 use Rattle.cc_turns.specs.Transfers.{CanRead, fill_failed}
 use Rattle.cc_turns.specs.Disk.{DiskStands, opening_of}
-use Rattle.cc_turns.specs.Standing.{Standing, DiskAtFirst, Held, nothing}
+use Rattle.cc_turns.specs.Standing.{Standing, DiskAtFirst, TurnsHeld, nothing}
 use Rattle.cc_turns.specs.Takes.{Takes, with_book, without_book}
 use Rattle.cc_turns.proofs.DiskGrows.{disk_grows}
 use Rattle.cc_turns.proofs.Taking.{disk_kept, transfer_kept}
@@ -56,14 +56,14 @@ module _ {D : Type 0} (told : D → Option Disk) (faults : D → ℕ) (w v : Sta
   disk_given now stands = disk_kept told faults (with_book s) (without_book w) v s now took refl both.rest.device stands
 
   held_same : v.held ≡ w.held
-  held_same = ap (λ x. x.held) took.same ∙ subst (λ (h : Held). record h { book = Some s } ≡ h) (sym both.book.held) refl
+  held_same = ap (λ x. x.held) took.same ∙ subst (λ (h : TurnsHeld). record h { book = Some s } ≡ h) (sym both.book.held) refl
 
   pub opening_same : v.setup.opening s ≡ opening_of (v.disks s).told
   opening_same = ap (λ x. x.setup.opening s) took.same ∙ (both.opening ∙ ap (λ x. opening_of (x.disks s).told) (sym took.same))
 
   book_taken : (c : BookState) → c.stream ≡ s → BookStands (v.setup.opening s) v.seen c → HasBook v s c
   book_taken c is stands = record {
-    held = subst (λ (h : Held). h ≡ record nothing { device = h.device; book = Some s }) (sym held_same) both.book.held;
+    held = subst (λ (h : TurnsHeld). h ≡ record nothing { device = h.device; book = Some s }) (sym held_same) both.book.held;
     stream = is;
     stands = stands;
     good = took.good;
@@ -71,7 +71,7 @@ module _ {D : Type 0} (told : D → Option Disk) (faults : D → ℕ) (w v : Sta
 
   rest_taken : IsAtRest v s
   rest_taken = record {
-    device = ap (λ (h : Held). h.device) held_same ∙ both.rest.device;
+    device = ap (λ (h : TurnsHeld). h.device) held_same ∙ both.rest.device;
     no_transfer = transfer_kept (with_book s) (without_book w) v s took both.rest.device ∙ both.rest.no_transfer;
   }
 

@@ -9,8 +9,8 @@ use Rattle.cc_effects.specs.Moments.{IsIdle}
 use Rattle.cc_journal.specs.Journal.{JournalState}
 use Rattle.cc_model.specs.Good.{IsGood}
 use Rattle.cc_turns.specs.Journal.{JournalStands}
-use Rattle.cc_turns.specs.Standing.{Standing, Held, nothing}
-use Rattle.cc_turns.specs.Takes.{Grows, Takes, Adds, with_journal, without_journal}
+use Rattle.cc_turns.specs.Standing.{Standing, TurnsHeld, nothing}
+use Rattle.cc_turns.specs.Takes.{Grows, Takes, AddsEvent, with_journal, without_journal}
 use Rattle.cc_turns.proofs.Taking.{book_kept, adds_nothing}
 use Rattle.cc_writes.specs.Hands.{HasBook, IsAtRest, SameDisk}
 use Rattle.cc_writes.proofs.Others.{under_way-on}
@@ -21,7 +21,7 @@ module _ {Q : Type 0} {n : ℕ} (posted : Q → Bool) (w v : Standing) (j k : Jo
   entries_same : k.entries ≡ v.seen
   entries_same = ap (λ (i : JournalState Q). i.entries) released ∙ stands.entries_are
 
-  pub adds_none : Adds v k.entries
+  pub adds_none : AddsEvent v k.entries
   adds_none = adds_nothing v k.entries entries_same
 
   module _ (x : Standing) (given : x ≡ without_journal k v) (free : w.held.journal ≡ false) where
@@ -43,11 +43,11 @@ module _ {Q : Type 0} {n : ℕ} (posted : Q → Bool) (w v : Standing) (j k : Jo
 
     pub book_released : (s : ℕ) (b : BookState) → HasBook w s b → HasBook x s b
     book_released s b has = record {
-      held = subst (λ (h : Held). h ≡ record nothing { device = h.device; book = Some s }) (sym held_same) has.held;
+      held = subst (λ (h : TurnsHeld). h ≡ record nothing { device = h.device; book = Some s }) (sym held_same) has.held;
       stream = has.stream;
       stands = subst (λ (y : Standing). BookStands (y.setup.opening s) y.seen b) (sym given)
           (subst (λ (past : List Entry). BookStands (v.setup.opening s) past b) (sym entries_same)
-          (book_kept with_journal w v s b taken refl (ap (λ (h : Held). h.book) has.held) has.stream has.stands));
+          (book_kept with_journal w v s b taken refl (ap (λ (h : TurnsHeld). h.book) has.held) has.stream has.stands));
       good = subst (λ (y : Standing). IsGood y.setup y.seen) (sym given) (subst (λ (past : List Entry). IsGood v.setup past) (sym entries_same) taken.good);
     }
 
@@ -56,7 +56,7 @@ module _ {Q : Type 0} {n : ℕ} (posted : Q → Bool) (w v : Standing) (j k : Jo
 
     pub rest_released : (s : ℕ) → IsAtRest w s → IsAtRest x s
     rest_released s rest = record {
-      device = ap (λ (h : Held). h.device) held_same ∙ rest.device;
+      device = ap (λ (h : TurnsHeld). h.device) held_same ∙ rest.device;
       no_transfer = rest-same w.seen x.seen s (disk_released s rest.device) rest.no_transfer;
     }
 

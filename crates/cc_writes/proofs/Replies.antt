@@ -23,7 +23,7 @@ use Rattle.cc_step.proofs.Reasons.{is_listed}
 use Rattle.cc_turns.specs.Journal.{JournalStands}
 use Rattle.cc_turns.specs.Standing.{Standing}
 use Rattle.cc_writes.specs.Told.{FitsReply}
-use Rattle.cc_writes.specs.Ways.{FitsIn, IsFull}
+use Rattle.cc_writes.specs.Ways.{ReadFitsIn, IsFull}
 
 -- the reply of a done call is the one that the definition gives at its front
 pub replied : (u : Setup) (pass s : ℕ) (it : Call) (r : Reply) (past : List Entry) → IsGood u (done pass past s it r ∷ past) → IsReply u past (u.opening s) (history past s) pass it r
@@ -44,7 +44,7 @@ reads-fit (Some pages) h at len r out reads fits =
     let long : length (answer pages h at len) ≡ answer_length h at len = length-map (range_with_len at (answer_length h at len)) (byte_of pages h) ∙ length-range_with_len at (answer_length h at len) in
     subst (λ (x : Reply). FitsReply x out) (sym reads) (omega (arith, long, short, fits))
 
-pub fits-reply : (u : Setup) (past : List Entry) (told : Option (ℕ → List ℕ)) (h : List Effect) (pass : ℕ) (it : Call) (r : Reply) (out : List ℕ) → is_stepped it ≡ true → IsReply u past told h pass it r → FitsIn it out → FitsReply r out
+pub fits-reply : (u : Setup) (past : List Entry) (told : Option (ℕ → List ℕ)) (h : List Effect) (pass : ℕ) (it : Call) (r : Reply) (out : List ℕ) → is_stepped it ≡ true → IsReply u past told h pass it r → ReadFitsIn it out → FitsReply r out
 fits-reply u past told h pass (call.CopyRead file at len wait) r out here is fits = reads-fit told h at len r out is fits
 fits-reply u past told h pass (call.MappedRead hold at len) r out here is fits = reads-fit told h at len r out is fits
 fits-reply u past told h pass (call.PinnedRead hold at len) r out here is fits = reads-fit told h at len r out is fits

@@ -16,7 +16,7 @@ use Rattle.cc_model.specs.Turns.{Book, Device}
 use Rattle.cc_turns.specs.Standing.{Standing, is_the}
 use Rattle.cc_turns.specs.Takes.{Grows}
 use Rattle.cc_writes.specs.Hands.{IsAtRest, SameDisk, WentWith}
-use Rattle.cc_writes.specs.Visits.{IsFiledNow, IsOf}
+use Rattle.cc_writes.specs.Visits.{IsFiledNow, CallIsOfStream}
 use Rattle.cc_writes.proofs.VisitDisks.{disk-quiet}
 
 pub is-held : (s : ℕ) (device : Option ℕ) → device ≡ Some s → is_the s device ≡ true
@@ -34,7 +34,7 @@ filed-held w s it seen book grows filed =
     subst (λ (holds : List Hold). IsFiled holds w.number (Some s) it (file_of it)) (sym (holds-held w s seen book grows)) filed
 
 -- one that is filed whatever holds are open is filed there now
-pub filed-now : (w : Standing) (s : ℕ) (it : Call) → IsOf it s → IsFiledNow w s it
+pub filed-now : (w : Standing) (s : ℕ) (it : Call) → CallIsOfStream it s → IsFiledNow w s it
 filed-now w s it filed = filed (holds_of (history w.seen s)) w.number
 
 -- others leave the disk whose turn is held

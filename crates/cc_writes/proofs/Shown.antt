@@ -14,7 +14,7 @@ use Rattle.cc_effects.proofs.Stretches.{own-others, own-after}
 use Rattle.cc_laws.proofs.HistorySteps.{history-log_flushed}
 use Rattle.cc_model.specs.History.{history}
 use Rattle.cc_turns.specs.Transfers.{transferred}
-use Rattle.cc_turns.specs.Standing.{Held, Standing}
+use Rattle.cc_turns.specs.Standing.{TurnsHeld, Standing}
 use Rattle.cc_turns.specs.Takes.{Grows}
 use Rattle.cc_writes.specs.Hands.{WentWith}
 use Rattle.cc_writes.specs.Writes.{IsBefore, HasTransferred, WriteShown}
@@ -22,8 +22,8 @@ use Rattle.cc_writes.specs.Logs.{FlushLeft, ReachedBy, IsWant}
 use Rattle.cc_writes.specs.Transfers.{IsTransferred, PutLeft}
 use Rattle.cc_writes.specs.declared.log.LogFlush.{LogFlush}
 use Rattle.cc_writes.specs.declared.log.LogFlush.TheVariants as flush
-use Rattle.cc_writes.specs.declared.writes.PageWrite.{PageWrite}
-use Rattle.cc_writes.specs.declared.writes.PageWrite.TheVariants as write
+use Rattle.cc_writes.specs.declared.writes.PageTransfer.{PageTransfer}
+use Rattle.cc_writes.specs.declared.writes.PageTransfer.TheVariants as write
 use Rattle.cc_writes.proofs.Landing.{history-held}
 use Rattle.cc_writes.proofs.OneVisit.{went-number, went-held}
 
@@ -53,7 +53,7 @@ before-then w x past same held is grows = record {
   grew = grows.grew ∙ (ap (λ l. grows.later ++ l) is.grew ∙ sym (append_assoc grows.later is.since w.seen));
   only = subst (λ (l : List Entry). (l ≡ []) ⊎ ((handle : ℕ) × (to : ℕ) × (l ≡ entry.Flushed w.number handle to ∷ [])))
       (sym (own-after w.number grows.later is.since (subst (λ (m : ℕ). Others m grows.later) same grows.others))) is.only;
-  same = λ s book device. history-held x s past (ap (λ (h : Held). h.book) held ∙ book) (ap (λ (h : Held). h.device) held ∙ device) grows ∙ is.same s book device;
+  same = λ s book device. history-held x s past (ap (λ (h : TurnsHeld). h.book) held ∙ book) (ap (λ (h : TurnsHeld). h.device) held ∙ device) grows ∙ is.same s book device;
 }
 
 transferred-then : (w x : Standing) (page : Page) (how : End) (keeps : Bool) (seen : List Entry) → x.number ≡ w.number → x.held ≡ w.held → IsBefore w x.seen → IsTransferred x page how keeps seen → HasTransferred w page how keeps seen
@@ -67,7 +67,7 @@ transferred-then w x page how keeps seen same held is ended = record {
   placed = ended.placed ∙ ap (λ (m : ℕ). transferred m page.stream page.page how ended.later ended.before) same;
 }
 
-put-shown : (w x : Standing) (page : Page) (keeps : Bool) (result : Result PageWrite CcError) (seen : List Entry) → x.number ≡ w.number → x.held ≡ w.held → IsBefore w x.seen → PutLeft x page keeps result seen → WriteShown w page keeps result seen
+put-shown : (w x : Standing) (page : Page) (keeps : Bool) (result : Result PageTransfer CcError) (seen : List Entry) → x.number ≡ w.number → x.held ≡ w.held → IsBefore w x.seen → PutLeft x page keeps result seen → WriteShown w page keeps result seen
 put-shown w x page keeps (Ok write.Written) seen same held is left = transferred-then w x page how.Good keeps seen same held is left
 put-shown w x page keeps (Ok write.NotWritten) seen same held is left = transferred-then w x page how.Failed keeps seen same held is left
 put-shown w x page keeps (Ok (write.NotLogged handle)) seen same held is left = absurd left
@@ -82,7 +82,7 @@ want-shown w page keeps error.NoMemory seen want grows = inl (before-grown w see
 want-shown w page keeps other seen want grows = absurd want
 
 module _ (n : ℕ) (w x : Standing) (page : Page) (keeps : Bool) (went : WentWith n w x) (flushed : Result LogFlush CcError) (left : FlushLeft w page flushed x.seen) where
-  pub written-shown : (result : Result PageWrite CcError) (seen : List Entry) → flushed ≡ Ok flush.Reached → PutLeft x page keeps result seen → WriteShown w page keeps result seen
+  pub written-shown : (result : Result PageTransfer CcError) (seen : List Entry) → flushed ≡ Ok flush.Reached → PutLeft x page keeps result seen → WriteShown w page keeps result seen
   written-shown result seen reached put =
       let there = subst (λ (r : Result LogFlush CcError). FlushLeft w page r x.seen) reached left in
       put-shown w x page keeps result seen (went-number n w x went) (went-held n w x went) (before-reached w page x.seen there.0) put

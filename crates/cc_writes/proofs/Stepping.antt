@@ -9,16 +9,16 @@ use Rattle.cc_effects.proofs.Starts.{begins}
 use Rattle.cc_model.specs.Setup.{Setup}
 use Rattle.cc_turns.specs.Standing.{Standing}
 use Rattle.cc_writes.specs.Hands.{WentWith}
-use Rattle.cc_writes.specs.Visits.{StepLeft, IsToBeWritten, IsWaitedFor}
-use Rattle.cc_writes.specs.declared.visits.Step.{Step}
-use Rattle.cc_writes.specs.declared.visits.Step.TheVariants as step
-use Rattle.cc_writes.specs.Calls.{PageLeft}
+use Rattle.cc_writes.specs.Visits.{CallStepLeft, IsToBeWritten, IsWaitedFor}
+use Rattle.cc_writes.specs.declared.visits.CallStep.{CallStep}
+use Rattle.cc_writes.specs.declared.visits.CallStep.TheVariants as step
+use Rattle.cc_writes.specs.Calls.{PageStepLeft}
 use Rattle.cc_writes.specs.Rounds.{RoundLeft, course_of}
 
 -- what the step left of the call, wherever it began
-abbrev pub HasStepped : Standing → Standing → ℕ → Call → Step → List ℕ → List ℕ → Type 0
+abbrev pub HasStepped : Standing → Standing → ℕ → Call → CallStep → List ℕ → List ℕ → Type 0
 HasStepped w v s it r was now =
-    (begun : List Entry) → IsUnderWay w.number it begun w.seen → StepLeft w.setup w.number s it r begun v.seen was now
+    (begun : List Entry) → IsUnderWay w.number it begun w.seen → CallStepLeft w.setup w.number s it r begun v.seen was now
 
 module _ (w v : Standing) (s flight : ℕ) (it again : Call) (page : ℕ) (was now : List ℕ) (went : WentWith flight w v) where
   setup_same : v.setup ≡ w.setup
@@ -45,20 +45,20 @@ module _ (w v : Standing) (s flight : ℕ) (it again : Call) (page : ℕ) (was n
       (subst (λ (u : Setup). IsWaitedFor u s it page v.seen) (sym setup_same) (stepped w.seen (begins w.number it w.seen)).2))
 
   -- what the round left, by what its page step left
-  of_page : (r : Result Call CcError) (begun new : List Entry) → again ≡ it → now ≡ was → PageLeft w.setup w.number again r begun new → RoundLeft w.setup w.number it (course_of r) begun new was now
+  of_page : (r : Result Call CcError) (begun new : List Entry) → again ≡ it → now ≡ was → PageStepLeft w.setup w.number again r begun new → RoundLeft w.setup w.number it (course_of r) begun new was now
   of_page (Ok on) begun new same told left = (left.0 ∙ same, subst (λ (a : Call). IsUnderWay w.number a begun new) same left.1, told)
-  of_page (Err e) begun new same told left = (subst (λ (a : Call). PageLeft w.setup w.number a (Err e) begun new) same left, told)
+  of_page (Err e) begun new same told left = (subst (λ (a : Call). PageStepLeft w.setup w.number a (Err e) begun new) same left, told)
 
-  of_step : (r : Result Call CcError) (begun new : List Entry) → again ≡ it → IsUnderWay w.number it begun v.seen → now ≡ was → ((earlier : List Entry) → IsUnderWay v.number again earlier v.seen → PageLeft v.setup v.number again r earlier new) → RoundLeft w.setup w.number it (course_of r) begun new was now
+  of_step : (r : Result Call CcError) (begun new : List Entry) → again ≡ it → IsUnderWay w.number it begun v.seen → now ≡ was → ((earlier : List Entry) → IsUnderWay v.number again earlier v.seen → PageStepLeft v.setup v.number again r earlier new) → RoundLeft w.setup w.number it (course_of r) begun new was now
   of_step r begun new same way told left =
       let number : v.number ≡ w.number = ap (λ x. x.number) went.same in
       let here : IsUnderWay v.number again begun v.seen =
       subst (λ (n : ℕ). IsUnderWay n again begun v.seen) (sym number) (subst (λ (a : Call). IsUnderWay w.number a begun v.seen) (sym same) way) in
       of_page r begun new same told
-      (subst (λ (n : ℕ). PageLeft w.setup n again r begun new) number (subst (λ (u : Setup). PageLeft u v.number again r begun new) setup_same (left begun here)))
+      (subst (λ (n : ℕ). PageStepLeft w.setup n again r begun new) number (subst (λ (u : Setup). PageStepLeft u v.number again r begun new) setup_same (left begun here)))
 
-  pub round_wrote : (r : Result Call CcError) (new : List Entry) → HasStepped w v s it (step.Writes page again) was now → ((earlier : List Entry) → IsUnderWay v.number again earlier v.seen → PageLeft v.setup v.number again r earlier new) → (begun : List Entry) → IsUnderWay w.number it begun w.seen → RoundLeft w.setup w.number it (course_of r) begun new was now
+  pub round_wrote : (r : Result Call CcError) (new : List Entry) → HasStepped w v s it (step.Writes page again) was now → ((earlier : List Entry) → IsUnderWay v.number again earlier v.seen → PageStepLeft v.setup v.number again r earlier new) → (begun : List Entry) → IsUnderWay w.number it begun w.seen → RoundLeft w.setup w.number it (course_of r) begun new was now
   round_wrote r new stepped left begun way = let x = stepped begun way in of_step r begun new x.0 x.1 x.3 left
 
-  pub round_read : (r : Result Call CcError) (new : List Entry) → HasStepped w v s it (step.Reads page again) was now → ((earlier : List Entry) → IsUnderWay v.number again earlier v.seen → PageLeft v.setup v.number again r earlier new) → (begun : List Entry) → IsUnderWay w.number it begun w.seen → RoundLeft w.setup w.number it (course_of r) begun new was now
+  pub round_read : (r : Result Call CcError) (new : List Entry) → HasStepped w v s it (step.Reads page again) was now → ((earlier : List Entry) → IsUnderWay v.number again earlier v.seen → PageStepLeft v.setup v.number again r earlier new) → (begun : List Entry) → IsUnderWay w.number it begun w.seen → RoundLeft w.setup w.number it (course_of r) begun new was now
   round_read r new stepped left begun way = let x = stepped begun way in of_step r begun new x.0 x.1 x.3 left

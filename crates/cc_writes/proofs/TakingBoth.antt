@@ -15,7 +15,7 @@ use Rattle.cc_model.specs.History.{history}
 use Rattle.cc_model.specs.Images.{open_of}
 use Rattle.cc_model.specs.Setup.{Setup}
 use Rattle.cc_turns.specs.Disk.{DiskStands, opening_of}
-use Rattle.cc_turns.specs.Standing.{Standing, Held, nothing}
+use Rattle.cc_turns.specs.Standing.{Standing, TurnsHeld, nothing}
 use Rattle.cc_turns.specs.Takes.{Takes, with_device, with_book, without_device, without_book}
 use Rattle.cc_turns.proofs.Taking.{disk_kept, transfer_kept}
 use Rattle.cc_writes.specs.Ways.{EndedSo}
@@ -26,10 +26,10 @@ use Rattle.cc_writes.specs.Fetch.{CanCall}
 
 module _ (w v x : Standing) (s : ℕ) (can : CanCall w s) (first : Takes (with_device s) w v) (second : Takes (with_book s) v x) where
   device_held : v.held ≡ record nothing { device = Some s }
-  device_held = ap (λ (y : Standing). y.held) first.same ∙ ap (λ (h : Held). record h { device = Some s }) can.free
+  device_held = ap (λ (y : Standing). y.held) first.same ∙ ap (λ (h : TurnsHeld). record h { device = Some s }) can.free
 
   both_held : x.held ≡ record nothing { device = Some s; book = Some s }
-  both_held = ap (λ (y : Standing). y.held) second.same ∙ ap (λ (h : Held). record h { book = Some s }) device_held
+  both_held = ap (λ (y : Standing). y.held) second.same ∙ ap (λ (h : TurnsHeld). record h { book = Some s }) device_held
 
   number_first : v.number ≡ w.number
   number_first = ap (λ (y : Standing). y.number) first.same
@@ -52,16 +52,16 @@ module _ (w v x : Standing) (s : ℕ) (can : CanCall w s) (first : Takes (with_d
     in_hand : HasBoth told faults x s b disk
     in_hand = record {
       book = record {
-        held = both_held ∙ ap (λ (o : Option ℕ). record nothing { device = o; book = Some s }) (sym (ap (λ (h : Held). h.device) both_held));
+        held = both_held ∙ ap (λ (o : Option ℕ). record nothing { device = o; book = Some s }) (sym (ap (λ (h : TurnsHeld). h.device) both_held));
         stream = b_is;
         stands = b_stands;
         good = second.good;
       };
       rest = record {
-        device = ap (λ (h : Held). h.device) both_held;
-        no_transfer = transfer_kept (with_book s) v x s second (ap (λ (h : Held). h.device) device_held) ∙ at_rest;
+        device = ap (λ (h : TurnsHeld). h.device) both_held;
+        no_transfer = transfer_kept (with_book s) v x s second (ap (λ (h : TurnsHeld). h.device) device_held) ∙ at_rest;
       };
-      disk = disk_kept told faults (with_book s) v x s disk second refl (ap (λ (h : Held). h.device) device_held) stands;
+      disk = disk_kept told faults (with_book s) v x s disk second refl (ap (λ (h : TurnsHeld). h.device) device_held) stands;
       opening = ap (λ (y : Standing). y.setup.opening s) second.same ∙ (opening ∙ ap (λ (y : Standing). opening_of (y.disks s).told) (sym second.same));
     }
 

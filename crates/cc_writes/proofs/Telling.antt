@@ -1,8 +1,6 @@
 -- The last entry of a journal, as a caller is told of it.
-use Rattle.std.specs.Prelude.{◌≡◌, ℕ, ◌-◌, ◌<◌, List, [], ◌∷◌, length, reverse, slice_get, Option, None, Some, get_or, refl}
-use Rattle.std.proofs.Common.{ap, sym, ◌∙◌, subst, arith}
-use Rattle.std.proofs.lemmas.List.{get_or-reverse, length-reverse}
-use Rattle.std.proofs.lemmas.Option.{slice_get-get_or}
+use Rattle.std.specs.Prelude.{◌≡◌, ℕ, List, [], ◌∷◌, slice_get, Option, None, Some, refl}
+use Rattle.std.proofs.Common.{ap, sym, ◌∙◌, subst}
 use Rattle.cc_entry.specs.declared.call.Call.{Call}
 use Rattle.cc_entry.specs.declared.entry.Entry.{Entry}
 use Rattle.cc_entry.specs.declared.entry.Entry.TheVariants as entry
@@ -12,31 +10,12 @@ use Rattle.cc_writes.specs.Told.{HasAnswered, ToldLast, reply_of}
 use Rattle.cc_writes.specs.Ways.{IsTold}
 use Rattle.cc_writes.specs.declared.tell.Returned.{Returned}
 
--- the last of a list is the first of it reversed
-pub last-first : {A : Type 0} (xs : List A) → slice_get xs (length xs - 1) ≡ slice_get (reverse xs) 0
-last-first [] = refl
-last-first (x ∷ xs) =
-    slice_get-get_or (x ∷ xs) (length (x ∷ xs) - 1) x last
-    ∙ (ap (λ n. Some (get_or (x ∷ xs) n x)) place ∙ (ap Some (sym (get_or-reverse (x ∷ xs) 0 x some)) ∙ sym (slice_get-get_or (reverse (x ∷ xs)) 0 x (omega (arith, some, length-reverse (x ∷ xs))))))
-  where
-    some : 0 < length (x ∷ xs)
-    some = omega arith
-
-    last : length (x ∷ xs) - 1 < length (x ∷ xs)
-    last = omega arith
-
-    place : length (x ∷ xs) - 1 ≡ length (x ∷ xs) - 1 - 0
-    place = omega arith
-
 first-is : (entries : List Entry) (e : Entry) → slice_get entries 0 ≡ Some e → (front : List Entry) × (entries ≡ e ∷ front)
 first-is [] e is = absurd (cc)
 first-is (x ∷ front) e is = (front, ap (λ l. l ∷ front) (inner is))
   where
     inner : Some x ≡ Some e → x ≡ e
     inner same = cc
-
-first-of : (oldest entries : List Entry) (o : Option Entry) → reverse oldest ≡ entries → slice_get oldest (length oldest - 1) ≡ o → slice_get entries 0 ≡ o
-first-of oldest entries o is last = ap (λ l. slice_get l 0) (sym is) ∙ (sym (last-first oldest) ∙ last)
 
 -- an entry that has a reply is that of a call which was done with it
 done-with : (e : Entry) (r : Reply) (entries front : List Entry) → entries ≡ e ∷ front → reply_of e ≡ Some r → HasAnswered r entries
@@ -53,10 +32,10 @@ same-reply entries r x a b = inner a.pass b.pass a.nth b.nth a.stream b.stream a
     inner : (p q m n : ℕ) (s t : Option ℕ) (i k : Call) (f g : List Entry) → entry.Call p m s i (outcome.Done r) ∷ f ≡ entry.Call q n t k (outcome.Done x) ∷ g → r ≡ x
     inner p q m n s t i k f g same = cc
 
--- The last entry of a journal, by its place among the oldest first, has a reply.
-pub replied-last : (oldest entries : List Entry) (e : Entry) (r : Reply) → reverse oldest ≡ entries → slice_get oldest (length oldest - 1) ≡ Some e → reply_of e ≡ Some r → HasAnswered r entries
-replied-last oldest entries e r is last has =
-    let first = first-is entries e (first-of oldest entries (Some e) is last) in
+-- the last entry of a journal has a reply
+pub replied-last : (entries : List Entry) (e : Entry) (r : Reply) → slice_get entries 0 ≡ Some e → reply_of e ≡ Some r → HasAnswered r entries
+replied-last entries e r last has =
+    let first = first-is entries e last in
     done-with e r entries first.0 first.1 has
 
 -- an entry that is the last, where a call was done with a reply, has it
@@ -68,16 +47,16 @@ answers entries o r first has = (
 )
 
 -- the reply that was told is the last one
-pub told-last : (oldest entries : List Entry) (e : Entry) (r : Reply) (told : Returned) (was now : List ℕ) → reverse oldest ≡ entries → slice_get oldest (length oldest - 1) ≡ Some e → reply_of e ≡ Some r → IsTold r told was now → ToldLast entries told was now
-told-last oldest entries e r told was now is last has so x answered =
-    subst (λ (y : Reply). IsTold y told was now) (same-reply entries r x (replied-last oldest entries e r is last has) answered) so
+pub told-last : (entries : List Entry) (e : Entry) (r : Reply) (told : Returned) (was now : List ℕ) → slice_get entries 0 ≡ Some e → reply_of e ≡ Some r → IsTold r told was now → ToldLast entries told was now
+told-last entries e r told was now last has so x answered =
+    subst (λ (y : Reply). IsTold y told was now) (same-reply entries r x (replied-last entries e r last has) answered) so
 
 -- there is none, where the last entry has none
-pub told-nothing : (oldest entries : List Entry) (e : Entry) (told : Returned) (was now : List ℕ) → reverse oldest ≡ entries → slice_get oldest (length oldest - 1) ≡ Some e → reply_of e ≡ None → ToldLast entries told was now
-told-nothing oldest entries e told was now is last none r has = absurd (clash found.0 (inner found.0 found.1) found.2)
+pub told-nothing : (entries : List Entry) (e : Entry) (told : Returned) (was now : List ℕ) → slice_get entries 0 ≡ Some e → reply_of e ≡ None → ToldLast entries told was now
+told-nothing entries e told was now last none r has = absurd (clash found.0 (inner found.0 found.1) found.2)
   where
     found : (x : Entry) × (Some e ≡ Some x) × (reply_of x ≡ Some r)
-    found = answers entries (Some e) r (first-of oldest entries (Some e) is last) has
+    found = answers entries (Some e) r last has
 
     inner : (x : Entry) → Some e ≡ Some x → e ≡ x
     inner x same = cc
@@ -89,11 +68,11 @@ told-nothing oldest entries e told was now is last none r has = absurd (clash fo
         apart same = absurd (cc)
 
 -- or there is no entry
-pub told-empty : (oldest entries : List Entry) (told : Returned) (was now : List ℕ) → reverse oldest ≡ entries → slice_get oldest (length oldest - 1) ≡ None → ToldLast entries told was now
-told-empty oldest entries told was now is none r has = absurd (clash found.0 found.1)
+pub told-empty : (entries : List Entry) (told : Returned) (was now : List ℕ) → slice_get entries 0 ≡ None → ToldLast entries told was now
+told-empty entries told was now none r has = absurd (clash found.0 found.1)
   where
     found : (e : Entry) × (None ≡ Some e) × (reply_of e ≡ Some r)
-    found = answers entries None r (first-of oldest entries None is none) has
+    found = answers entries None r none has
 
     clash : (e : Entry) → None ≡ Some e → ⊥
     clash e same = absurd (cc)

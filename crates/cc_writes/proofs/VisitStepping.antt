@@ -9,7 +9,7 @@ use Rattle.cc_entry.specs.declared.reply.Outcome.TheVariants as outcome
 use Rattle.cc_book.specs.Book.{BookState}
 use Rattle.cc_effects.specs.Asked.{brings_in}
 use Rattle.cc_effects.specs.Calls.{IsUnderWay}
-use Rattle.cc_step.specs.Fill.{MayFill, NextLeft, MadeWay, HasToRead, page_of}
+use Rattle.cc_step.specs.Fill.{MayFill, NextLeft, MadeWay, HasToRead, book_page}
 use Rattle.cc_step.specs.declared.ways.Next.{Next}
 use Rattle.cc_step.specs.declared.ways.Next.TheVariants as next
 use Rattle.cc_journal.specs.Journal.{JournalState}
@@ -22,10 +22,10 @@ use Rattle.cc_turns.specs.Standing.{Standing}
 use Rattle.cc_turns.specs.Takes.{Grows, without_journal}
 use Rattle.cc_writes.specs.Hands.{HasBook, IsAtRest, SameDisk}
 use Rattle.cc_writes.specs.Told.{FitsNext, StepAs}
-use Rattle.cc_writes.specs.Visits.{IsFiledNow, IsToBeWritten, IsWaitedFor, StepLeft, StepPlaced, StepWent, IsFullStep}
-use Rattle.cc_writes.specs.Ways.{FitsIn}
+use Rattle.cc_writes.specs.Visits.{IsFiledNow, IsToBeWritten, IsWaitedFor, CallStepLeft, CallStepPlaced, CallStepWent, IsFullCallStep}
+use Rattle.cc_writes.specs.Ways.{ReadFitsIn}
 use Rattle.cc_writes.specs.declared.tell.Returned.{Returned}
-use Rattle.cc_writes.specs.declared.visits.Step.{Step}
+use Rattle.cc_writes.specs.declared.visits.CallStep.{CallStep}
 use Rattle.cc_writes.proofs.Attempting.{may-step, number-is, way-on, last-done, fits-done, visited-done, visited-refused, visited-same, left-done, left-refused, left-stopped, full-refused, full-short, full-stop}
 use Rattle.cc_writes.proofs.VisitDisks.{disk-same, disk-then, disk-call, disk-page_out}
 use Rattle.cc_writes.proofs.Owing.{reserved-page_out}
@@ -53,7 +53,7 @@ module _ {Q : Type 0} (posted : Q → Bool) (w v : Standing) (it : Call) (b c : 
   pub stepped : (pass : ℕ) (ended : Next) → pass ≡ v.number → ((u : Setup) → MayFill u pass it b j → NextLeft u pass it ended b c j k) → NextLeft w.setup w.number it ended b c j k
   stepped pass ended me left = subst (λ (n : ℕ). NextLeft w.setup n it ended b c j k) (number-is posted w v it b c j k has vis here filed pass me) (left w.setup (fill-as pass me))
 
-  pub fits-next : is_stepped it ≡ true → (ended : Next) (out : List ℕ) → NextLeft w.setup w.number it ended b c j k → FitsIn it out → FitsNext ended k.entries out
+  pub fits-next : is_stepped it ≡ true → (ended : Next) (out : List ℕ) → NextLeft w.setup w.number it ended b c j k → ReadFitsIn it out → FitsNext ended k.entries out
   fits-next is next.Done out left fits = fits-done posted w v it b c j k has vis here filed is left.0 out left.1 fits
   fits-next is other out left fits = tt
 
@@ -69,10 +69,10 @@ module _ {Q : Type 0} (posted : Q → Bool) (w v : Standing) (it : Call) (b c : 
 
   visited-out : (again : Call) → MadeWay w.setup w.number it again b c j k → Visited posted w v b.stream w.in_flight c k
   visited-out again left =
-      visited posted w v b.stream w.in_flight (entry.PageOut w.number (page_of b left.page) ∷ []) b c j k has vis
-      (stepping-adds posted w v b c j k has vis (entry.PageOut w.number (page_of b left.page)) left.placed left.stand left.stream (eq-eqb w.number w.number refl)
+      visited posted w v b.stream w.in_flight (entry.PageOut w.number (book_page b left.page) ∷ []) b c j k has vis
+      (stepping-adds posted w v b c j k has vis (entry.PageOut w.number (book_page b left.page)) left.placed left.stand left.stream (eq-eqb w.number w.number refl)
       (unneeded-page w.held b.stream (has-book posted w v b c j k has vis) rest.device)
-      (reserved-page_out w.number (page_of b left.page) j.entries))
+      (reserved-page_out w.number (book_page b left.page) j.entries))
 
   stand-same : c ≡ b → k ≡ j → StandUnder w.setup c k
   stand-same book journal = subst (λ (x : BookState). StandUnder w.setup x k) (sym book) (subst (λ (x : JournalState Q). StandUnder w.setup b x) (sym journal) vis.stand)
@@ -112,43 +112,43 @@ module _ {Q : Type 0} (posted : Q → Bool) (w v : Standing) (it : Call) (b c : 
   disk-next (next.Refused e) left =
       disk-grew _ (disk-call w.number (suc (calls_of j.entries w.number)) (Some b.stream) it (outcome.Failed e) j.entries b.stream) (ap (λ (x : JournalState Q). x.entries) left.placed)
   disk-next (next.WentOut again) left =
-      disk-grew _ (disk-page_out w.number (page_of b left.page) j.entries b.stream) (ap (λ (x : JournalState Q). x.entries) left.placed)
+      disk-grew _ (disk-page_out w.number (book_page b left.page) j.entries b.stream) (ap (λ (x : JournalState Q). x.entries) left.placed)
   disk-next (next.Writes page again) left = disk-grew j.entries (disk-same j.entries b.stream) (ap (λ (x : JournalState Q). x.entries) left.same_journal)
   disk-next (next.Reads page again) left = disk-grew j.entries (disk-same j.entries b.stream) (ap (λ (x : JournalState Q). x.entries) left.reserved)
   disk-next (next.Stopped e) left = disk-grew j.entries (disk-same j.entries b.stream) (ap (λ (x : JournalState Q). x.entries) left.1.same_journal)
 
   -- how the pass goes on
-  pub went-next : is_stepped it ≡ true → (ended : Next) (answer : Step) (was now : List ℕ) → NextLeft w.setup w.number it ended b c j k → StepAs ended answer k.entries was now → StepWent answer w (without_journal k v)
+  pub went-next : is_stepped it ≡ true → (ended : Next) (answer : CallStep) (was now : List ℕ) → NextLeft w.setup w.number it ended b c j k → StepAs ended answer k.entries was now → CallStepWent answer w (without_journal k v)
   went-next is next.Done answer was now left told =
-      subst (λ (x : Step). StepWent x w (without_journal k v)) (sym told.1) (visited-next is next.Done left).went
+      subst (λ (x : CallStep). CallStepWent x w (without_journal k v)) (sym told.1) (visited-next is next.Done left).went
   went-next is (next.Refused e) answer was now left told =
-      subst (λ (x : Step). StepWent x w (without_journal k v)) (sym told.0) (visited-next is (next.Refused e) left).went
+      subst (λ (x : CallStep). CallStepWent x w (without_journal k v)) (sym told.0) (visited-next is (next.Refused e) left).went
   went-next is (next.WentOut again) answer was now left told =
-      subst (λ (x : Step). StepWent x w (without_journal k v)) (sym told.0) (visited-next is (next.WentOut again) left).went
+      subst (λ (x : CallStep). CallStepWent x w (without_journal k v)) (sym told.0) (visited-next is (next.WentOut again) left).went
   went-next is (next.Writes page again) answer was now left told =
-      subst (λ (x : Step). StepWent x w (without_journal k v)) (sym told.0) (visited-next is (next.Writes page again) left).went
+      subst (λ (x : CallStep). CallStepWent x w (without_journal k v)) (sym told.0) (visited-next is (next.Writes page again) left).went
   went-next is (next.Reads page again) answer was now left told =
-      subst (λ (x : Step). StepWent x w (without_journal k v)) (sym told.0) (visited-next is (next.Reads page again) left).went
+      subst (λ (x : CallStep). CallStepWent x w (without_journal k v)) (sym told.0) (visited-next is (next.Reads page again) left).went
   went-next is (next.Stopped e) answer was now left told =
-      subst (λ (x : Step). StepWent x w (without_journal k v)) (sym told.0) (visited-next is (next.Stopped e) left).went
+      subst (λ (x : CallStep). CallStepWent x w (without_journal k v)) (sym told.0) (visited-next is (next.Stopped e) left).went
 
   -- and what is left of the call
-  pub left-next : is_stepped it ≡ true → brings_in it ≡ true → (ended : Next) (answer : Step) (was now : List ℕ) → NextLeft w.setup w.number it ended b c j k → StepAs ended answer k.entries was now → (begun : List Entry) → IsUnderWay w.number it begun w.seen → StepLeft w.setup w.number b.stream it answer begun k.entries was now
+  pub left-next : is_stepped it ≡ true → brings_in it ≡ true → (ended : Next) (answer : CallStep) (was now : List ℕ) → NextLeft w.setup w.number it ended b c j k → StepAs ended answer k.entries was now → (begun : List Entry) → IsUnderWay w.number it begun w.seen → CallStepLeft w.setup w.number b.stream it answer begun k.entries was now
   left-next is brings next.Done answer was now left told begun way =
-      subst (λ (x : Step). StepLeft w.setup w.number b.stream it x begun k.entries was now) (sym told.1)
+      subst (λ (x : CallStep). CallStepLeft w.setup w.number b.stream it x begun k.entries was now) (sym told.1)
       (left.0, left-done posted w v it b c j k has vis here filed begun way is left.0 left.1, told.2 left.0 (last-done posted w v it b c j k has vis here filed left.0 left.1))
   left-next is brings (next.Refused e) answer was now left told begun way =
-      subst (λ (x : Step). StepLeft w.setup w.number b.stream it x begun k.entries was now) (sym told.0)
+      subst (λ (x : CallStep). CallStepLeft w.setup w.number b.stream it x begun k.entries was now) (sym told.0)
       (left-refused posted w v it b c j k has vis here filed begun way e left, told.1)
   left-next is brings (next.WentOut again) answer was now left told begun way =
-      subst (λ (x : Step). StepLeft w.setup w.number b.stream it x begun k.entries was now) (sym told.0) (
+      subst (λ (x : CallStep). CallStepLeft w.setup w.number b.stream it x begun k.entries was now) (sym told.0) (
         left.call_is,
         subst (λ (past : List Entry). IsUnderWay w.number it begun past) (sym (ap (λ (x : JournalState Q). x.entries) left.placed))
-            (takes_out w.number it begun j.entries (page_of b left.page) (way-on posted w v it b c j k has vis here filed begun way) left.next),
+            (takes_out w.number it begun j.entries (book_page b left.page) (way-on posted w v it b c j k has vis here filed begun way) left.next),
         told.1,
       )
   left-next is brings (next.Writes page again) answer was now left told begun way =
-      subst (λ (x : Step). StepLeft w.setup w.number b.stream it x begun k.entries was now) (sym told.0)
+      subst (λ (x : CallStep). CallStepLeft w.setup w.number b.stream it x begun k.entries was now) (sym told.0)
       (subst (λ (x : JournalState Q). (again ≡ it) × IsUnderWay w.number it begun x.entries × IsToBeWritten w.setup b.stream it page x.entries × (now ≡ was)) (sym left.same_journal) (
         left.call_is,
         way-on posted w v it b c j k has vis here filed begun way,
@@ -156,33 +156,33 @@ module _ {Q : Type 0} (posted : Q → Bool) (w v : Standing) (it : Call) (b c : 
         told.1,
       ))
   left-next is brings (next.Reads page again) answer was now left told begun way =
-      subst (λ (x : Step). StepLeft w.setup w.number b.stream it x begun k.entries was now) (sym told.0)
+      subst (λ (x : CallStep). CallStepLeft w.setup w.number b.stream it x begun k.entries was now) (sym told.0)
       (subst (λ (x : JournalState Q). (again ≡ it) × IsUnderWay w.number it begun x.entries × IsWaitedFor w.setup b.stream it page x.entries × (now ≡ was)) (sym left.reserved)
       (left.call_is, way-on posted w v it b c j k has vis here filed begun way, record { admitted = left.admitted; least = left.least }, told.1))
   left-next is brings (next.Stopped e) answer was now left told begun way =
-      subst (λ (x : Step). StepLeft w.setup w.number b.stream it x begun k.entries was now) (sym told.0)
+      subst (λ (x : CallStep). CallStepLeft w.setup w.number b.stream it x begun k.entries was now) (sym told.0)
       (left-stopped posted w v it b c j k has vis here filed begun way (most_asked it) e (stops-free it j.entries here (brings-free it brings)) left.0 left.1.same_journal, told.1)
 
-  pub full-next : is_stepped it ≡ true → (ended : Next) (answer : Step) (was now : List ℕ) → NextLeft w.setup w.number it ended b c j k → StepAs ended answer k.entries was now → IsFullStep (without_journal k v) it answer
-  full-next is next.Done answer was now left told = subst (λ (x : Step). IsFullStep (without_journal k v) it x) (sym told.1) (tt, inl tt)
+  pub full-next : is_stepped it ≡ true → (ended : Next) (answer : CallStep) (was now : List ℕ) → NextLeft w.setup w.number it ended b c j k → StepAs ended answer k.entries was now → IsFullCallStep (without_journal k v) it answer
+  full-next is next.Done answer was now left told = subst (λ (x : CallStep). IsFullCallStep (without_journal k v) it x) (sym told.1) (tt, inl tt)
   full-next is (next.Refused e) answer was now left told =
-      subst (λ (x : Step). IsFullStep (without_journal k v) it x) (sym told.0)
+      subst (λ (x : CallStep). IsFullCallStep (without_journal k v) it x) (sym told.0)
       (full-refused posted w v it b c j k has vis here filed Returned (most_asked it) e left, inl (full-refused posted w v it b c j k has vis here filed Returned 1 e left))
-  full-next is (next.WentOut again) answer was now left told = subst (λ (x : Step). IsFullStep (without_journal k v) it x) (sym told.0) tt
-  full-next is (next.Writes page again) answer was now left told = subst (λ (x : Step). IsFullStep (without_journal k v) it x) (sym told.0) tt
-  full-next is (next.Reads page again) answer was now left told = subst (λ (x : Step). IsFullStep (without_journal k v) it x) (sym told.0) tt
+  full-next is (next.WentOut again) answer was now left told = subst (λ (x : CallStep). IsFullCallStep (without_journal k v) it x) (sym told.0) tt
+  full-next is (next.Writes page again) answer was now left told = subst (λ (x : CallStep). IsFullCallStep (without_journal k v) it x) (sym told.0) tt
+  full-next is (next.Reads page again) answer was now left told = subst (λ (x : CallStep). IsFullCallStep (without_journal k v) it x) (sym told.0) tt
   full-next is (next.Stopped e) answer was now left told =
-      subst (λ (x : Step). IsFullStep (without_journal k v) it x) (sym told.0) (
+      subst (λ (x : CallStep). IsFullCallStep (without_journal k v) it x) (sym told.0) (
         full-stop posted w v it b c j k has vis here filed Returned (most_asked it) e left.0 left.1.same_journal (visited-next is (next.Stopped e) left),
         full-short posted w v it b c j k has vis here filed Returned (most_asked it) e left.0 left.2 left.1.same_journal (visited-next is (next.Stopped e) left),
       )
 
   -- and what was placed
-  pub placed-next : (ended : Next) (answer : Step) (was now : List ℕ) → NextLeft w.setup w.number it ended b c j k → StepAs ended answer k.entries was now → StepPlaced w b.stream it answer k.entries
-  placed-next next.Done answer was now left told = subst (λ (x : Step). StepPlaced w b.stream it x k.entries) (sym told.1) tt
-  placed-next (next.Refused e) answer was now left told = subst (λ (x : Step). StepPlaced w b.stream it x k.entries) (sym told.0) tt
+  pub placed-next : (ended : Next) (answer : CallStep) (was now : List ℕ) → NextLeft w.setup w.number it ended b c j k → StepAs ended answer k.entries was now → CallStepPlaced w b.stream it answer k.entries
+  placed-next next.Done answer was now left told = subst (λ (x : CallStep). CallStepPlaced w b.stream it x k.entries) (sym told.1) tt
+  placed-next (next.Refused e) answer was now left told = subst (λ (x : CallStep). CallStepPlaced w b.stream it x k.entries) (sym told.0) tt
   placed-next (next.WentOut again) answer was now left told =
-      subst (λ (x : Step). StepPlaced w b.stream it x k.entries) (sym told.0)
+      subst (λ (x : CallStep). CallStepPlaced w b.stream it x k.entries) (sym told.0)
       (record {
         page = left.page;
         placed = record { front = j.entries; grows = vis.grows; placed = ap (λ (x : JournalState Q). x.entries) left.placed };
@@ -190,9 +190,9 @@ module _ {Q : Type 0} (posted : Q → Bool) (w v : Standing) (it : Call) (b c : 
         resident = left.resident;
       })
   placed-next (next.Writes page again) answer was now left told =
-      subst (λ (x : Step). StepPlaced w b.stream it x k.entries) (sym told.0)
+      subst (λ (x : CallStep). CallStepPlaced w b.stream it x k.entries) (sym told.0)
       (subst (λ (x : JournalState Q). Grows w x.entries) (sym left.same_journal) vis.grows)
   placed-next (next.Reads page again) answer was now left told =
-      subst (λ (x : Step). StepPlaced w b.stream it x k.entries) (sym told.0)
+      subst (λ (x : CallStep). CallStepPlaced w b.stream it x k.entries) (sym told.0)
       (subst (λ (x : JournalState Q). Grows w x.entries × (has_room (history x.entries b.stream) page ≡ true)) (sym left.reserved) (vis.grows, left.room))
-  placed-next (next.Stopped e) answer was now left told = subst (λ (x : Step). StepPlaced w b.stream it x k.entries) (sym told.0) tt
+  placed-next (next.Stopped e) answer was now left told = subst (λ (x : CallStep). CallStepPlaced w b.stream it x k.entries) (sym told.0) tt

@@ -11,9 +11,9 @@ use Rattle.cc_model.specs.Good.{IsGood}
 use Rattle.cc_model.specs.Room.{reserved_in}
 use Rattle.cc_model.specs.Turns.{Turn, is_quiet}
 use Rattle.cc_step.specs.Step.{StandUnder}
-use Rattle.cc_turns.specs.Standing.{Standing, Held, nothing, holds}
+use Rattle.cc_turns.specs.Standing.{Standing, TurnsHeld, nothing, holds}
 use Rattle.cc_turns.specs.Journal.{JournalStands}
-use Rattle.cc_turns.specs.Takes.{Grows, Takes, Adds, IsOneEvent, with_journal, without_journal, may_be_of}
+use Rattle.cc_turns.specs.Takes.{Grows, Takes, AddsEvent, IsOneEvent, with_journal, without_journal, may_be_of}
 use Rattle.cc_turns.proofs.Taking.{book_kept}
 use Rattle.cc_writes.specs.Hands.{HasBook, WentWith}
 
@@ -67,7 +67,7 @@ pub record Stepping {Q : Type 0} (w v : Standing) (s flight : ℕ) (added : List
 
 -- What the pass gives, and how it stands with the journal given.
 pub record Visited {Q : Type 0} (posted : Q → Bool) (w v : Standing) (s flight : ℕ) (c : BookState) (k : JournalState Q) : Type 0 where
-  pub adds : Adds v k.entries
+  pub adds : AddsEvent v k.entries
   pub journal : JournalStands posted (without_journal k v) k
   pub book : HasBook (without_journal k v) s c
   pub went : WentWith flight w (without_journal k v)
@@ -78,7 +78,7 @@ visited {Q = Q} posted w v s flight added b c j k has vis step = record {
     added = added;
     grew = ap (λ x. x.entries) step.kept ∙ ap (λ past. added ++ past) vis.front_is;
     event = step.event;
-    held = λ t there free. step.held t (subst (λ (h : Held). holds h t ≡ false) vis.held_is free);
+    held = λ t there free. step.held t (subst (λ (h : TurnsHeld). holds h t ≡ false) vis.held_is free);
     own = subst (λ (n : ℕ). AllByRecursion (λ e. may_be_of n e ≡ true) added) (sym vis.number_is) step.own;
   };
   journal = record {
@@ -91,9 +91,9 @@ visited {Q = Q} posted w v s flight added b c j k has vis step = record {
     unposted = subst (λ (x : JournalState Q). AllUnposted posted x.queue) (sym step.kept) vis.journal.unposted;
   };
   book = record {
-    held = ap (λ (h : Held). record h { journal = false }) vis.held_is
-        ∙ (subst (λ (h : Held). record h { journal = false } ≡ record nothing { device = h.device; book = Some s }) (sym has.held) refl
-        ∙ ap (λ (h : Held). record nothing { device = h.device; book = Some s }) (sym vis.held_is));
+    held = ap (λ (h : TurnsHeld). record h { journal = false }) vis.held_is
+        ∙ (subst (λ (h : TurnsHeld). record h { journal = false } ≡ record nothing { device = h.device; book = Some s }) (sym has.held) refl
+        ∙ ap (λ (h : TurnsHeld). record nothing { device = h.device; book = Some s }) (sym vis.held_is));
     stream = step.stream;
     stands = subst (λ u. BookStands (u.opening s) k.entries c) (sym vis.setup_is)
         (subst (λ (n : ℕ). BookStands (w.setup.opening n) k.entries c) step.stream step.stand.stands);
@@ -102,7 +102,7 @@ visited {Q = Q} posted w v s flight added b c j k has vis step = record {
   went = record {
     same = ap (λ (x : Standing). without_journal k x) vis.taken.same
         ∙ (ap (λ (n : ℕ). record w { seen = k.entries; held = record w.held { journal = false }; others = v.others; in_flight = n }) rest
-        ∙ ap (λ (h : Held). record w { seen = k.entries; held = h; others = v.others; in_flight = flight }) back);
+        ∙ ap (λ (h : TurnsHeld). record w { seen = k.entries; held = h; others = v.others; in_flight = flight }) back);
   };
 }
   where
@@ -113,7 +113,7 @@ visited {Q = Q} posted w v s flight added b c j k has vis step = record {
         left n owed mine others same = omega (arith, same)
 
     back : record w.held { journal = false } ≡ w.held
-    back = subst (λ (h : Held). record h { journal = false } ≡ h) (sym has.held) refl
+    back = subst (λ (h : TurnsHeld). record h { journal = false } ≡ h) (sym has.held) refl
 
 -- so much under way at most is left to whom gives the journal
 pub few-left : {old new : Standing} (flight : ℕ) → WentWith flight old new → flight ≤ 1 → new.in_flight ≤ 1

@@ -27,8 +27,8 @@ use Rattle.cc_model.specs.Stamps.{is_unstamped}
 use Rattle.cc_model.specs.Turns.{Device, is_quiet}
 use Rattle.cc_turns.specs.Transfers.{transferred}
 use Rattle.cc_turns.proofs.DiskGrows.{open_of-quiet}
-use Rattle.cc_writes.specs.Ways.{IsAtWork, IsStoppedBy, HasFailed}
-use Rattle.cc_writes.specs.Writes.{WantedMemory}
+use Rattle.cc_writes.specs.Ways.{IsAtWork, IsStoppedBy, WorkHasFailed}
+use Rattle.cc_writes.specs.Writes.{WorkWantedMemory}
 use Rattle.cc_writes.specs.Logs.{IsDue}
 
 -- Whether a page may be written depends on its stream's history alone.
@@ -98,7 +98,7 @@ work-flushed me work handle to old past asks is = record {
 }
 
 -- it failed
-pub work-log_failed : (me : ℕ) (work : Work) (handle : ℕ) (old past : List Entry) → MayFailToFlush work handle past → IsAtWork me work old past → HasFailed me work (LogFailed handle) old (entry.LogFailed me handle ∷ past)
+pub work-log_failed : (me : ℕ) (work : Work) (handle : ℕ) (old past : List Entry) → MayFailToFlush work handle past → IsAtWork me work old past → WorkHasFailed me work (LogFailed handle) old (entry.LogFailed me handle ∷ past)
 work-log_failed me work handle old past may is = record {
   stop = entry.LogFailed me handle;
   stopped = record {
@@ -189,7 +189,7 @@ module _ (me : ℕ) (work : Work) (page : Page) (how : End) (old before later : 
 pub work-written : (me : ℕ) (work : Work) (page : Page) (old before later : List Entry) → IsAtWork me work old before → may_write work page before ≡ true → is_quiet (Device page.stream) later ≡ true → Others me later → IsAtWork me work old (transferred me page.stream page.page how.Good later before)
 work-written me work page old before later is may quiet others = went_on me work page how.Good old before later is may quiet others refl
 
-pub work-not_written : (me : ℕ) (work : Work) (page : Page) (old before later : List Entry) → IsAtWork me work old before → may_write work page before ≡ true → is_quiet (Device page.stream) later ≡ true → Others me later → HasFailed me work (WriteFailed page.page) old (transferred me page.stream page.page how.Failed later before)
+pub work-not_written : (me : ℕ) (work : Work) (page : Page) (old before later : List Entry) → IsAtWork me work old before → may_write work page before ≡ true → is_quiet (Device page.stream) later ≡ true → Others me later → WorkHasFailed me work (WriteFailed page.page) old (transferred me page.stream page.page how.Failed later before)
 work-not_written me work page old before later is may quiet others = record {
   stop = entry.WriteEnd me page how.Failed;
   stopped = stopped me work page how.Failed old before later is may quiet others refl;
@@ -199,7 +199,7 @@ work-not_written me work page old before later is may quiet others = record {
   told = faults_since-write_failed me page how.Failed (later ++ entry.WriteBegin me page ∷ before) me (eq-eqb me me refl) refl;
 }
 
-pub work-wanted : (me : ℕ) (work : Work) (page : Page) (old before later : List Entry) → IsAtWork me work old before → may_write work page before ≡ true → is_quiet (Device page.stream) later ≡ true → Others me later → WantedMemory me work old (transferred me page.stream page.page how.NoMemory later before)
+pub work-wanted : (me : ℕ) (work : Work) (page : Page) (old before later : List Entry) → IsAtWork me work old before → may_write work page before ≡ true → is_quiet (Device page.stream) later ≡ true → Others me later → WorkWantedMemory me work old (transferred me page.stream page.page how.NoMemory later before)
 work-wanted me work page old before later is may quiet others = record {
   stop = entry.WriteEnd me page how.NoMemory;
   stopped = stopped me work page how.NoMemory old before later is may quiet others refl;

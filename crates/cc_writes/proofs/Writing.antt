@@ -13,7 +13,7 @@ use Rattle.cc_entry.specs.declared.error.CcError.{CcError}
 use Rattle.cc_entry.specs.declared.error.CcError.TheVariants as error
 use Rattle.cc_traits.specs.Disk.{Disk}
 use Rattle.cc_book.specs.Book.{BookState}
-use Rattle.cc_content.specs.Contents.{IsByteOf}
+use Rattle.cc_content.specs.Contents.{IsByteOfContents}
 use Rattle.cc_effects.specs.Moments.{Others}
 use Rattle.cc_effects.proofs.Stretches.{others-append}
 use Rattle.cc_laws.proofs.HistorySteps.{history-write_begin, history-write_end}
@@ -30,9 +30,9 @@ use Rattle.cc_turns.proofs.DiskGrows.{open_of-quiet}
 use Rattle.cc_writes.specs.Hands.{HasBook, WentWith}
 use Rattle.cc_writes.specs.Visits.{HasPlaced}
 use Rattle.cc_writes.specs.Writes.{HasBoth}
-use Rattle.cc_writes.specs.Transfers.{HasBegun, GrowsBeside, IsCarried, IsUnderWay, IsFinished, FinishLeft, IsTransferred, PutLeft, answer_of}
-use Rattle.cc_writes.specs.declared.writes.PageWrite.{PageWrite}
-use Rattle.cc_writes.specs.declared.writes.PageWrite.TheVariants as write
+use Rattle.cc_writes.specs.Transfers.{TransferHasBegun, GrowsBeside, IsCarried, OwnTransferIsUnderWay, IsFinished, TransferFinishLeft, IsTransferred, PutLeft, transfer_answer}
+use Rattle.cc_writes.specs.declared.writes.PageTransfer.{PageTransfer}
+use Rattle.cc_writes.specs.declared.writes.PageTransfer.TheVariants as write
 use Rattle.cc_writes.proofs.OneVisit.{went-number, went-held}
 use Rattle.cc_writes.proofs.Quiet.{is_held, holds_the_book, history-kept, rest-kept}
 use Rattle.cc_writes.proofs.Flushing.{disk-grown}
@@ -70,14 +70,14 @@ finished n w x page how keeps seen went device book first last = record {
     same : x.number ≡ w.number
     same = went-number n w x went
 
-pub finish-left : (w : Standing) (page : Page) (how : End) (keeps : Bool) (seen : List Entry) → IsFinished w page how keeps seen → FinishLeft w page keeps (answer_of how) seen
+pub finish-left : (w : Standing) (page : Page) (how : End) (keeps : Bool) (seen : List Entry) → IsFinished w page how keeps seen → TransferFinishLeft w page keeps (transfer_answer how) seen
 finish-left w page how.Good keeps seen is = is
 finish-left w page how.Failed keeps seen is = is
 finish-left w page how.NoMemory keeps seen is = is
 
 -- both are in hand again, at rest
 module _ {D : Type 0} (told : D → Option Disk) (faults : D → ℕ) (n : ℕ) (w y : Standing) (page : Page) (bytes : List ℕ) (how : End) (keeps : Bool) (b c : BookState) (old new : D)
-    (begun : IsUnderWay told faults w page bytes b old) (carried : IsCarried told faults page bytes how old new) (went : WentWith n w y) (is : IsFinished w page how keeps y.seen) where
+    (begun : OwnTransferIsUnderWay told faults w page bytes b old) (carried : IsCarried told faults page bytes how old new) (went : WentWith n w y) (is : IsFinished w page how keeps y.seen) where
   seen : y.seen ≡ transferred w.number page.stream page.page how is.later begun.before
   seen = is.placed ∙ ap (λ (past : List Entry). entry.WriteEnd w.number page how ∷ (is.later ++ past)) begun.placed
 
@@ -99,7 +99,7 @@ module _ {D : Type 0} (told : D → Option Disk) (faults : D → ℕ) (n : ℕ) 
 -- The transfer begins, with both in hand.
 module _ {D : Type 0} (told : D → Option Disk) (faults : D → ℕ) (n : ℕ) (w x : Standing) (page : Page) (b c : BookState) (disk : D)
     (both : HasBoth told faults w page.stream b disk) (went : WentWith n w x) (has : HasBook x page.stream c) where
-  pub under_way : (bytes : List ℕ) → HasBegun w page bytes x.seen → IsUnderWay told faults x page bytes c disk
+  pub under_way : (bytes : List ℕ) → TransferHasBegun w page bytes x.seen → OwnTransferIsUnderWay told faults x page bytes c disk
   under_way bytes begun = record {
     book = has;
     device = ap (λ h. h.device) (went-held n w x went) ∙ both.rest.device;
@@ -112,7 +112,7 @@ module _ {D : Type 0} (told : D → Option Disk) (faults : D → ℕ) (n : ℕ) 
       numbered = begun.numbered;
       at_rest = ap open_of (history-kept w page.stream begun.placed.front (holds_the_book w page.stream b both.book) both.rest.device begun.placed.grows) ∙ both.rest.no_transfer;
       whole = begun.whole;
-      bytes_are = λ i within. subst (λ (opening : Option (ℕ → List ℕ)). IsByteOf opening (history begun.placed.front page.stream) (4096 * page.page + i) (slice_index bytes i))
+      bytes_are = λ i within. subst (λ (opening : Option (ℕ → List ℕ)). IsByteOfContents opening (history begun.placed.front page.stream) (4096 * page.page + i) (slice_index bytes i))
           (both.opening ∙ ap (λ (first : DiskAtFirst). opening_of first.told) (sym (disks-kept n w x page.stream went))) (begun.bytes_are i within);
     };
   }
@@ -141,7 +141,7 @@ transferred-so n w x page how keeps seen went begun is = record {
       ∙ ap (λ (past : List Entry). entry.WriteEnd w.number page how ∷ (is.later ++ past)) begun.placed);
 }
 
-pub put-left : (n : ℕ) (w x : Standing) (page : Page) (keeps : Bool) (result : Result PageWrite CcError) (seen : List Entry) → WentWith n w x → HasPlaced w (entry.WriteBegin w.number page) x.seen → FinishLeft x page keeps result seen → PutLeft w page keeps result seen
+pub put-left : (n : ℕ) (w x : Standing) (page : Page) (keeps : Bool) (result : Result PageTransfer CcError) (seen : List Entry) → WentWith n w x → HasPlaced w (entry.WriteBegin w.number page) x.seen → TransferFinishLeft x page keeps result seen → PutLeft w page keeps result seen
 put-left n w x page keeps (Ok write.Written) seen went begun is = transferred-so n w x page how.Good keeps seen went begun is
 put-left n w x page keeps (Ok write.NotWritten) seen went begun is = transferred-so n w x page how.Failed keeps seen went begun is
 put-left n w x page keeps (Ok (write.NotLogged handle)) seen went begun is = absurd is

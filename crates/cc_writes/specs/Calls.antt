@@ -20,9 +20,9 @@ pub record MayFaultInWriting (it : Call) : Type 0 where
   pub log : (handle : ℕ) → may_refuse it (error.LogFault handle) ≡ true
 
 -- What a page step left of a call that was under way: the call goes on, or failed.
-abbrev pub PageLeft : Setup → ℕ → Call → Result Call CcError → List Entry → List Entry → Type 0
-PageLeft u me it (Ok again) old new = (again ≡ it) × IsUnderWay me it old new
-PageLeft u me it (Err e) old new = CallLeft u me it (outcome.Failed e) old new
+abbrev pub PageStepLeft : Setup → ℕ → Call → Result Call CcError → List Entry → List Entry → Type 0
+PageStepLeft u me it (Ok again) old new = (again ≡ it) × IsUnderWay me it old new
+PageStepLeft u me it (Err e) old new = CallLeft u me it (outcome.Failed e) old new
 
 -- Each work that may write the page, and that was under way, is under way still.
 abbrev pub KeepsWork : Standing → Page → List Entry → Type 0
@@ -31,7 +31,7 @@ KeepsWork w page seen =
     IsAtWork w.number work begun w.seen → IsAtWork w.number work begun seen
 
 -- A page is to be written for a call: the call may write it, it is dirty, and no pin owes it a stamp.
-pub record HasToWrite (it : Call) (past : List Entry) : Type 0 where
+pub record CallHasToWrite (it : Call) (past : List Entry) : Type 0 where
   pub page : Page
   pub asked : may_write (Calls it) page past ≡ true
   pub to_write : IsToWrite page past
@@ -39,4 +39,4 @@ pub record HasToWrite (it : Call) (past : List Entry) : Type 0 where
 -- Where a call finds the journal full that writes a page, there is no room for one entry; or a page is to be written for
 -- it as it finds that, and there is none for the begin of its transfer with the end.
 abbrev pub IsFullWriting : {A : Type 0} → Call → Standing → Result A CcError → Type 0
-IsFullWriting it w answer = IsFull 1 w answer ⊎ (HasToWrite it w.seen × IsFull 2 w answer)
+IsFullWriting it w answer = IsFull 1 w answer ⊎ (CallHasToWrite it w.seen × IsFull 2 w answer)

@@ -40,7 +40,7 @@ pub record IsDue (page : Page) (handle to : ℕ) (past : List Entry) : Type 0 wh
   pub due : flushed_to past handle < to
 
 -- Others went on, and then the pass placed an entry of a log that was due.
-pub record HasFlushed (w : Standing) (page : Page) (handle to : ℕ) (e : Entry) (seen : List Entry) : Type 0 where
+pub record HasPlacedDueEntry (w : Standing) (page : Page) (handle to : ℕ) (e : Entry) (seen : List Entry) : Type 0 where
   pub placed : HasPlaced w e seen
   pub due : IsDue page handle to placed.front
 
@@ -48,13 +48,13 @@ pub record HasFlushed (w : Standing) (page : Page) (handle to : ℕ) (e : Entry)
 abbrev pub ReachedBy : Standing → Page → List Entry → Type 0
 ReachedBy w page seen =
     Grows w seen
-    ⊎ ((handle : ℕ) × (to : ℕ) × HasFlushed w page handle to (entry.Flushed w.number handle to) seen)
+    ⊎ ((handle : ℕ) × (to : ℕ) × HasPlacedDueEntry w page handle to (entry.Flushed w.number handle to) seen)
 
 -- What the flush of a page's log leaves, by cases over how it ended.
 abbrev pub FlushLeft : Standing → Page → Result LogFlush CcError → List Entry → Type 0
 FlushLeft w page (Ok flush.Reached) seen = ReachedBy w page seen × IsLogged seen page.stream page.page
 FlushLeft w page (Ok (flush.Failed handle)) seen =
-    (to : ℕ) × HasFlushed w page handle to (entry.LogFailed w.number handle) seen
+    (to : ℕ) × HasPlacedDueEntry w page handle to (entry.LogFailed w.number handle) seen
 FlushLeft w page (Err e) seen = Grows w seen × IsWant e
 
 -- Others went on, and then the pass placed an entry of a log that was not flushed so far.
@@ -63,13 +63,13 @@ pub record HasLogged (w : Standing) (handle to : ℕ) (e : Entry) (seen : List E
   pub due : flushed_to placed.front handle < to
 
 -- What the flush of a log to an LSN leaves, by cases over how it ended.
-abbrev pub LogLeft : Standing → ℕ → ℕ → Result LogFlush CcError → List Entry → Type 0
-LogLeft w handle to (Ok flush.Reached) seen =
+abbrev pub FlushToLsnLeft : Standing → ℕ → ℕ → Result LogFlush CcError → List Entry → Type 0
+FlushToLsnLeft w handle to (Ok flush.Reached) seen =
     (Grows w seen × (to ≤ flushed_to seen handle))
     ⊎ HasLogged w handle to (entry.Flushed w.number handle to) seen
-LogLeft w handle to (Ok (flush.Failed failed)) seen =
+FlushToLsnLeft w handle to (Ok (flush.Failed failed)) seen =
     (failed ≡ handle) × HasLogged w handle to (entry.LogFailed w.number handle) seen
-LogLeft w handle to (Err e) seen = Grows w seen × (e ≡ error.NoMemory)
+FlushToLsnLeft w handle to (Err e) seen = Grows w seen × (e ≡ error.NoMemory)
 
 -- The newest LSN of a page was found, where it has one, with a place reserved for an entry of its log; or there was no
 -- room for that entry.
@@ -89,8 +89,8 @@ MayLog w (entry.LogFailed pass handle) = (pass ≡ w.number) × (w.held.log ≡ 
 MayLog w other = ⊥
 
 -- the newest LSN of the touches of a row that no transfer took
-abbrev pub newest_later : Option Row → Option ℕ
-newest_later row = option_map (λ lsns. lsns.1) (later_in row).lsns
+abbrev pub newest_later_in : Option Row → Option ℕ
+newest_later_in row = option_map (λ lsns. lsns.1) (later_in row).lsns
 
 -- the turns of a stream's disk and of its book are held, and no other
 abbrev pub HoldsBoth : Standing → ℕ → Type 0

@@ -61,8 +61,8 @@ WasTold old new s page =
     ⊎ SameDisk old.seen new.seen s
 
 -- a call is under way since a moment, and wanted a page at one since then
-abbrev pub IsWanted : Standing → ℕ → Call → ℕ → Type 0
-IsWanted w s it page =
+abbrev pub CallWantedPage : Standing → ℕ → Call → ℕ → Type 0
+CallWantedPage w s it page =
     (begun : List Entry) × IsUnderWay w.number it begun w.seen
     × WasWanted w.setup it (record { stream = s; page = page }) begun w.seen
 
@@ -110,15 +110,15 @@ pub record CameIn (w : Standing) (s : ℕ) (it : Call) (page : ℕ) (seen : List
 
 -- Why a call goes on without a page that it waited for: it does not wait for it any more, there is no room for its block,
 -- or the page is not on the disk alone any more.
-abbrev pub IsPassedOver : Setup → ℕ → Call → ℕ → List Entry → Type 0
-IsPassedOver u s it page past =
+abbrev pub AwaitedPageIsPassedOver : Setup → ℕ → Call → ℕ → List Entry → Type 0
+AwaitedPageIsPassedOver u s it page past =
     (is_awaited u past s it page ≡ false)
     ⊎ (has_room (history past s) page ≡ false)
     ⊎ (is_on_disk_alone (record { stream = s; page = page }) past ≡ false)
 
 -- What became of the page that a call waited for, where the call goes on.
-abbrev pub BringLeft : Standing → ℕ → Call → ℕ → List Entry → Type 0
-BringLeft w s it page seen = CameIn w s it page seen ⊎ IsPassedOver w.setup s it page seen
+abbrev pub AwaitedPageLeft : Standing → ℕ → Call → ℕ → List Entry → Type 0
+AwaitedPageLeft w s it page seen = CameIn w s it page seen ⊎ AwaitedPageIsPassedOver w.setup s it page seen
 
 -- With the book kept a page comes in for whose block there is room, where the call goes on.
 abbrev pub IsBroughtKept : Standing → ℕ → Call → ℕ → Bool → Result Call CcError → List Entry → Type 0

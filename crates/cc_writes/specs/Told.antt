@@ -9,20 +9,16 @@ use Rattle.cc_entry.specs.declared.error.CcError.{CcError}
 use Rattle.cc_entry.specs.declared.reply.Outcome.TheVariants as outcome
 use Rattle.cc_entry.specs.declared.reply.Reply.{Reply}
 use Rattle.cc_entry.specs.declared.reply.Reply.TheVariants as reply
-use Rattle.cc_book.specs.Book.{BookState}
-use Rattle.cc_step.specs.Fill.{NotUnread, ToldUnread}
 use Rattle.cc_step.specs.declared.ways.Next.{Next}
 use Rattle.cc_step.specs.declared.ways.Next.TheVariants as next
-use Rattle.cc_journal.specs.Journal.{JournalState}
-use Rattle.cc_model.specs.Setup.{Setup}
 use Rattle.cc_step.specs.declared.faults.Failed.{Failed}
 use Rattle.cc_step.specs.declared.faults.Failed.TheVariants as ended
 use Rattle.cc_step.specs.declared.steps.Stepped.{Stepped}
 use Rattle.cc_step.specs.declared.steps.Stepped.TheVariants as stepped
 use Rattle.cc_writes.specs.Ways.{IsTold}
 use Rattle.cc_writes.specs.declared.tell.Returned.{Returned}
-use Rattle.cc_writes.specs.declared.visits.Step.{Step}
-use Rattle.cc_writes.specs.declared.visits.Step.TheVariants as step
+use Rattle.cc_writes.specs.declared.visits.CallStep.{CallStep}
+use Rattle.cc_writes.specs.declared.visits.CallStep.TheVariants as step
 use Rattle.cc_writes.specs.declared.visits.Tried.{Tried}
 use Rattle.cc_writes.specs.declared.visits.Tried.TheVariants as tried
 
@@ -72,7 +68,7 @@ FitsNext next.Done entries out = FitsLast entries out
 FitsNext other entries out = Unit {0}
 
 -- The step that is answered is the one that was taken, and the caller was told the reply, if there is one.
-abbrev pub StepAs : Next → Step → List Entry → List ℕ → List ℕ → Type 0
+abbrev pub StepAs : Next → CallStep → List Entry → List ℕ → List ℕ → Type 0
 StepAs next.Done answer entries was now =
     (told : Returned) × (answer ≡ step.Ended (Ok told)) × ToldLast entries told was now
 StepAs (next.Refused e) answer entries was now = (answer ≡ step.Ended (Err e)) × (now ≡ was)
@@ -81,14 +77,8 @@ StepAs (next.Writes page again) answer entries was now = (answer ≡ step.Writes
 StepAs (next.Reads page again) answer entries was now = (answer ≡ step.Reads page again) × (now ≡ was)
 StepAs (next.Stopped e) answer entries was now = (answer ≡ step.Ended (Err e)) × (now ≡ was)
 
--- The entry of a failed read stands, or the page is not on the disk alone any more and the place that was reserved for it
--- was given back.
-abbrev pub UnreadTold : {Q : Type 0} → Setup → ℕ → ℕ → Bool → BookState → JournalState Q → JournalState Q → Type 0
-UnreadTold u pass page true b j k = ToldUnread u pass page b j k
-UnreadTold u pass page false b j k = NotUnread page b j k
-
 -- what a call answers that met a fault and ended so
-abbrev pub answer_of : Failed → CcError → CcError
-answer_of (ended.Refused e) fault = e
-answer_of ended.Told fault = fault
-answer_of (ended.Stopped e) fault = e
+abbrev pub fault_answer : Failed → CcError → CcError
+fault_answer (ended.Refused e) fault = e
+fault_answer ended.Told fault = fault
+fault_answer (ended.Stopped e) fault = e

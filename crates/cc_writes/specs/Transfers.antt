@@ -11,7 +11,7 @@ use Rattle.cc_entry.specs.declared.entry.Entry.{Entry}
 use Rattle.cc_entry.specs.declared.entry.Entry.TheVariants as entry
 use Rattle.cc_traits.specs.Disk.{Disk}
 use Rattle.cc_book.specs.Book.{BookState, IsSnapshot, GoesOn, Stays}
-use Rattle.cc_content.specs.Contents.{IsByteOf}
+use Rattle.cc_content.specs.Contents.{IsByteOfContents}
 use Rattle.cc_effects.specs.Moments.{Others}
 use Rattle.cc_journal.specs.Journal.{JournalState}
 use Rattle.cc_model.specs.History.{history}
@@ -23,21 +23,21 @@ use Rattle.cc_turns.specs.Takes.{Grows}
 use Rattle.cc_writes.specs.Hands.{HasBook}
 use Rattle.cc_writes.specs.Visits.{HasPlaced}
 use Rattle.cc_writes.specs.Logs.{IsWant, IsStopAt}
-use Rattle.cc_writes.specs.declared.writes.PageWrite.{PageWrite}
-use Rattle.cc_writes.specs.declared.writes.PageWrite.TheVariants as write
+use Rattle.cc_writes.specs.declared.writes.PageTransfer.{PageTransfer}
+use Rattle.cc_writes.specs.declared.writes.PageTransfer.TheVariants as write
 
 -- The transfer of a page began, with these bytes, which are the page's at the front of its entry.
-pub record HasBegun (w : Standing) (page : Page) (bytes : List ℕ) (seen : List Entry) : Type 0 where
+pub record TransferHasBegun (w : Standing) (page : Page) (bytes : List ℕ) (seen : List Entry) : Type 0 where
   pub placed : HasPlaced w (entry.WriteBegin w.number page) seen
   pub numbered : page.page < 2 ^ 51
   pub whole : length bytes ≡ 4096
   pub bytes_are : (i : ℕ) → i < 4096 →
-      IsByteOf (w.setup.opening page.stream) (history placed.front page.stream) (4096 * page.page + i)
+      IsByteOfContents (w.setup.opening page.stream) (history placed.front page.stream) (4096 * page.page + i)
       (slice_index bytes i)
 
 -- What the begin of a transfer leaves, by cases over how it ended.
 abbrev pub BeginLeft : Standing → Page → Result (List ℕ) CcError → List Entry → Type 0
-BeginLeft w page (Ok bytes) seen = HasBegun w page bytes seen
+BeginLeft w page (Ok bytes) seen = TransferHasBegun w page bytes seen
 BeginLeft w page (Err e) seen = Grows w seen × IsWant e
 
 -- Others went on, with the stream's book too unless it was kept, but not with its disk, and the pass placed nothing.
@@ -57,10 +57,10 @@ IsCarried told faults page bytes how old new =
     DiskStands told faults first (transferred pass page.stream page.page how later before) page.stream new
 
 -- what the writing of a page answers whose transfer ended so
-abbrev pub answer_of : End → Result PageWrite CcError
-answer_of how.Good = Ok write.Written
-answer_of how.Failed = Ok write.NotWritten
-answer_of how.NoMemory = Err error.NoMemory
+abbrev pub transfer_answer : End → Result PageTransfer CcError
+transfer_answer how.Good = Ok write.Written
+transfer_answer how.Failed = Ok write.NotWritten
+transfer_answer how.NoMemory = Err error.NoMemory
 
 -- A page's transfer began and ended so, and the pass placed nothing else.
 pub record IsTransferred (w : Standing) (page : Page) (how : End) (keeps : Bool) (seen : List Entry) : Type 0 where
@@ -73,7 +73,7 @@ pub record IsTransferred (w : Standing) (page : Page) (how : End) (keeps : Bool)
   pub placed : seen ≡ transferred w.number page.stream page.page how later before
 
 -- What the writing of a page leaves whose log is flushed, by cases over its answer.
-abbrev pub PutLeft : Standing → Page → Bool → Result PageWrite CcError → List Entry → Type 0
+abbrev pub PutLeft : Standing → Page → Bool → Result PageTransfer CcError → List Entry → Type 0
 PutLeft w page keeps (Ok write.Written) seen = IsTransferred w page how.Good keeps seen
 PutLeft w page keeps (Ok write.NotWritten) seen = IsTransferred w page how.Failed keeps seen
 PutLeft w page keeps (Ok (write.NotLogged handle)) seen = ⊥
@@ -83,7 +83,7 @@ PutLeft w page keeps (Err other) seen = ⊥
 
 -- The begin of a transfer on a book and a journal in hand: it began, with a snapshot of the page, and a place is
 -- reserved for its end.
-pub record IsBegun {Q : Type 0} (pass : ℕ) (page : Page) (bytes : List ℕ) (b c : BookState) (j k : JournalState Q)
+pub record TransferIsBegun {Q : Type 0} (pass : ℕ) (page : Page) (bytes : List ℕ) (b c : BookState) (j k : JournalState Q)
     : Type 0 where
   pub placed : k ≡ record j {
     entries = entry.WriteBegin pass page ∷ j.entries;
@@ -101,12 +101,12 @@ pub record IsUnbegun {Q : Type 0} (e : CcError) (b c : BookState) (j k : Journal
 
 abbrev pub BegunLeft : {Q : Type 0} → ℕ → Page → Result (List ℕ) CcError → BookState → BookState → JournalState Q
     → JournalState Q → Type 0
-BegunLeft pass page (Ok bytes) b c j k = IsBegun pass page bytes b c j k
+BegunLeft pass page (Ok bytes) b c j k = TransferIsBegun pass page bytes b c j k
 BegunLeft pass page (Err e) b c j k = IsUnbegun e b c j k
 
 -- The transfer of a page is under way: the pass placed its begin as the last that it has seen, with these bytes, the
 -- page's at the front of its entry, and the disk stands for that front.
-pub record IsUnderWay {D : Type 0} (told : D → Option Disk) (faults : D → ℕ) (w : Standing) (page : Page)
+pub record OwnTransferIsUnderWay {D : Type 0} (told : D → Option Disk) (faults : D → ℕ) (w : Standing) (page : Page)
     (bytes : List ℕ) (b : BookState) (disk : D) : Type 0 where
   pub book : HasBook w page.stream b
   pub device : w.held.device ≡ Some page.stream
@@ -123,9 +123,9 @@ pub record IsFinished (w : Standing) (page : Page) (how : End) (keeps : Bool) (s
   pub kept : keeps ≡ true → is_quiet (Book page.stream) later ≡ true
   pub placed : seen ≡ entry.WriteEnd w.number page how ∷ (later ++ w.seen)
 
-abbrev pub FinishLeft : Standing → Page → Bool → Result PageWrite CcError → List Entry → Type 0
-FinishLeft w page keeps (Ok write.Written) seen = IsFinished w page how.Good keeps seen
-FinishLeft w page keeps (Ok write.NotWritten) seen = IsFinished w page how.Failed keeps seen
-FinishLeft w page keeps (Ok (write.NotLogged handle)) seen = ⊥
-FinishLeft w page keeps (Err error.NoMemory) seen = IsFinished w page how.NoMemory keeps seen
-FinishLeft w page keeps (Err other) seen = ⊥
+abbrev pub TransferFinishLeft : Standing → Page → Bool → Result PageTransfer CcError → List Entry → Type 0
+TransferFinishLeft w page keeps (Ok write.Written) seen = IsFinished w page how.Good keeps seen
+TransferFinishLeft w page keeps (Ok write.NotWritten) seen = IsFinished w page how.Failed keeps seen
+TransferFinishLeft w page keeps (Ok (write.NotLogged handle)) seen = ⊥
+TransferFinishLeft w page keeps (Err error.NoMemory) seen = IsFinished w page how.NoMemory keeps seen
+TransferFinishLeft w page keeps (Err other) seen = ⊥

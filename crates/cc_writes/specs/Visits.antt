@@ -27,12 +27,12 @@ use Rattle.cc_writes.specs.Hands.{SameDisk, Went, WentWith}
 use Rattle.cc_writes.specs.Ways.{EndedSo, IsFullCall, IsFullOn, IsHalted}
 use Rattle.cc_writes.specs.declared.visits.Tried.{Tried}
 use Rattle.cc_writes.specs.declared.visits.Tried.TheVariants as tried
-use Rattle.cc_writes.specs.declared.visits.Step.{Step}
-use Rattle.cc_writes.specs.declared.visits.Step.TheVariants as step
+use Rattle.cc_writes.specs.declared.visits.CallStep.{CallStep}
+use Rattle.cc_writes.specs.declared.visits.CallStep.TheVariants as step
 
 -- the call is filed under the stream, whatever holds are open
-abbrev pub IsOf : Call → ℕ → Type 0
-IsOf it s = (holds : List Hold) (pass : ℕ) → IsFiled holds pass (Some s) it (file_of it)
+abbrev pub CallIsOfStream : Call → ℕ → Type 0
+CallIsOfStream it s = (holds : List Hold) (pass : ℕ) → IsFiled holds pass (Some s) it (file_of it)
 
 -- The call is filed under the stream, as the pass has seen it: one that names a hold is filed where that hold is open
 -- there, was made by the pass, and serves.
@@ -59,12 +59,12 @@ TriedLeft u me s it (tried.Waits page again) old new was now =
     (again ≡ it) × IsUnderWay me it old new × IsWaitedFor u s it page new × (now ≡ was)
 
 -- What the next step of a call that was under way leaves, by cases over it.
-abbrev pub StepLeft : Setup → ℕ → ℕ → Call → Step → List Entry → List Entry → List ℕ → List ℕ → Type 0
-StepLeft u me s it (step.Ended answer) old new was now = EndedSo u me it answer old new was now
-StepLeft u me s it (step.WentOut again) old new was now = (again ≡ it) × IsUnderWay me it old new × (now ≡ was)
-StepLeft u me s it (step.Writes page again) old new was now =
+abbrev pub CallStepLeft : Setup → ℕ → ℕ → Call → CallStep → List Entry → List Entry → List ℕ → List ℕ → Type 0
+CallStepLeft u me s it (step.Ended answer) old new was now = EndedSo u me it answer old new was now
+CallStepLeft u me s it (step.WentOut again) old new was now = (again ≡ it) × IsUnderWay me it old new × (now ≡ was)
+CallStepLeft u me s it (step.Writes page again) old new was now =
     (again ≡ it) × IsUnderWay me it old new × IsToBeWritten u s it page new × (now ≡ was)
-StepLeft u me s it (step.Reads page again) old new was now =
+CallStepLeft u me s it (step.Reads page again) old new was now =
     (again ≡ it) × IsUnderWay me it old new × IsWaitedFor u s it page new × (now ≡ was)
 
 -- an attempt at a call on a stream that stopped for want of room, or ended otherwise
@@ -73,14 +73,14 @@ IsFullTried w s it (tried.Ended answer) = IsFullOn s it w answer
 IsFullTried w s it (tried.Waits page again) = Unit {0}
 
 -- the same of a step of a call that may bring pages in, each of which asks a place too
-abbrev pub IsFullStep : Standing → Call → Step → Type 0
-IsFullStep w it (step.Ended answer) = IsFullCall it w answer
-IsFullStep w it other = Unit {0}
+abbrev pub IsFullCallStep : Standing → Call → CallStep → Type 0
+IsFullCallStep w it (step.Ended answer) = IsFullCall it w answer
+IsFullCallStep w it other = Unit {0}
 
 -- The pass goes on as it stood; with a page that is to be read it has a place reserved for the entry.
-abbrev pub StepWent : Step → Standing → Standing → Type 0
-StepWent (step.Reads page again) old new = WentWith (suc old.in_flight) old new
-StepWent other old new = Went old new
+abbrev pub CallStepWent : CallStep → Standing → Standing → Type 0
+CallStepWent (step.Reads page again) old new = WentWith (suc old.in_flight) old new
+CallStepWent other old new = Went old new
 
 -- A page that is to come in was read from what the disk is known to hold, if it was read.
 abbrev pub WasReadFor : Standing → ℕ → ℕ → Option (List ℕ) → Type 0
@@ -106,8 +106,8 @@ pub record HasNotLanded (w : Standing) (s : ℕ) (it : Call) (page : ℕ) (raw :
   pub reason : IsNotToLand w.setup seen s it page raw
 
 -- What became of a page that was looked for.
-abbrev pub LandLeft : Standing → ℕ → Call → ℕ → Option (List ℕ) → List Entry → Type 0
-LandLeft w s it page raw seen = HasLanded w s it page seen ⊎ HasNotLanded w s it page raw seen
+abbrev pub VisitLandLeft : Standing → ℕ → Call → ℕ → Option (List ℕ) → List Entry → Type 0
+VisitLandLeft w s it page raw seen = HasLanded w s it page seen ⊎ HasNotLanded w s it page raw seen
 
 -- A page is not on the disk alone any more, and the pass placed nothing.
 pub record IsElsewhere (w : Standing) (s page : ℕ) (seen : List Entry) : Type 0 where
@@ -120,9 +120,9 @@ UnreadPlaced old new s page true = HasPlaced old (entry.FillFailed old.number (r
 UnreadPlaced old new s page false = SameDisk old.seen new.seen s × IsElsewhere old s page new.seen
 
 -- Where the entry stands the call was halted by it, else it is under way.
-abbrev pub UnreadLeft : Setup → ℕ → ℕ → Call → ℕ → Bool → List Entry → List Entry → Type 0
-UnreadLeft u me s it page true old new = IsHalted u me s it (error.ReadFault page) old new
-UnreadLeft u me s it page false old new = IsUnderWay me it old new
+abbrev pub VisitUnreadLeft : Setup → ℕ → ℕ → Call → ℕ → Bool → List Entry → List Entry → Type 0
+VisitUnreadLeft u me s it page true old new = IsHalted u me s it (error.ReadFault page) old new
+VisitUnreadLeft u me s it page false old new = IsUnderWay me it old new
 
 -- A page of the block to give up went out: its entry is the last, and it was the next to go at that front.
 pub record HasGoneOut (w : Standing) (s : ℕ) (it : Call) (seen : List Entry) : Type 0 where
@@ -133,8 +133,8 @@ pub record HasGoneOut (w : Standing) (s : ℕ) (it : Call) (seen : List Entry) :
 
 -- What a step placed, by cases over it: where it asks for a page it placed nothing, and for the block of one that is to
 -- come in there is room.
-abbrev pub StepPlaced : Standing → ℕ → Call → Step → List Entry → Type 0
-StepPlaced w s it (step.Ended answer) seen = Unit {0}
-StepPlaced w s it (step.WentOut again) seen = HasGoneOut w s it seen
-StepPlaced w s it (step.Writes page again) seen = Grows w seen
-StepPlaced w s it (step.Reads page again) seen = Grows w seen × (has_room (history seen s) page ≡ true)
+abbrev pub CallStepPlaced : Standing → ℕ → Call → CallStep → List Entry → Type 0
+CallStepPlaced w s it (step.Ended answer) seen = Unit {0}
+CallStepPlaced w s it (step.WentOut again) seen = HasGoneOut w s it seen
+CallStepPlaced w s it (step.Writes page again) seen = Grows w seen
+CallStepPlaced w s it (step.Reads page again) seen = Grows w seen × (has_room (history seen s) page ≡ true)

@@ -43,7 +43,7 @@ pub record IsStoppedBy (me : ℕ) (work : Work) (stop : Entry) (old new : List E
   pub stopped : IsStopped me stop during
 
 -- A fault stopped it, which is among those since the pass's last call.
-pub record HasFailed (me : ℕ) (work : Work) (fault : Fault) (old new : List Entry) : Type 0 where
+pub record WorkHasFailed (me : ℕ) (work : Work) (fault : Fault) (old new : List Entry) : Type 0 where
   pub stop : Entry
   pub stopped : IsStoppedBy me work stop old new
   pub shown : fault_of me stop ≡ Some fault
@@ -64,7 +64,7 @@ WasAdmitted u it s old new = AtSome (λ moment. refusal u moment (history moment
 pub record IsHalted (u : Setup) (me s : ℕ) (it : Call) (e : CcError) (old new : List Entry) : Type 0 where
   pub fault : Fault
   pub is : tells it e fault ≡ true
-  pub failed : HasFailed me (Calls it) fault old new
+  pub failed : WorkHasFailed me (Calls it) fault old new
   pub admitted : WasAdmitted u it s old (failed.stopped.stopped.before ++ old)
 
 -- whether an error tells a fault, or want of room or of memory
@@ -77,8 +77,8 @@ is_met error.NoMemory = true
 is_met other = false
 
 -- A call on the stream is answered such an error, or what refuses it at a moment.
-abbrev pub IsReason : Setup → ℕ → Call → CcError → Type 0
-IsReason u s it e = (is_met e ≡ true) ⊎ ((past : List Entry) × (refusal u past (history past s) it ≡ Some e))
+abbrev pub IsCallReason : Setup → ℕ → Call → CcError → Type 0
+IsCallReason u s it e = (is_met e ≡ true) ⊎ ((past : List Entry) × (refusal u past (history past s) it ≡ Some e))
 
 -- what a caller is told of a reply: the bytes of a read, in the front of what it handed in, the id of a hold, a flag, as
 -- that of a read-ahead step too, the LSNs of a stream, or its state
@@ -100,12 +100,12 @@ EndedSo u me it (Ok told) old new was now =
 EndedSo u me it (Err e) old new was now = CallLeft u me it (outcome.Failed e) old new × (now ≡ was)
 
 -- What was handed in has room for what the call reads.
-abbrev pub FitsIn : Call → List ℕ → Type 0
-FitsIn (call.CopyRead file at len wait) out = len ≤ length out
-FitsIn (call.MappedRead hold at len) out = len ≤ length out
-FitsIn (call.PinnedRead hold at len) out = len ≤ length out
-FitsIn (call.MdlBytes hold at len) out = len ≤ length out
-FitsIn other out = Unit {0}
+abbrev pub ReadFitsIn : Call → List ℕ → Type 0
+ReadFitsIn (call.CopyRead file at len wait) out = len ≤ length out
+ReadFitsIn (call.MappedRead hold at len) out = len ≤ length out
+ReadFitsIn (call.PinnedRead hold at len) out = len ≤ length out
+ReadFitsIn (call.MdlBytes hold at len) out = len ≤ length out
+ReadFitsIn other out = Unit {0}
 
 -- Where a call finds the journal full, it has so many entries, and no room for so many more beside what is owed and
 -- under way.
@@ -120,13 +120,13 @@ IsFull asked w (Ok a) = Unit {0}
 IsFull asked w (Err e) = IsFullError asked w e
 
 -- Nothing refuses a call on a file, and each page of its range is resident.
-abbrev pub IsReady : Setup → Call → List Entry → Type 0
-IsReady u it past = IfSome (file_of it) (λ file. IsReadyFor u past file.stream it)
+abbrev pub CallIsReady : Setup → Call → List Entry → Type 0
+CallIsReady u it past = IfSome (file_of it) (λ file. IsReadyFor u past file.stream it)
 
 -- Where a call finds the journal full, there is no room for all that it asks; and there is none for one entry, or the call is
 -- ready to be done as it finds that.
 abbrev pub IsFullCall : {A : Type 0} → Call → Standing → Result A CcError → Type 0
-IsFullCall it w answer = IsFull (most_asked it) w answer × (IsFull 1 w answer ⊎ IsReady w.setup it w.seen)
+IsFullCall it w answer = IsFull (most_asked it) w answer × (IsFull 1 w answer ⊎ CallIsReady w.setup it w.seen)
 
 -- Where a call on a stream finds the journal full, there is no room for what it asks of the holds as they are there: a pinned
 -- write asks one place where its pin owes a set-dirty, else two. And there is none for one entry, or the call is ready to be

@@ -25,9 +25,9 @@ use Rattle.cc_turns.specs.Disk.{DiskStands, opening_of}
 use Rattle.cc_turns.specs.Standing.{Standing}
 use Rattle.cc_turns.specs.Takes.{Grows}
 use Rattle.cc_writes.specs.Hands.{HasBook, IsAtRest}
-use Rattle.cc_writes.specs.Ways.{IsAtWork, IsStoppedBy, HasFailed}
-use Rattle.cc_writes.specs.declared.writes.PageWrite.{PageWrite}
-use Rattle.cc_writes.specs.declared.writes.PageWrite.TheVariants as write
+use Rattle.cc_writes.specs.Ways.{IsAtWork, IsStoppedBy, WorkHasFailed}
+use Rattle.cc_writes.specs.declared.writes.PageTransfer.{PageTransfer}
+use Rattle.cc_writes.specs.declared.writes.PageTransfer.TheVariants as write
 
 -- A pass has the disk and the book of a stream in its hands, and no transfer of the stream is under way: both stand for
 -- what it has seen.
@@ -44,20 +44,20 @@ pub record IsToWrite (page : Page) (past : List Entry) : Type 0 where
   pub stamped : is_unstamped (history past page.stream) page.page ≡ false
 
 -- the transfer found no memory
-pub record WantedMemory (me : ℕ) (work : Work) (old new : List Entry) : Type 0 where
+pub record WorkWantedMemory (me : ℕ) (work : Work) (old new : List Entry) : Type 0 where
   pub stop : Entry
   pub stopped : IsStoppedBy me work stop old new
   pub want : found_no_memory stop ≡ true
 
 -- What the writing of a page left of the work that was under way, by cases over its answer: the page was written, or
 -- the disk or the log failed; there was no room for its entries; memory was wanting, before the transfer or in it.
-abbrev pub WriteLeft : ℕ → Work → Page → Result PageWrite CcError → List Entry → List Entry → Type 0
-WriteLeft me work page (Ok write.Written) old new = IsAtWork me work old new
-WriteLeft me work page (Ok write.NotWritten) old new = HasFailed me work (WriteFailed page.page) old new
-WriteLeft me work page (Ok (write.NotLogged handle)) old new = HasFailed me work (LogFailed handle) old new
-WriteLeft me work page (Err (error.JournalFull entries)) old new = IsAtWork me work old new
-WriteLeft me work page (Err error.NoMemory) old new = IsAtWork me work old new ⊎ WantedMemory me work old new
-WriteLeft me work page (Err other) old new = ⊥
+abbrev pub WorkWriteLeft : ℕ → Work → Page → Result PageTransfer CcError → List Entry → List Entry → Type 0
+WorkWriteLeft me work page (Ok write.Written) old new = IsAtWork me work old new
+WorkWriteLeft me work page (Ok write.NotWritten) old new = WorkHasFailed me work (WriteFailed page.page) old new
+WorkWriteLeft me work page (Ok (write.NotLogged handle)) old new = WorkHasFailed me work (LogFailed handle) old new
+WorkWriteLeft me work page (Err (error.JournalFull entries)) old new = IsAtWork me work old new
+WorkWriteLeft me work page (Err error.NoMemory) old new = IsAtWork me work old new ⊎ WorkWantedMemory me work old new
+WorkWriteLeft me work page (Err other) old new = ⊥
 
 -- So far the pass placed nothing, or that a log was flushed; and nobody changed a stream whose book and disk it holds.
 pub record IsBefore (w : Standing) (past : List Entry) : Type 0 where
@@ -86,7 +86,7 @@ pub record HasNotLogged (w : Standing) (page : Page) (handle : ℕ) (seen : List
   pub placed : seen ≡ entry.LogFailed w.number handle ∷ front
 
 -- What is answered stands in the journal, by cases over the answer.
-abbrev pub WriteShown : Standing → Page → Bool → Result PageWrite CcError → List Entry → Type 0
+abbrev pub WriteShown : Standing → Page → Bool → Result PageTransfer CcError → List Entry → Type 0
 WriteShown w page keeps (Ok write.Written) seen = HasTransferred w page how.Good keeps seen
 WriteShown w page keeps (Ok write.NotWritten) seen = HasTransferred w page how.Failed keeps seen
 WriteShown w page keeps (Ok (write.NotLogged handle)) seen = HasNotLogged w page handle seen

@@ -12,13 +12,13 @@ ghost use Rattle.cc_step.specs.Step.{is_answered};
 ghost use Rattle.cc_effects.specs.Begins.{BeginsAscending, BeginsNone, TakesNoneOut};
 ghost use Rattle.cc_writes.specs.Alone.{NobodyElseChanged};
 ghost use Rattle.cc_writes.specs.Hands.{HasBook, IsAtRest, SameDisk, Went};
-ghost use Rattle.cc_writes.specs.Ways.{IsFull, IsHalted, IsReason};
-ghost use Rattle.cc_writes.specs.Visits.{IsOf};
-ghost use Rattle.cc_writes.specs.Calls.{IsFullWriting, KeepsWork, MayFaultInWriting, PageLeft};
+ghost use Rattle.cc_writes.specs.Ways.{IsFull, IsHalted, IsCallReason};
+ghost use Rattle.cc_writes.specs.Visits.{CallIsOfStream};
+ghost use Rattle.cc_writes.specs.Calls.{IsFullWriting, KeepsWork, MayFaultInWriting, PageStepLeft};
 ghost use Rattle.cc_writes.specs.Writes.{HasBoth, HasTransferred, IsToWrite};
 
 use crate::fail_at;
-use crate::writes::{PageWrite, write_page};
+use crate::writes::{PageTransfer, write_page};
 use cc_book::Book;
 use cc_entry::{Call, CcError};
 use cc_turns::Turns;
@@ -39,7 +39,7 @@ pub fn write_for<T: Turns>(
     requires none { (T.standing turns.old).in_flight ≡ 0 }
     requires answered { is_answered call ≡ true }
     requires faults { MayFaultInWriting call }
-    requires filed { IsOf call book.stream }
+    requires filed { CallIsOfStream call book.stream }
     requires admitted { refusal (T.standing turns.old).setup (T.standing turns.old).seen
         (history (T.standing turns.old).seen book.stream) call ≡ None }
     requires asked { may_write (Calls call) (record { stream = book.stream; page = page })
@@ -49,9 +49,9 @@ pub fn write_for<T: Turns>(
     ensures went { Went (T.standing turns.old) (T.standing turns.new) }
     ensures left { (begun : List Entry) →
         IsUnderWay (T.standing turns.old).number call begun (T.standing turns.old).seen →
-        PageLeft (T.standing turns.old).setup (T.standing turns.old).number call result.1
+        PageStepLeft (T.standing turns.old).setup (T.standing turns.old).number call result.1
         begun (T.standing turns.new).seen }
-    ensures reason { IfErr result.1 (IsReason (T.standing turns.old).setup book.stream call) }
+    ensures reason { IfErr result.1 (IsCallReason (T.standing turns.old).setup book.stream call) }
     ensures written { IfOk result.1 (λ again. HasTransferred (T.standing turns.old)
         (record { stream = book.stream; page = page }) how.Good keeps (T.standing turns.new).seen) }
     ensures works { IfOk result.1 (λ again. KeepsWork (T.standing turns.old)
@@ -66,9 +66,15 @@ pub fn write_for<T: Turns>(
 {
     let (book, written) = write_page(turns, disk, book, page, keeps);
     match written {
-        Ok(PageWrite::Written) => (book, Ok(call)),
-        Ok(PageWrite::NotWritten) => fail(alloc, turns, book, call, CcError::WriteFault { page }),
-        Ok(PageWrite::NotLogged(handle)) => {
+        Ok(PageTransfer::Written) => (book, Ok(call)),
+        Ok(PageTransfer::NotWritten) => fail(
+            alloc,
+            turns,
+            book,
+            call,
+            CcError::WriteFault { page },
+        ),
+        Ok(PageTransfer::NotLogged(handle)) => {
             let handle = u64::from(handle);
             fail(alloc, turns, book, call, CcError::LogFault { handle })
         }
@@ -89,7 +95,7 @@ pub fn fail<T: Turns>(
     requires none { (T.standing turns.old).in_flight ≡ 0 }
     requires answered { is_answered call ≡ true }
     requires listed { may_refuse call fault ≡ true }
-    requires filed { IsOf call book.stream }
+    requires filed { CallIsOfStream call book.stream }
     requires halted { (begun : List Entry) × IsHalted (T.standing turns.old).setup (T.standing turns.old).number
         book.stream call fault begun (T.standing turns.old).seen }
     ensures book { HasBook (T.standing turns.new) book.stream result.0 }
@@ -98,13 +104,13 @@ pub fn fail<T: Turns>(
     ensures disk { SameDisk (T.standing turns.old).seen (T.standing turns.new).seen book.stream }
     ensures left { (begun : List Entry) → IsHalted (T.standing turns.old).setup (T.standing turns.old).number
         book.stream call fault begun (T.standing turns.old).seen →
-        PageLeft (T.standing turns.old).setup (T.standing turns.old).number call result.1
+        PageStepLeft (T.standing turns.old).setup (T.standing turns.old).number call result.1
         begun (T.standing turns.new).seen }
     ensures begun { BeginsNone (T.standing turns.old).number (T.standing turns.old).seen (T.standing turns.new).seen }
     ensures stays { TakesNoneOut (T.standing turns.old).number (T.standing turns.old).seen (T.standing turns.new).seen }
     ensures alone { NobodyElseChanged (T.standing turns.old).number book.stream
         (T.standing turns.old).seen (T.standing turns.new).seen }
-    ensures reason { IfErr result.1 (IsReason (T.standing turns.old).setup book.stream call) }
+    ensures reason { IfErr result.1 (IsCallReason (T.standing turns.old).setup book.stream call) }
     ensures failed { IsErr result.1 }
     ensures full { IsFull 1 (T.standing turns.new) result.1 }
 {

@@ -42,5 +42,5 @@ pub use pages::read_free;
 pub use release::release_at;
 pub use rounds::fetch;
 pub use tell::{Returned, tell_last};
-pub use visits::{Step, Tried, attempt_at, fail_at, land_at, next_at, unread_at};
-pub use writes::{PageWrite, finish_transfer, write_page};
+pub use visits::{CallStep, Tried, attempt_at, fail_at, land_at, next_call_step, unread_at};
+pub use writes::{PageTransfer, finish_transfer, write_page};

@@ -11,7 +11,7 @@ ghost use Rattle.cc_turns.specs.Takes.{Grows};
 ghost use Rattle.cc_writes.specs.Hands.{HasBook, IsAtRest, Went, WentWith};
 ghost use Rattle.cc_writes.specs.Visits.{HasPlaced};
 ghost use Rattle.cc_writes.specs.Ways.{IsFull};
-ghost use Rattle.cc_writes.specs.Logs.{FlushLeft, LogLeft, NewestLeft, ReservedLeft, MayLog, HoldsBoth, newest_later};
+ghost use Rattle.cc_writes.specs.Logs.{FlushLeft, FlushToLsnLeft, NewestLeft, ReservedLeft, MayLog, HoldsBoth, newest_later_in};
 
 use cc_book::Book;
 use cc_dirty::Row;
@@ -101,7 +101,7 @@ fn newest_reserved<Q>(journal: &mut Journal<Q>, page: PageId) -> Result<Option<L
 
 // The newest LSN of what was touched of a row's page since its last transfer began.
 fn newest_later(row: Option<Row>) -> Option<Lsn>
-    ensures { result ≡ newest_later row }
+    ensures { result ≡ newest_later_in row }
 {
     row?.later.lsns.map(|lsns| lsns.1)
 }
@@ -117,7 +117,7 @@ pub fn flush_to<T: Turns>(turns: &mut T, handle: u8, to: Lsn) -> Result<LogFlush
     requires reserved { (T.standing turns.old).in_flight ≡ 1 }
     ensures good { IsGood (T.standing turns.new).setup (T.standing turns.new).seen }
     ensures went { WentWith 0 (T.standing turns.old) (T.standing turns.new) }
-    ensures left { LogLeft (T.standing turns.old) handle to result (T.standing turns.new).seen }
+    ensures left { FlushToLsnLeft (T.standing turns.old) handle to result (T.standing turns.new).seen }
 {
     let mut log = turns.take_log(handle);
     let flushed = flush_in_hand(turns, &mut log, handle, to);
@@ -140,7 +140,7 @@ fn flush_in_hand<T: Turns>(
         (T.standing turns.old).seen log.old }
     ensures good { IsGood (T.standing turns.new).setup (T.standing turns.new).seen }
     ensures went { WentWith 0 (T.standing turns.old) (T.standing turns.new) }
-    ensures left { LogLeft (T.standing turns.old) handle to result (T.standing turns.new).seen }
+    ensures left { FlushToLsnLeft (T.standing turns.old) handle to result (T.standing turns.new).seen }
     ensures handle { log.new.handle ≡ handle }
     ensures stands { LogStands T.Log.told T.Log.faults ((T.standing turns.new).logs handle)
         (T.standing turns.new).seen log.new }

@@ -11,10 +11,10 @@ ghost use Rattle.cc_effects.specs.Places.{is_on_disk_alone};
 ghost use Rattle.cc_step.specs.Step.{is_stepped};
 ghost use Rattle.cc_writes.specs.Hands.{HasBook, IsAtRest, SameDisk, Went, WentWith};
 ghost use Rattle.cc_writes.specs.Ways.{IsFull, WasWanted};
-ghost use Rattle.cc_writes.specs.Visits.{IsElsewhere, IsOf, IsWaitedFor, LandLeft, WasReadFor};
-ghost use Rattle.cc_writes.specs.Calls.{PageLeft};
+ghost use Rattle.cc_writes.specs.Visits.{IsElsewhere, CallIsOfStream, IsWaitedFor, VisitLandLeft, WasReadFor};
+ghost use Rattle.cc_writes.specs.Calls.{PageStepLeft};
 ghost use Rattle.cc_writes.specs.Writes.{HasBoth};
-ghost use Rattle.cc_writes.specs.Rounds.{BringLeft, IsBroughtKept, MayTellFailure, WasTold, IsWanted};
+ghost use Rattle.cc_writes.specs.Rounds.{AwaitedPageLeft, IsBroughtKept, MayTellFailure, WasTold, CallWantedPage};
 
 use crate::calls::{fail, given_up};
 use crate::{land_at, release_at, unread_at};
@@ -40,15 +40,15 @@ pub(crate) fn bring<T: Turns>(
     requires reserved { (T.standing turns.old).in_flight ≡ 1 }
     requires stepped { is_stepped call ≡ true }
     requires brings { brings_in call ≡ true }
-    requires filed { IsOf call book.stream }
+    requires filed { CallIsOfStream call book.stream }
     requires waited { IsWaitedFor (T.standing turns.old).setup book.stream call page (T.standing turns.old).seen }
     ensures both { HasBoth T.Disk.told T.Disk.faults (T.standing turns.new) book.stream result.0 disk.new }
     ensures went { WentWith 0 (T.standing turns.old) (T.standing turns.new) }
     ensures left { (begun : List Entry) →
         IsUnderWay (T.standing turns.old).number call begun (T.standing turns.old).seen →
-        PageLeft (T.standing turns.old).setup (T.standing turns.old).number call result.1
+        PageStepLeft (T.standing turns.old).setup (T.standing turns.old).number call result.1
         begun (T.standing turns.new).seen }
-    ensures brought { OnOk result.1 (BringLeft (T.standing turns.old) book.stream call page (T.standing turns.new).seen) }
+    ensures brought { OnOk result.1 (AwaitedPageLeft (T.standing turns.old) book.stream call page (T.standing turns.new).seen) }
     ensures kept { IsBroughtKept (T.standing turns.old) book.stream call page keeps result.1 (T.standing turns.new).seen }
     ensures unread { is_on_disk_alone (record { stream = book.stream; page = page }) (T.standing turns.old).seen ≡ false →
         disk.new ≡ disk.old }
@@ -57,7 +57,7 @@ pub(crate) fn bring<T: Turns>(
     if page < book.valid().div_ceil(4096) {
         bring_read(alloc, turns, disk, book, call, page, keeps)
     } else {
-        land(alloc, turns, book, call, page, None)
+        land_for_call(alloc, turns, book, call, page, None)
     }
 }
 
@@ -76,23 +76,23 @@ fn bring_read<T: Turns>(
     requires reserved { (T.standing turns.old).in_flight ≡ 1 }
     requires stepped { is_stepped call ≡ true }
     requires brings { brings_in call ≡ true }
-    requires filed { IsOf call book.stream }
+    requires filed { CallIsOfStream call book.stream }
     requires waited { IsWaitedFor (T.standing turns.old).setup book.stream call page (T.standing turns.old).seen }
     requires alone { is_on_disk_alone (record { stream = book.stream; page = page }) (T.standing turns.old).seen ≡ true }
     ensures both { HasBoth T.Disk.told T.Disk.faults (T.standing turns.new) book.stream result.0 disk.new }
     ensures went { WentWith 0 (T.standing turns.old) (T.standing turns.new) }
     ensures left { (begun : List Entry) →
         IsUnderWay (T.standing turns.old).number call begun (T.standing turns.old).seen →
-        PageLeft (T.standing turns.old).setup (T.standing turns.old).number call result.1
+        PageStepLeft (T.standing turns.old).setup (T.standing turns.old).number call result.1
         begun (T.standing turns.new).seen }
-    ensures brought { OnOk result.1 (BringLeft (T.standing turns.old) book.stream call page (T.standing turns.new).seen) }
+    ensures brought { OnOk result.1 (AwaitedPageLeft (T.standing turns.old) book.stream call page (T.standing turns.new).seen) }
     ensures kept { IsBroughtKept (T.standing turns.old) book.stream call page keeps result.1 (T.standing turns.new).seen }
     ensures full { IsFull 1 (T.standing turns.new) result.1 }
 {
     let mut raw = [0; 4096];
     let (book, answer) = read_page(turns, disk, book, page, &mut raw, keeps);
     match answer {
-        Ok(()) => land(alloc, turns, book, call, page, Some(&raw)),
+        Ok(()) => land_for_call(alloc, turns, book, call, page, Some(&raw)),
         Err(Stop::Failed) => unread(alloc, turns, book, call, page),
         Err(Stop::NoMemory) => release(turns, book, call),
     }
@@ -150,7 +150,7 @@ pub fn read_free<T: Turns>(
 }
 
 // Brings a page in from the bytes that were read of it, where it was read.
-fn land<T: Turns>(
+fn land_for_call<T: Turns>(
     alloc: Global,
     turns: &mut T,
     mut book: Book,
@@ -163,7 +163,7 @@ fn land<T: Turns>(
     requires reserved { (T.standing turns.old).in_flight ≡ 1 }
     requires stepped { is_stepped call ≡ true }
     requires brings { brings_in call ≡ true }
-    requires filed { IsOf call book.stream }
+    requires filed { CallIsOfStream call book.stream }
     requires read { WasReadFor (T.standing turns.old) book.stream page (option_map (λ bytes. bytes.now) raw) }
     ensures book { HasBook (T.standing turns.new) book.stream result.0 }
     ensures rest { IsAtRest (T.standing turns.new) book.stream }
@@ -171,9 +171,9 @@ fn land<T: Turns>(
     ensures disk { SameDisk (T.standing turns.old).seen (T.standing turns.new).seen book.stream }
     ensures left { (begun : List Entry) →
         IsUnderWay (T.standing turns.old).number call begun (T.standing turns.old).seen →
-        PageLeft (T.standing turns.old).setup (T.standing turns.old).number call result.1
+        PageStepLeft (T.standing turns.old).setup (T.standing turns.old).number call result.1
         begun (T.standing turns.new).seen }
-    ensures landed { OnOk result.1 (LandLeft (T.standing turns.old) book.stream call page (option_copied raw.entry)
+    ensures landed { OnOk result.1 (VisitLandLeft (T.standing turns.old) book.stream call page (option_copied raw.entry)
         (T.standing turns.new).seen) }
     ensures full { IsFull 1 (T.standing turns.new) result.1 }
 {
@@ -196,8 +196,8 @@ fn unread<T: Turns>(
     requires reserved { (T.standing turns.old).in_flight ≡ 1 }
     requires stepped { is_stepped call ≡ true }
     requires brings { brings_in call ≡ true }
-    requires filed { IsOf call book.stream }
-    requires wanted { IsWanted (T.standing turns.old) book.stream call page }
+    requires filed { CallIsOfStream call book.stream }
+    requires wanted { CallWantedPage (T.standing turns.old) book.stream call page }
     ensures book { HasBook (T.standing turns.new) book.stream result.0 }
     ensures rest { IsAtRest (T.standing turns.new) book.stream }
     ensures went { WentWith 0 (T.standing turns.old) (T.standing turns.new) }
@@ -206,7 +206,7 @@ fn unread<T: Turns>(
         IsUnderWay (T.standing turns.old).number call begun (T.standing turns.old).seen →
         WasWanted (T.standing turns.old).setup call (record { stream = book.stream; page = page })
         begun (T.standing turns.old).seen →
-        PageLeft (T.standing turns.old).setup (T.standing turns.old).number call result.1
+        PageStepLeft (T.standing turns.old).setup (T.standing turns.old).number call result.1
         begun (T.standing turns.new).seen }
     ensures passed_over { OnOk result.1
         (IsElsewhere (T.standing turns.old) book.stream page (T.standing turns.new).seen) }
@@ -232,7 +232,7 @@ fn release<T: Turns>(turns: &mut T, book: Book, call: Call) -> (Book, Result<Cal
     ensures disk { SameDisk (T.standing turns.old).seen (T.standing turns.new).seen book.stream }
     ensures left { (begun : List Entry) →
         IsUnderWay (T.standing turns.old).number call begun (T.standing turns.old).seen →
-        PageLeft (T.standing turns.old).setup (T.standing turns.old).number call result.1
+        PageStepLeft (T.standing turns.old).setup (T.standing turns.old).number call result.1
         begun (T.standing turns.new).seen }
     ensures failed { IsErr result.1 }
     ensures full { IsFull 1 (T.standing turns.new) result.1 }

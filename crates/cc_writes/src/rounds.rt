@@ -7,8 +7,8 @@ ghost use Rattle.cc_effects.specs.Calls.{IsUnderWay};
 ghost use Rattle.cc_model.specs.Good.{IsGood};
 ghost use Rattle.cc_step.specs.Step.{is_stepped};
 ghost use Rattle.cc_writes.specs.Hands.{Went};
-ghost use Rattle.cc_writes.specs.Ways.{EndedSo, FitsIn};
-ghost use Rattle.cc_writes.specs.Visits.{IsOf};
+ghost use Rattle.cc_writes.specs.Ways.{EndedSo, ReadFitsIn};
+ghost use Rattle.cc_writes.specs.Visits.{CallIsOfStream};
 ghost use Rattle.cc_writes.specs.Writes.{HasBoth};
 ghost use Rattle.cc_writes.specs.Fetch.{CanCall, IsFullFetching, WentOn};
 ghost use Rattle.cc_writes.specs.Rounds.{RoundLeft, IsFullCourse, IsNearer, course_of};
@@ -17,7 +17,7 @@ use crate::calls::write_for;
 use crate::course::Course;
 use crate::keeping::Rounds;
 use crate::pages::bring;
-use crate::{Returned, Step, next_at};
+use crate::{CallStep, Returned, next_call_step};
 use cc_book::Book;
 use cc_entry::{Call, CcError, StreamId};
 use cc_turns::Turns;
@@ -37,8 +37,8 @@ pub fn fetch<T: Turns>(
     requires can { CanCall (T.standing turns.old) stream }
     requires stepped { is_stepped call ≡ true }
     requires brings { brings_in call ≡ true }
-    requires filed { IsOf call stream }
-    requires fits { FitsIn call out.old }
+    requires filed { CallIsOfStream call stream }
+    requires fits { ReadFitsIn call out.old }
     ensures goes_on { WentOn (T.standing turns.old) (T.standing turns.new) }
     ensures good { IsGood (T.standing turns.new).setup (T.standing turns.new).seen }
     ensures left { (begun : List Entry) →
@@ -70,8 +70,8 @@ fn until_ended<T: Turns>(
     requires none { (T.standing turns.old).in_flight ≡ 0 }
     requires stepped { is_stepped call ≡ true }
     requires brings { brings_in call ≡ true }
-    requires filed { IsOf call book.stream }
-    requires fits { FitsIn call out.old }
+    requires filed { CallIsOfStream call book.stream }
+    requires fits { ReadFitsIn call out.old }
     ensures both { HasBoth T.Disk.told T.Disk.faults (T.standing turns.new) book.stream result.0 disk.new }
     ensures went { Went (T.standing turns.old) (T.standing turns.new) }
     ensures left { (begun : List Entry) →
@@ -106,8 +106,8 @@ fn round<T: Turns>(
     requires none { (T.standing turns.old).in_flight ≡ 0 }
     requires stepped { is_stepped call ≡ true }
     requires brings { brings_in call ≡ true }
-    requires filed { IsOf call book.stream }
-    requires fits { FitsIn call out.old }
+    requires filed { CallIsOfStream call book.stream }
+    requires fits { ReadFitsIn call out.old }
     ensures both { HasBoth T.Disk.told T.Disk.faults (T.standing turns.new) book.stream result.0 disk.new }
     ensures went { Went (T.standing turns.old) (T.standing turns.new) }
     ensures left { (begun : List Entry) →
@@ -118,15 +118,15 @@ fn round<T: Turns>(
         (T.standing turns.old).seen (T.standing turns.new).seen }
     ensures full { IsFullCourse call (T.standing turns.new) result.1 }
 {
-    match next_at(alloc, turns, &mut book, call, out) {
-        Step::Ended(answer) => (book, Course::Ended(answer)),
-        Step::WentOut(call) => (book, Course::Goes(call)),
-        Step::Writes(page, call) => {
+    match next_call_step(alloc, turns, &mut book, call, out) {
+        CallStep::Ended(answer) => (book, Course::Ended(answer)),
+        CallStep::WentOut(call) => (book, Course::Goes(call)),
+        CallStep::Writes(page, call) => {
             let keeps = rounds.keeps_for_write(page);
             let (book, left) = write_for(alloc, turns, disk, book, call, page, keeps);
             (book, course_of(left))
         }
-        Step::Reads(page, call) => {
+        CallStep::Reads(page, call) => {
             let keeps = rounds.keeps_for_read(page);
             let (book, left) = bring(alloc, turns, disk, book, call, page, keeps);
             (book, course_of(left))

@@ -30,7 +30,7 @@ pub fn tell_last<Q>(journal: &Journal<Q>, out: &mut [u8]) -> Returned
     requires fits { FitsLast journal.now.entries out.old }
     ensures { ToldLast journal.now.entries result out.old out.new }
 {
-    match journal.entries().last() {
+    match journal.last() {
         Some(entry) => match reply_of(entry) {
             Some(reply) => told(reply, out),
             None => Returned::Nothing,

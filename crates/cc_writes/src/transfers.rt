@@ -2,7 +2,7 @@
 
 ghost use Rattle.std.specs.Prelude.{◌≡◌, ◌<◌, ◌≤◌, true, None, Some};
 ghost use Rattle.cc_entry.specs.declared.entry.Entry.TheVariants as entry;
-ghost use Rattle.cc_book.specs.Book.{MayPlace};
+ghost use Rattle.cc_book.specs.Book.{MayPlaceOnBook};
 ghost use Rattle.cc_model.specs.Covered.{IsLogged};
 ghost use Rattle.cc_model.specs.History.{history};
 ghost use Rattle.cc_model.specs.Images.{open_of};
@@ -54,7 +54,7 @@ fn begin<Q>(
     page: PageId,
 ) -> Result<Frame, CcError>
     requires stream { page.stream ≡ book.old.stream }
-    requires may { MayPlace journal.old.entries (entry.WriteBegin pass page) book.old }
+    requires may { MayPlaceOnBook journal.old.entries (entry.WriteBegin pass page) book.old }
     ensures { BegunLeft pass page result book.old book.new journal.old journal.new }
 {
     match journal.reserve(2) {

@@ -7,21 +7,21 @@ ghost use Rattle.cc_entry.specs.declared.reply.Outcome.TheVariants as outcome;
 ghost use Rattle.cc_effects.specs.Asked.{brings_in};
 ghost use Rattle.cc_effects.specs.Calls.{CallLeft, IsUnderWay};
 ghost use Rattle.cc_effects.specs.Refusals.{may_refuse};
-ghost use Rattle.cc_step.specs.Fill.{MayLand, LandLeft as BookLandLeft};
+ghost use Rattle.cc_step.specs.Fill.{MayLand, LandLeft as BookLandLeft, UnreadLeft};
 ghost use Rattle.cc_model.specs.Setup.{Setup};
 ghost use Rattle.cc_step.specs.Step.{StandUnder, is_answered, is_stepped};
 ghost use Rattle.cc_effects.specs.Begins.{BeginsNone, TakesNoneOut};
 ghost use Rattle.cc_writes.specs.Alone.{NobodyElseChanged};
 ghost use Rattle.cc_writes.specs.Hands.{HasBook, IsAtRest, SameDisk, Went, WentWith};
-ghost use Rattle.cc_writes.specs.Told.{FitsNext, FitsStepped, StepAs, TriedAs, UnreadTold, answer_of};
-ghost use Rattle.cc_writes.specs.Ways.{FitsIn, IsFull, IsHalted, IsReason, WasWanted};
-ghost use Rattle.cc_writes.specs.Visits.{IsFiledNow, IsOf, TriedLeft, StepLeft, StepPlaced, StepWent, IsFullTried, IsFullStep, WasReadFor, LandLeft, UnreadPlaced, UnreadLeft};
+ghost use Rattle.cc_writes.specs.Told.{FitsNext, FitsStepped, StepAs, TriedAs, fault_answer};
+ghost use Rattle.cc_writes.specs.Ways.{ReadFitsIn, IsFull, IsHalted, IsCallReason, WasWanted};
+ghost use Rattle.cc_writes.specs.Visits.{IsFiledNow, CallIsOfStream, TriedLeft, CallStepLeft, CallStepPlaced, CallStepWent, IsFullTried, IsFullCallStep, WasReadFor, VisitLandLeft, UnreadPlaced, VisitUnreadLeft};
 
 use crate::tell::{Returned, tell_last};
 use cc_book::Book;
 use cc_entry::{Call, CcError, NoMemory};
 use cc_journal::Journal;
-use cc_step::{Failed, Next, Stepped, attempt, fail, land, next, unread};
+use cc_step::{Failed, Next, Stepped, attempt, fail, land_on_book, next, unread};
 use cc_turns::Turns;
 use std::alloc::Global;
 
@@ -36,7 +36,7 @@ pub enum Tried {
 
 /// What a call does next that may bring pages in.
 #[derive(Drop)]
-pub enum Step {
+pub enum CallStep {
     /// It was done, and returns this to its caller, or it failed.
     Ended(Result<Returned, CcError>),
     /// A page of the block to give up went out.
@@ -59,7 +59,7 @@ pub fn attempt_at<T: Turns>(
     requires none { (T.standing turns.old).in_flight ≡ 0 }
     requires stepped { is_stepped call ≡ true }
     requires filed { IsFiledNow (T.standing turns.old) book.old.stream call }
-    requires fits { FitsIn call out.old }
+    requires fits { ReadFitsIn call out.old }
     ensures book { HasBook (T.standing turns.new) book.old.stream book.new }
     ensures went { Went (T.standing turns.old) (T.standing turns.new) }
     ensures left { (begun : List Entry) →
@@ -79,30 +79,30 @@ pub fn attempt_at<T: Turns>(
 }
 
 /// Takes the next step of a call that may bring pages in, with its stream's disk in hand.
-pub fn next_at<T: Turns>(
+pub fn next_call_step<T: Turns>(
     alloc: Global,
     turns: &mut T,
     book: &mut Book,
     call: Call,
     out: &mut [u8],
-) -> Step
+) -> CallStep
     requires book { HasBook (T.standing turns.old) book.old.stream book.old }
     requires rest { IsAtRest (T.standing turns.old) book.old.stream }
     requires none { (T.standing turns.old).in_flight ≡ 0 }
     requires stepped { is_stepped call ≡ true }
     requires brings { brings_in call ≡ true }
-    requires filed { IsOf call book.old.stream }
-    requires fits { FitsIn call out.old }
+    requires filed { CallIsOfStream call book.old.stream }
+    requires fits { ReadFitsIn call out.old }
     ensures book { HasBook (T.standing turns.new) book.old.stream book.new }
     ensures rest { IsAtRest (T.standing turns.new) book.old.stream }
-    ensures went { StepWent result (T.standing turns.old) (T.standing turns.new) }
+    ensures went { CallStepWent result (T.standing turns.old) (T.standing turns.new) }
     ensures disk { SameDisk (T.standing turns.old).seen (T.standing turns.new).seen book.old.stream }
     ensures left { (begun : List Entry) →
         IsUnderWay (T.standing turns.old).number call begun (T.standing turns.old).seen →
-        StepLeft (T.standing turns.old).setup (T.standing turns.old).number book.old.stream call result
+        CallStepLeft (T.standing turns.old).setup (T.standing turns.old).number book.old.stream call result
         begun (T.standing turns.new).seen out.old out.new }
-    ensures placed { StepPlaced (T.standing turns.old) book.old.stream call result (T.standing turns.new).seen }
-    ensures full { IsFullStep (T.standing turns.new) call result }
+    ensures placed { CallStepPlaced (T.standing turns.old) book.old.stream call result (T.standing turns.new).seen }
+    ensures full { IsFullCallStep (T.standing turns.new) call result }
 {
     let mut journal = turns.take_journal();
     let pass = turns.me();
@@ -130,7 +130,7 @@ pub fn land_at<T: Turns>(
     requires reserved { (T.standing turns.old).in_flight ≡ 1 }
     requires stepped { is_stepped call.now ≡ true }
     requires brings { brings_in call.now ≡ true }
-    requires filed { IsOf call.now book.old.stream }
+    requires filed { CallIsOfStream call.now book.old.stream }
     requires read { WasReadFor (T.standing turns.old) book.old.stream page (option_copied raw) }
     ensures book { HasBook (T.standing turns.new) book.old.stream book.new }
     ensures rest { IsAtRest (T.standing turns.new) book.old.stream }
@@ -139,7 +139,7 @@ pub fn land_at<T: Turns>(
     ensures left { (begun : List Entry) →
         IsUnderWay (T.standing turns.old).number call.now begun (T.standing turns.old).seen →
         IsUnderWay (T.standing turns.old).number call.now begun (T.standing turns.new).seen }
-    ensures landed { OnOk result (LandLeft (T.standing turns.old) book.old.stream call.now page
+    ensures landed { OnOk result (VisitLandLeft (T.standing turns.old) book.old.stream call.now page
         (option_copied raw.entry) (T.standing turns.new).seen) }
 {
     let mut journal = turns.take_journal();
@@ -163,7 +163,7 @@ pub fn unread_at<T: Turns>(turns: &mut T, book: &Book, page: u64) -> bool
         IsUnderWay (T.standing turns.old).number it begun (T.standing turns.old).seen →
         WasWanted (T.standing turns.old).setup it (record { stream = book.now.stream; page = page })
         begun (T.standing turns.old).seen →
-        UnreadLeft (T.standing turns.old).setup (T.standing turns.old).number book.now.stream it page result
+        VisitUnreadLeft (T.standing turns.old).setup (T.standing turns.old).number book.now.stream it page result
         begun (T.standing turns.new).seen }
 {
     let mut journal = turns.take_journal();
@@ -185,7 +185,7 @@ pub fn fail_at<T: Turns>(
     requires none { (T.standing turns.old).in_flight ≡ 0 }
     requires answered { is_answered call ≡ true }
     requires listed { may_refuse call fault ≡ true }
-    requires filed { IsOf call book.old.stream }
+    requires filed { CallIsOfStream call book.old.stream }
     requires halted { (begun : List Entry) × IsHalted (T.standing turns.old).setup (T.standing turns.old).number
         book.old.stream call fault begun (T.standing turns.old).seen }
     ensures book { HasBook (T.standing turns.new) book.old.stream book.new }
@@ -201,7 +201,7 @@ pub fn fail_at<T: Turns>(
     ensures alone { (T.standing turns.old).held.device ≡ Some book.old.stream →
         NobodyElseChanged (T.standing turns.old).number book.old.stream
         (T.standing turns.old).seen (T.standing turns.new).seen }
-    ensures reason { IsReason (T.standing turns.old).setup book.old.stream call result }
+    ensures reason { IsCallReason (T.standing turns.old).setup book.old.stream call result }
     ensures full { IsFull {A = Unit {0}} 1 (T.standing turns.new) (Err result) }
 {
     let mut journal = turns.take_journal();
@@ -225,17 +225,17 @@ fn tried_of<Q>(ended: Stepped, journal: &Journal<Q>, out: &mut [u8]) -> Tried
 }
 
 // The step that was taken, with the reply told where the call was done.
-fn step_of<Q>(ended: Next, journal: &Journal<Q>, out: &mut [u8]) -> Step
+fn step_of<Q>(ended: Next, journal: &Journal<Q>, out: &mut [u8]) -> CallStep
     requires fits { FitsNext ended journal.now.entries out.old }
     ensures { StepAs ended result journal.now.entries out.old out.new }
 {
     match ended {
-        Next::Done => Step::Ended(Ok(tell_last(journal, out))),
-        Next::Refused(error) => Step::Ended(Err(error)),
-        Next::WentOut(call) => Step::WentOut(call),
-        Next::Writes(page, call) => Step::Writes(page, call),
-        Next::Reads(page, call) => Step::Reads(page, call),
-        Next::Stopped(error) => Step::Ended(Err(error)),
+        Next::Done => CallStep::Ended(Ok(tell_last(journal, out))),
+        Next::Refused(error) => CallStep::Ended(Err(error)),
+        Next::WentOut(call) => CallStep::WentOut(call),
+        Next::Writes(page, call) => CallStep::Writes(page, call),
+        Next::Reads(page, call) => CallStep::Reads(page, call),
+        Next::Stopped(error) => CallStep::Ended(Err(error)),
     }
 }
 
@@ -258,7 +258,7 @@ fn land_page<Q>(
         book.old book.new journal.old journal.new }
 {
     if page < 1 << 51 {
-        land(alloc, book, journal, pass, call, page, raw)
+        land_on_book(alloc, book, journal, pass, call, page, raw)
     } else {
         journal.release(1);
         Ok(())
@@ -270,7 +270,7 @@ fn tell_unread<Q>(book: &Book, journal: &mut Journal<Q>, pass: u32, page: u64) -
     requires reserved { 0 < journal.old.reserved }
     requires may { (u : Setup) × StandUnder u book.now journal.old }
     ensures { (u : Setup) → StandUnder u book.now journal.old →
-        UnreadTold u pass page result book.now journal.old journal.new }
+        UnreadLeft u pass page result book.now journal.old journal.new }
 {
     if page < 1 << 51 {
         unread(book, journal, pass, page)
@@ -282,7 +282,7 @@ fn tell_unread<Q>(book: &Book, journal: &mut Journal<Q>, pass: u32, page: u64) -
 
 // What a call answers that met a fault and ended so.
 fn answer_of(ended: Failed, fault: CcError) -> CcError
-    ensures { result ≡ answer_of ended fault }
+    ensures { result ≡ fault_answer ended fault }
 {
     match ended {
         Failed::Refused(error) => error,

@@ -8,8 +8,8 @@ ghost use Rattle.cc_model.specs.History.{history};
 ghost use Rattle.cc_model.specs.Touches.{is_dirty};
 ghost use Rattle.cc_writes.specs.Hands.{Went};
 ghost use Rattle.cc_writes.specs.Ways.{IsAtWork, IsFull};
-ghost use Rattle.cc_writes.specs.Writes.{HasBoth, IsToWrite, WriteLeft, WriteShown};
-ghost use Rattle.cc_writes.specs.Transfers.{IsUnderWay, IsFinished, PutLeft, FinishLeft, answer_of};
+ghost use Rattle.cc_writes.specs.Writes.{HasBoth, IsToWrite, WorkWriteLeft, WriteShown};
+ghost use Rattle.cc_writes.specs.Transfers.{OwnTransferIsUnderWay, IsFinished, PutLeft, TransferFinishLeft, transfer_answer};
 
 use crate::log::{LogFlush, flush_log};
 use crate::transfers::{begin_at, carry, end_at};
@@ -20,7 +20,7 @@ use cc_turns::Turns;
 
 /// What became of a page that was to be written.
 #[derive(Clone, Copy)]
-pub enum PageWrite {
+pub enum PageTransfer {
     Written,
     /// The disk failed.
     NotWritten,
@@ -38,7 +38,7 @@ pub fn write_page<T: Turns>(
     book: Book,
     page: u64,
     keeps: bool,
-) -> (Book, Result<PageWrite, CcError>)
+) -> (Book, Result<PageTransfer, CcError>)
     requires known { book.stream < (T.standing turns.old).streams }
     requires both { HasBoth T.Disk.told T.Disk.faults (T.standing turns.old) book.stream book disk.old }
     requires none { (T.standing turns.old).in_flight ≡ 0 }
@@ -48,7 +48,7 @@ pub fn write_page<T: Turns>(
     ensures left { (work : Work) (begun : List Entry) →
         may_write work (record { stream = book.stream; page = page }) (T.standing turns.old).seen ≡ true →
         IsAtWork (T.standing turns.old).number work begun (T.standing turns.old).seen →
-        WriteLeft (T.standing turns.old).number work (record { stream = book.stream; page = page }) result.1
+        WorkWriteLeft (T.standing turns.old).number work (record { stream = book.stream; page = page }) result.1
         begun (T.standing turns.new).seen }
     ensures shown { WriteShown (T.standing turns.old) (record { stream = book.stream; page = page }) keeps result.1
         (T.standing turns.new).seen }
@@ -57,7 +57,7 @@ pub fn write_page<T: Turns>(
     let page = PageId::new(book.stream(), page).unwrap();
     match flush_log(turns, &book, page) {
         Ok(LogFlush::Reached) => put(turns, disk, book, page, keeps),
-        Ok(LogFlush::Failed(handle)) => (book, Ok(PageWrite::NotLogged(handle))),
+        Ok(LogFlush::Failed(handle)) => (book, Ok(PageTransfer::NotLogged(handle))),
         Err(error) => (book, Err(error)),
     }
 }
@@ -69,7 +69,7 @@ fn put<T: Turns>(
     mut book: Book,
     page: PageId,
     keeps: bool,
-) -> (Book, Result<PageWrite, CcError>)
+) -> (Book, Result<PageTransfer, CcError>)
     requires known { page.stream < (T.standing turns.old).streams }
     requires both { HasBoth T.Disk.told T.Disk.faults (T.standing turns.old) page.stream book disk.old }
     requires none { (T.standing turns.old).in_flight ≡ 0 }
@@ -94,13 +94,13 @@ fn finish<T: Turns>(
     page: PageId,
     frame: Frame,
     keeps: bool,
-) -> (Book, Result<PageWrite, CcError>)
+) -> (Book, Result<PageTransfer, CcError>)
     requires known { page.stream < (T.standing turns.old).streams }
-    requires begun { IsUnderWay T.Disk.told T.Disk.faults (T.standing turns.old) page frame book disk.old }
+    requires begun { OwnTransferIsUnderWay T.Disk.told T.Disk.faults (T.standing turns.old) page frame book disk.old }
     requires none { (T.standing turns.old).in_flight ≡ 0 }
     ensures both { HasBoth T.Disk.told T.Disk.faults (T.standing turns.new) page.stream result.0 disk.new }
     ensures went { Went (T.standing turns.old) (T.standing turns.new) }
-    ensures left { FinishLeft (T.standing turns.old) page keeps result.1 (T.standing turns.new).seen }
+    ensures left { TransferFinishLeft (T.standing turns.old) page keeps result.1 (T.standing turns.new).seen }
 {
     let (book, how) = finish_transfer(turns, disk, book, page, frame.bytes(), keeps);
     (book, answer_of(how))
@@ -117,7 +117,7 @@ pub fn finish_transfer<T: Turns>(
     keeps: bool,
 ) -> (Book, End)
     requires known { page.stream < (T.standing turns.old).streams }
-    requires begun { IsUnderWay T.Disk.told T.Disk.faults (T.standing turns.old) page bytes.now book disk.old }
+    requires begun { OwnTransferIsUnderWay T.Disk.told T.Disk.faults (T.standing turns.old) page bytes.now book disk.old }
     requires few { (T.standing turns.old).in_flight ≤ 1 }
     ensures both { HasBoth T.Disk.told T.Disk.faults (T.standing turns.new) page.stream result.0 disk.new }
     ensures went { Went (T.standing turns.old) (T.standing turns.new) }
@@ -129,12 +129,12 @@ pub fn finish_transfer<T: Turns>(
 }
 
 // What the writing of a page answers whose transfer ended so.
-fn answer_of(how: End) -> Result<PageWrite, CcError>
-    ensures { result ≡ answer_of how }
+fn answer_of(how: End) -> Result<PageTransfer, CcError>
+    ensures { result ≡ transfer_answer how }
 {
     match how {
-        End::Good => Ok(PageWrite::Written),
-        End::Failed => Ok(PageWrite::NotWritten),
+        End::Good => Ok(PageTransfer::Written),
+        End::Failed => Ok(PageTransfer::NotWritten),
         End::NoMemory => Err(CcError::NoMemory),
     }
 }

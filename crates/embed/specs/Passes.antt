@@ -1,6 +1,6 @@
 -- A board of this program, and its passes.
 use Rattle.std.specs.Prelude.{◌≡◌, ◌<◌, ℕ, [], length}
-use Rattle.cc_board.specs.Board.{BoardState, FirstState, IsFirstOf, IsOf, PassState}
+use Rattle.cc_board.specs.Board.{BoardState, FirstState, IsFirstOf, IsOfBoard, PassState}
 use Rattle.cc_entry.specs.Place.{File}
 
 -- A board of two streams, of which two passes can be split, and none was.
@@ -13,6 +13,6 @@ pub record IsNewBoard {D L : Type 0} (board : BoardState D L) (first : FirstStat
 
 -- A pass of a board that may call on the stream of a file: the stream has a disk, and the pass has nothing under way.
 pub record MayAct {D L : Type 0} (board : BoardState D L) (pass : PassState D L) (file : File) : Type 0 where
-  pub is_of : IsOf board pass
+  pub is_of : IsOfBoard board pass
   pub known : file.stream < length pass.knows.disks
   pub none : pass.knows.in_flight ≡ 0

@@ -3,10 +3,10 @@
 
 ghost use Rattle.std.specs.Prelude.{◌≡◌, ◌≤◌, ◌<◌, length, IfOk};
 ghost use Rattle.std.specs.Thread.{IsSync};
-ghost use Rattle.cc_board.specs.Board.{IsFirstOf, IsOf, IsSplit};
+ghost use Rattle.cc_board.specs.Board.{IsFirstOf, IsOfBoard, IsSplit};
 ghost use Rattle.cc_calls.specs.Answers.{CanCall};
 ghost use Rattle.cc_calls.specs.Pages.{WentOn};
-ghost use Rattle.cc_turns.specs.Desk.{IsFresh};
+ghost use Rattle.cc_turns.specs.Desk.{DeskIsFresh};
 ghost use Rattle.cc_turns.specs.Standing.{nothing};
 ghost use Rattle.embed.specs.Passes.{IsNewBoard, MayAct};
 
@@ -15,9 +15,9 @@ use crate::store::{SIZE, keep, open_both};
 use anyhow::Result;
 use cc_board::{Board, FirstPass, Pass, Seated};
 use cc_entry::{CcError, FileId};
-use cc_journal::Parts;
+use cc_journal::Left;
 use cc_redo::{Redo, Restarted, restart, stored_record};
-use cc_traits::{LogFile, PageDisk, Setup};
+use cc_traits::{JournalKind, LogFile, PageDisk, Setup};
 use cc_turns::{Desk, Turns};
 use std::alloc::Global;
 use std::sync::Wait;
@@ -39,17 +39,13 @@ pub fn on_desk<R: Print, D: PageDisk + Drop, L: LogFile>(
     // Entries of the journal name who acts. A desk is one pass at a time, and pass 0 at first.
     desk.act_as(1);
     let kept = keep_both(alloc, &mut desk, &found);
-    // A desk can't be dropped: it ends, and gives the devices back, whatever was answered.
-    let Parts {
-        disks,
-        logs,
-        journal,
-        ..
-    } = desk.end();
+    // A desk can't be dropped: it is left, and gives the devices back, whatever was answered.
+    let entries = desk.journal().len();
+    let Left { disks, logs, .. } = desk.leave();
     let (first, second) = kept?;
     println!(rt; "desk: {} updates were in the log", found.updates)?;
     println!(rt; "desk: {} and {} lines", count(&first), count(&second))?;
-    println!(rt; "desk: {} entries in the journal", journal.len())?;
+    println!(rt; "desk: {entries} entries in the journal")?;
     Ok((disks, logs))
 }
 
@@ -81,7 +77,7 @@ fn begin<D: PageDisk + Drop, L: LogFile>(
 ) -> Result<(Desk<D, L, Wake>, Restarted), CcError>
     requires disks { length disks.items ≡ 2 }
     requires logs { length logs.items ≡ 1 }
-    ensures fresh { IfOk result (λ begun. IsFresh begun.0.begun begun.0) }
+    ensures fresh { IfOk result (λ begun. DeskIsFresh begun.0.begun begun.0) }
     ensures disks { IfOk result (λ begun. length begun.0.begun.disks ≡ 2) }
     ensures logs { IfOk result (λ begun. length begun.0.begun.logs ≡ 1) }
 {
@@ -94,7 +90,8 @@ fn begin<D: PageDisk + Drop, L: LogFile>(
     let setup = Setup {
         disks,
         logs,
-        journal: 1024,
+        // It keeps no entry but the last, so the store may run for ever.
+        journal: JournalKind::Unrecorded,
         threshold: 16,
     };
     match Desk::new(alloc, setup) {
@@ -134,18 +131,18 @@ pub fn on_board<R: Print + Threads + Wait + Sync, D: PageDisk + Send + Drop, L: 
     let (one, other) = match open_both(alloc, &mut desk, found.last) {
         Ok(files) => files,
         Err(error) => {
-            desk.end();
+            desk.leave();
             return Err(error.into());
         }
     };
     let (desk, first, second) = match Board::new(alloc, desk, 2) {
         Ok((board, first)) => on_threads(rt, alloc, board, first, one, other),
         Err((desk, error)) => {
-            desk.end();
+            desk.leave();
             return Err(error.into());
         }
     };
-    desk.end();
+    desk.leave();
     println!(rt; "board: {} updates were in the log", found.updates)?;
     println!(rt; "board: {} and {} lines", count(&first?), count(&second?))?;
     Ok(())
@@ -181,11 +178,11 @@ fn on_threads<R: Threads + Wait + Sync, D: PageDisk + Send, L: LogFile + Send>(
         rt,
         move || -> Kept<D, L>
             requires { IsSync R.row × MayAct on.now left one }
-            ensures { IsOf on.entry.now result.0 }
+            ensures { IsOfBoard on.entry.now result.0 }
         { keep_seated(rt, alloc, on, left, one, "pears\n") },
         move || -> Kept<D, L>
             requires { IsSync R.row × MayAct on.now right other }
-            ensures { IsOf on.entry.now result.0 }
+            ensures { IsOfBoard on.entry.now result.0 }
         { keep_seated(rt, alloc, on, right, other, "nuts\n") },
     );
     board.join(&mut first, left);
@@ -225,7 +222,7 @@ fn keep_seated<R: Wait, D: PageDisk, L: LogFile>(
     line: &str,
 ) -> Kept<D, L>
     requires may { MayAct board.now pass file }
-    ensures { IsOf board.now result.0 }
+    ensures { IsOfBoard board.now result.0 }
 {
     let mut seated = Seated::new(rt, board, pass);
     let lines = keep(alloc, &mut seated, file, line);

@@ -7,7 +7,7 @@
 
 ghost use Rattle.std.specs.Prelude.{◌≡◌, length, map, string_bytes, IfOk, OnErr};
 ghost use Rattle.std.specs.Process.{exit_status};
-ghost use Rattle.cc_program.specs.Ends.{input, output, HasEnded};
+ghost use Rattle.cc_program.specs.Ends.{input, output, ProgramHasEnded};
 
 mod folder;
 mod outside;
@@ -93,7 +93,7 @@ fn run<R: Threads + Wait + Sync, S: Source, K: Sink, D: PageDisk + Send + Drop, 
 ) -> Result<u8, AllocError>
     requires disks { length disks.items ≡ 16 }
     requires logs { length logs.items ≡ 4 }
-    ensures { IfOk result (HasEnded
+    ensures { IfOk result (ProgramHasEnded
         (input S.told S.faults S.given S.ended (map string_bytes words.now) script.old script.new 16 4 64)
         (output K.told K.faults K.stalls out.old out.new)) }
 {

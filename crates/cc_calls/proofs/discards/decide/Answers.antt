@@ -4,7 +4,7 @@ use Rattle.std.proofs.Common.{ap, sym, ◌∙◌, subst}
 use Rattle.cc_journal.specs.Journal.{JournalState}
 use Rattle.cc_step.proofs.Attempts.{forgoing}
 use Rattle.cc_ranges.specs.FlushSteps.{without_one}
-use Rattle.cc_calls.specs.Discards.{StepLeft}
+use Rattle.cc_calls.specs.Discards.{DiscardStepLeft}
 use Rattle.cc_calls.proofs.Discarding.{left-done, left-refused, may-do, may-fail, owed-within}
 use Rattle.cc_calls.proofs.discards.decide.Goals as goal
 
@@ -42,7 +42,7 @@ returns-in-Ok-Some g c = record {
       let given : c.release.new.self ≡ forgoing c.args.journal.now c.args.pass c.fail.new.journal =
       c.release.ensures
       ∙ ap (λ (n : ℕ). record c.fail.new.journal { reserved = c.fail.new.journal.reserved - n }) c.owed_end-owed.ensures in
-      subst (λ (k : JournalState g.row.Q.Denot). StepLeft u c.args.pass c.args.file c.args.span (Err c.in-Ok-Some.error) c.args.book.now c.fail.new.self (without_one c.args.journal.now) k) (sym given)
+      subst (λ (k : JournalState g.row.Q.Denot). DiscardStepLeft u c.args.pass c.args.file c.args.span (Err c.in-Ok-Some.error) c.args.book.now c.fail.new.self (without_one c.args.journal.now) k) (sym given)
       (left-refused u c.args.pass c.args.file c.args.span c.args.book.now c.args.journal.now may c.in-Ok-Some.error
       (sym (c.in-Ok-Some.ensures u (u.opening c.args.book.now.stream) may.may.stand.logs_are may.may.stand.stands) ∙ c.in-Ok-Some.field-0-is)
       c.fail.new.self c.fail.new.journal c.fail.ensures.placed c.fail.ensures.stands c.fail.ensures.same);
@@ -55,7 +55,7 @@ returns-in-Ok g c = record {
       let given : c.release-in-Ok.new.self ≡ forgoing c.args.journal.now c.args.pass c.done.new.journal =
       c.release-in-Ok.ensures
       ∙ ap (λ (n : ℕ). record c.done.new.journal { reserved = c.done.new.journal.reserved - n }) c.owed_end-owed.ensures in
-      subst (λ (k : JournalState g.row.Q.Denot). StepLeft u c.args.pass c.args.file c.args.span (Ok tt) c.args.book.now c.done.new.self (without_one c.args.journal.now) k) (sym given)
+      subst (λ (k : JournalState g.row.Q.Denot). DiscardStepLeft u c.args.pass c.args.file c.args.span (Ok tt) c.args.book.now c.done.new.self (without_one c.args.journal.now) k) (sym given)
       (left-done u c.args.pass c.args.file c.args.span c.args.book.now c.args.journal.now may admitted c.done.new.self c.done.new.journal c.in-Ok.ensures.placed
       (c.in-Ok.ensures.stands u (may-do u c.args.pass c.args.file c.args.span c.args.book.now c.args.journal.now may admitted))
       c.in-Ok.ensures.stream);

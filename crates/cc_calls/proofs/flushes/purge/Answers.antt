@@ -13,7 +13,7 @@ use Rattle.cc_writes.specs.Calls.{IsFullWriting}
 use Rattle.cc_writes.specs.Fetch.{CanCall}
 use Rattle.cc_writes.proofs.Fullness.{given-writing}
 use Rattle.cc_writes.proofs.TakingBoth.{both_begun, idle, left_since, number_both}
-use Rattle.cc_ranges.specs.Purge.{CameSoFar, WasEmptiedAlone}
+use Rattle.cc_ranges.specs.Purge.{PurgeCameSoFar, WasEmptiedAlone}
 use Rattle.cc_ranges.proofs.PurgeRounds.{emptied-since, failed-since}
 use Rattle.cc_calls.specs.Answers.{outcome_of}
 use Rattle.cc_calls.proofs.FlushCalls.{setup-both, went-both}
@@ -55,7 +55,7 @@ returns g c =
           (subst (λ (past : List Entry). OnOk answer (WasEmptiedAlone w.number c.args.file.stream w.seen past)) (sym (ap (λ (a : Standing). a.seen) given))
           (emptied-since w.number c.args.file.stream answer w.seen x.seen y.seen (idle w v x s can first second)
           (subst (λ (n : ℕ). OnOk answer (WasEmptiedAlone n c.args.file.stream x.seen y.seen)) (number_both w v x s can first second) c.purge_held-book.ensures.emptied)))
-          (subst (λ (past : List Entry). IfErr answer (λ e. CameSoFar w.number c.args.file.stream w.seen past)) (sym (ap (λ (a : Standing). a.seen) given))
+          (subst (λ (past : List Entry). IfErr answer (λ e. PurgeCameSoFar w.number c.args.file.stream w.seen past)) (sym (ap (λ (a : Standing). a.seen) given))
           (failed-since w.number c.args.file.stream answer w.seen x.seen y.seen (idle w v x s can first second)
-          (subst (λ (n : ℕ). IfErr answer (λ e. CameSoFar n c.args.file.stream x.seen y.seen)) (number_both w v x s can first second) c.purge_held-book.ensures.failed)));
+          (subst (λ (n : ℕ). IfErr answer (λ e. PurgeCameSoFar n c.args.file.stream x.seen y.seen)) (number_both w v x s can first second) c.purge_held-book.ensures.failed)));
     }

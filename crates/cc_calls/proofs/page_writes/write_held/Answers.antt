@@ -4,11 +4,11 @@ use Rattle.std.specs.declared.option.Option.TheVariants.{Some}
 use Rattle.std.proofs.Common.{ap, sym, ◌∙◌, subst}
 use Rattle.cc_entry.specs.Place.{Page}
 use Rattle.cc_entry.specs.declared.error.CcError.{CcError}
-use Rattle.cc_turns.specs.Standing.{Held, Standing}
+use Rattle.cc_turns.specs.Standing.{TurnsHeld, Standing}
 use Rattle.cc_writes.specs.Writes.{HasBoth, IsToWrite, WriteShown}
 use Rattle.cc_writes.proofs.Disks.{both_still}
 use Rattle.cc_calls.specs.PageWrites.{IsFullPage}
-use Rattle.cc_calls.specs.declared.page_writes.PageWrite.{PageWrite}
+use Rattle.cc_calls.specs.declared.page_writes.PageWriteAnswer.{PageWriteAnswer}
 use Rattle.cc_calls.proofs.Looking.{page-is, to_write-not_over}
 use Rattle.cc_calls.proofs.OnePage.{full-by, skipped-by, wrote}
 use Rattle.cc_calls.proofs.page_writes.write_held.Goals as goal
@@ -42,8 +42,8 @@ returns-then-is_to_write_at-clause-full g c =
     let v = g.T.Turns.standing c.is_to_write_at.new.turns in
     let z = g.T.Turns.standing c.write_page-book.new.turns in
     let wrote_it = c.write_page-book.ensures in
-    subst (λ (r : Result PageWrite CcError). IsFullPage c.args.page z r) (sym c.answer_of.ensures)
-    (full-by v z c.args.page false c.write_page-book.result.1 (ap (λ (h : Held). h.book) c.is_to_write_at.ensures.book.held) c.is_to_write_at.ensures.rest.device
+    subst (λ (r : Result PageWriteAnswer CcError). IsFullPage c.args.page z r) (sym c.answer_of.ensures)
+    (full-by v z c.args.page false c.write_page-book.result.1 (ap (λ (h : TurnsHeld). h.book) c.is_to_write_at.ensures.book.held) c.is_to_write_at.ensures.rest.device
     (to_write-not_over v.seen c.args.page (c.is_to_write_at.ensures.found ∙ ap not c.if-is_to_write_at.true))
     (subst (λ (p : Page). WriteShown v p false c.write_page-book.result.1 z.seen) (page-is c.args.book.stream c.page.result c.args.page c.requires.both.book.stream c.page.ensures.same) wrote_it.shown)
     wrote_it.full)

@@ -9,7 +9,7 @@ use Rattle.cc_turns.specs.Takes.{without_device}
 use Rattle.cc_writes.specs.Fetch.{CanCall}
 use Rattle.cc_writes.specs.Writes.{HasBoth}
 use Rattle.cc_writes.proofs.TakingBoth.{both_begun, idle, number_both}
-use Rattle.cc_calls.specs.PageWrites.{IsFullPage, IsWritten}
+use Rattle.cc_calls.specs.PageWrites.{IsFullPage, IsWrittenAmong}
 use Rattle.cc_calls.proofs.FlushCalls.{setup-both, went-both}
 use Rattle.cc_calls.proofs.OnePage.{full-given, written-since}
 use Rattle.cc_calls.proofs.page_writes.write_picked.Goals as goal
@@ -41,9 +41,9 @@ returns g c =
     let given = c.give_device.ensures ∙ ap without_device c.give_book.ensures in
     record {
       left =
-          subst (λ (past : List Entry). IsWritten w.number page answer w.seen past) (sym (ap (λ (a : Standing). a.seen) given))
+          subst (λ (past : List Entry). IsWrittenAmong w.number page answer w.seen past) (sym (ap (λ (a : Standing). a.seen) given))
           (written-since w.number page answer w.seen x.seen y.seen (idle w v x s can first second)
-          (subst (λ (n : ℕ). IsWritten n page answer x.seen y.seen) (number_both w v x s can first second) c.write_held-book.ensures.left));
+          (subst (λ (n : ℕ). IsWrittenAmong n page answer x.seen y.seen) (number_both w v x s can first second) c.write_held-book.ensures.left));
       full = subst (λ (a : Standing). IsFullPage page a answer) (sym given) (full-given page y answer c.write_held-book.ensures.full);
       goes_on = went-both w v x y z s can.free first second went given;
       good =

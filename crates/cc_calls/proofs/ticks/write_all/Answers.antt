@@ -1,8 +1,8 @@
 -- Each page is written with the turns of its stream, and counted behind the pages before.
 use Rattle.std.specs.Prelude.{ℕ, ◌+◌, Result}
 use Rattle.std.proofs.Common.{arith, sym, subst}
-use Rattle.cc_calls.specs.Ticks.{counted}
-use Rattle.cc_calls.specs.declared.ticks.Counts.{Counts}
+use Rattle.cc_calls.specs.Ticks.{counted_page}
+use Rattle.cc_calls.specs.declared.ticks.TickCounts.{TickCounts}
 use Rattle.cc_calls.proofs.TickPages.{WritesOn, few-counted, writes-all, writes-begin, writes-can, writes-cut, writes-full, writes-good, writes-more, writes-went}
 use Rattle.cc_calls.proofs.ticks.write_all.Goals as goal
 
@@ -25,7 +25,7 @@ count-requires g c = record {
 
 pub loop-page-preserved : goal.loop-page-preserved
 loop-page-preserved g c =
-    subst (λ (n : Counts). WritesOn (g.T.Turns.standing c.args.turns.now) (g.T.Turns.standing c.write_picked.new.turns) c.args.pages.now (c.loop-page.page-index + 1) n) (sym c.count.ensures)
+    subst (λ (n : TickCounts). WritesOn (g.T.Turns.standing c.args.turns.now) (g.T.Turns.standing c.write_picked.new.turns) c.args.pages.now (c.loop-page.page-index + 1) n) (sym c.count.ensures)
     (writes-more (g.T.Turns.standing c.args.turns.now) (g.T.Turns.standing c.loop-page.turns) (g.T.Turns.standing c.write_picked.new.turns) c.args.pages.now c.loop-page.page-index c.loop-page.counts c.page-item.result
     c.requires.picked c.loop-page.invariant c.loop-page-test.true (sym c.page-item.is) c.in-Ok.told c.write_picked.ensures.goes_on c.write_picked.ensures.good c.in-Ok.ensures.left)
 

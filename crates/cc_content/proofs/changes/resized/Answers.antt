@@ -3,7 +3,7 @@ use Rattle.std.proofs.Common.{◌≡◌, ℕ, true, List, ◌∷◌, Option, Res
 use Rattle.std.specs.List.{filter}
 use Rattle.cc_entry.specs.declared.call.Call.{Call}
 use Rattle.cc_entry.specs.declared.reply.Reply.{Reply}
-use Rattle.cc_views.specs.Views.{Mapped}
+use Rattle.cc_views.specs.Views.{MappedViews}
 use Rattle.cc_resident.specs.Changes.{Cuts}
 use Rattle.cc_resident.specs.Residents.{blocks, has_pages}
 use Rattle.cc_model.specs.Acts.{act_of, Resizes}
@@ -13,7 +13,7 @@ use Rattle.cc_content.specs.Contents.{PagesStand}
 use Rattle.cc_content.proofs.CutsStand.{stands-resized}
 use Rattle.cc_content.proofs.changes.resized.Goals as goal
 
-stands-ok : {E : Type 0} (r : Result (Unit {0}) E) (m n : Mapped) (size : ℕ) → OnOk r (Cuts m n size)
+stands-ok : {E : Type 0} (r : Result (Unit {0}) E) (m n : MappedViews) (size : ℕ) → OnOk r (Cuts m n size)
     → OnOk r (blocks n ≡ filter (has_pages n) (blocks m)) → n.quota ≡ m.quota → OnOk r (n.size ≡ size)
     → OnOk r ((opening : Option (ℕ → List ℕ)) (h : List Effect) (pass : ℕ) (call : Call) (reply : Reply)
     (allocation : ℕ) → PagesStand opening h m → act_of call ≡ Resizes allocation size

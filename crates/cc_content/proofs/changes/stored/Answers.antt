@@ -3,9 +3,9 @@ use Rattle.std.proofs.Common.{◌≡◌, ℕ, ◌-◌, ◌*◌, ◌<◌, ◌≤�
 use Rattle.cc_entry.specs.Pages.{block_of}
 use Rattle.cc_entry.specs.declared.call.Call.{Call}
 use Rattle.cc_entry.specs.declared.reply.Reply.{Reply}
-use Rattle.cc_views.specs.Views.{Mapped}
+use Rattle.cc_views.specs.Views.{MappedViews}
 use Rattle.cc_resident.specs.Changes.{KeepsOthers}
-use Rattle.cc_resident.specs.Residents.{page_at, blocks, used}
+use Rattle.cc_resident.specs.Residents.{page_bytes_at, blocks, used}
 use Rattle.cc_model.specs.Acts.{act_of, Stores}
 use Rattle.cc_model.specs.History.{Effect, Did}
 use Rattle.cc_model.specs.Touches.{size_of, valid_of, is_mapped}
@@ -13,8 +13,8 @@ use Rattle.cc_content.specs.Contents.{PagesStand}
 use Rattle.cc_content.proofs.StoresStand.{stands-stored}
 use Rattle.cc_content.proofs.changes.stored.Goals as goal
 
-stands-ok : {E : Type 0} (r : Result (Unit {0}) E) (m n : Mapped) (page : ℕ) (bytes frame : List ℕ)
-    → OnOk r (page_at n page ≡ Some frame)
+stands-ok : {E : Type 0} (r : Result (Unit {0}) E) (m n : MappedViews) (page : ℕ) (bytes frame : List ℕ)
+    → OnOk r (page_bytes_at n page ≡ Some frame)
     → ((i : ℕ) → get_or frame i 0 ≡ (if nat_lt i (m.size - 4096 * page) then get_or bytes i 0 else 0))
     → KeepsOthers m n page → OnOk r (blocks n ≡ used (block_of page ∷ []) (blocks m))
     → n.quota ≡ m.quota → n.size ≡ m.size → 4096 * page < m.size

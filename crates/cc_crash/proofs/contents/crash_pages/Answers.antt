@@ -1,11 +1,11 @@
 use Rattle.std.proofs.Common.{ℕ, subst, ◌∙◌}
-use Rattle.cc_readers.specs.Effects.{AreSizes}
+use Rattle.cc_readers.specs.Effects.{AreSizesOverJournal}
 use Rattle.cc_crash.proofs.PageSteps.{page_state-first, page_state-next}
 use Rattle.cc_crash.proofs.contents.crash_pages.Goals as goal
 
 pub loop-i-init : goal.loop-i-init
 loop-i-init c = record {
-  sizes = subst (λ (s : ℕ). AreSizes c.in_ok-found.found.items c.args.journal.now s) c.stream.ensures c.in_ok-found.ensures.each;
+  sizes = subst (λ (s : ℕ). AreSizesOverJournal c.in_ok-found.found.items c.args.journal.now s) c.stream.ensures c.in_ok-found.ensures.each;
   state = λ pages is. c.in_ok-left.ensures ∙ page_state-first pages c.args.opening.now c.args.page.stream c.args.page.page c.told-opening is;
 }
 

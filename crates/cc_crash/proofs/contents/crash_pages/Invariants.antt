@@ -1,11 +1,11 @@
 use Rattle.std.specs.Prelude.{◌≡◌, ℕ, List, take}
-use Rattle.cc_readers.specs.Effects.{effects, AreSizes}
-use Rattle.cc_crash.specs.DiskPages.{page_state}
+use Rattle.cc_readers.specs.Effects.{effects, AreSizesOverJournal}
+use Rattle.cc_crash.specs.DiskPages.{page_state_of_history}
 use Rattle.cc_crash.proofs.contents.crash_pages.Given as goal
 
 abbrev pub invariant-loop-i : goal.invariant-loop-i
 invariant-loop-i l = record {
-  sizes : AreSizes l.found.items l.journal l.page.stream;
+  sizes : AreSizesOverJournal l.found.items l.journal l.page.stream;
   state : (pages : ℕ → List ℕ) → pages l.page.page ≡ l.opening →
-      l.left ≡ page_state pages (effects (take l.i l.journal) l.page.stream) l.page.page;
+      l.left ≡ page_state_of_history pages (effects (take l.i l.journal) l.page.stream) l.page.page;
 }

@@ -4,9 +4,9 @@ use Rattle.std.proofs.Common.{ap, length, subst, sym, ◌∙◌}
 use Rattle.cc_pieces.specs.Events.{Makes}
 use Rattle.cc_turns.specs.Desk.{tells_of}
 use Rattle.cc_effects.specs.Events.{IsKnown}
-use Rattle.cc_event_lines.specs.Doing.{HappensPlainly, IsPlain, doing_made}
+use Rattle.cc_event_lines.specs.Doing.{HappensPlainly, IsPlainEvent, doing_made}
 use Rattle.cc_event_lines.specs.Happening.{without_routine}
-use Rattle.cc_event_lines.specs.Lines.{WasAnswered, called}
+use Rattle.cc_event_lines.specs.Lines.{WasAnswered, event_of_call}
 use Rattle.cc_event_lines.specs.Names.{bindings_in}
 use Rattle.cc_event_lines.proofs.KnownLines.{IsDoingKnown, IsNoDeferral, called-known, doing-known, event-known, no-defer, plain-no-deferral}
 use Rattle.cc_event_lines.proofs.LineSteps.{called-same, happens-is, line-wanting, line-went, makes-is}
@@ -37,7 +37,7 @@ returns-in-Happens g c =
     let bindings = bindings_in c.args.names.now.named me in
     let it = c.in-Happens.event in
     let is = sym (ap (doing_made me) c.in-Happens.is) ∙ c.in-Ok.ensures.ok in
-    let plain : IsPlain it = subst HappensPlainly c.in-Happens.is c.in-Ok.ensures.plain in
+    let plain : IsPlainEvent it = subst HappensPlainly c.in-Happens.is c.in-Ok.ensures.plain in
     line-went _ _ _ c.args.routines.now bindings line c.answer_to.result (without_routine it)
     (happens-is me line.fails bindings line.action (without_routine it) is)
     (no-defer me bindings line.action (subst IsNoDeferral is (plain-no-deferral it plain)))
@@ -50,7 +50,7 @@ returns-in-Makes g c =
     let bindings = bindings_in c.args.names.now.named me in
     let is = sym (ap (doing_made me) c.in-Makes.is) ∙ c.in-Ok.ensures.ok in
     let event_is = ap without_routine c.called.ensures ∙ called-same g.row.Q.Denot me line.fails c.in-Makes.call in
-    line-went _ _ _ c.args.routines.now bindings line c.answer_to-in-Makes.result (without_routine (called me line.fails c.in-Makes.call))
+    line-went _ _ _ c.args.routines.now bindings line c.answer_to-in-Makes.result (without_routine (event_of_call me line.fails c.in-Makes.call))
     (makes-is me line.fails _ c.in-Makes.call is)
     (no-defer me bindings line.action (subst IsNoDeferral is (let t : IsNoDeferral (Makes c.in-Makes.call) = tt in t)))
     (subst (λ e. WasAnswered (tells_of g.D.Told.told g.D.Told.faults g.L.LogFile.told g.L.LogFile.faults g.Q.PostRoutine.posted) e c.answer_to-in-Makes.result c.args.world.now c.answer_to-in-Makes.new.world) event_is c.answer_to-in-Makes.ensures) c.requires.routines

@@ -1,6 +1,6 @@
 -- The row at the place is the block's, since a hold has a byte in it.
 use Rattle.std.proofs.Common.{◌+◌, ◌-◌, ◌<◌, ◌==◌, if◌then◌else◌, List, ap, ◌∙◌, sym, subst, arith}
-use Rattle.cc_holds.specs.Blocks.{AreRows, IsPlaceOf, holds_at}
+use Rattle.cc_holds.specs.Blocks.{AreBlockRows, IsPlaceOf, holds_at}
 use Rattle.cc_holds.specs.declared.block_rows.BlockRow.{BlockRow}
 use Rattle.cc_holds.proofs.BlockRows.{found-held, rows-removed, removed-at, lowered-at}
 use Rattle.cc_holds.proofs.block_rows.release.Goals as goal
@@ -29,7 +29,7 @@ overflow_sub-index_mut c =
 pub returns-then-index-eq1-clause-rows : goal.returns-then-index-eq1-clause-rows
 returns-then-index-eq1-clause-rows c =
     let found = found-held c.args.block c.args.rows.now.items c.place_of-place.result c.requires.rows (subst (λ rows. IsPlaceOf c.args.block rows c.place_of-place.result) c.deref.ensures.value c.place_of-place.ensures) c.requires.held in
-    subst AreRows (sym c.remove.ensures.items) (rows-removed c.args.rows.now.items c.place_of-place.result c.requires.rows found.within)
+    subst AreBlockRows (sym c.remove.ensures.items) (rows-removed c.args.rows.now.items c.place_of-place.result c.requires.rows found.within)
 
 pub returns-then-index-eq1-clause-released : goal.returns-then-index-eq1-clause-released
 returns-then-index-eq1-clause-released c = λ b.

@@ -1,6 +1,6 @@
 -- One visit that places nothing and gives back the place that was kept.
 use Rattle.std.proofs.Common.{ap, sym, subst, arith}
-use Rattle.cc_turns.specs.Standing.{Standing, Held}
+use Rattle.cc_turns.specs.Standing.{Standing, TurnsHeld}
 use Rattle.cc_writes.specs.Hands.{WentWith}
 use Rattle.cc_writes.proofs.OneVisit.{visiting}
 use Rattle.cc_writes.proofs.Releasing.{book_released, disk_released, idle, rest_released}
@@ -24,7 +24,7 @@ give_journal-requires-clause-adds g c =
     let posted = g.T.Post.PostRoutine.posted in
     let j = c.take_journal-journal.result in
     let vis = visiting posted w v j c.take_journal-journal.ensures.took c.take_journal-journal.ensures.stands in
-    (forgone posted w v c.args.kept j c.give_back.new.journal (ap (λ (h : Held). h.journal) c.requires.book.held) vis c.requires.kept c.give_back.ensures).adds
+    (forgone posted w v c.args.kept j c.give_back.new.journal (ap (λ (h : TurnsHeld). h.journal) c.requires.book.held) vis c.requires.kept c.give_back.ensures).adds
 
 pub give_journal-requires-clause-stands : goal.give_journal-requires-clause-stands
 give_journal-requires-clause-stands g c =
@@ -33,7 +33,7 @@ give_journal-requires-clause-stands g c =
     let posted = g.T.Post.PostRoutine.posted in
     let j = c.take_journal-journal.result in
     let vis = visiting posted w v j c.take_journal-journal.ensures.took c.take_journal-journal.ensures.stands in
-    (forgone posted w v c.args.kept j c.give_back.new.journal (ap (λ (h : Held). h.journal) c.requires.book.held) vis c.requires.kept c.give_back.ensures).journal
+    (forgone posted w v c.args.kept j c.give_back.new.journal (ap (λ (h : TurnsHeld). h.journal) c.requires.book.held) vis c.requires.kept c.give_back.ensures).journal
 
 pub give_journal-requires-clause-few : goal.give_journal-requires-clause-few
 give_journal-requires-clause-few g c =
@@ -42,7 +42,7 @@ give_journal-requires-clause-few g c =
     let posted = g.T.Post.PostRoutine.posted in
     let j = c.take_journal-journal.result in
     let vis = visiting posted w v j c.take_journal-journal.ensures.took c.take_journal-journal.ensures.stands in
-    few-left 0 (forgone posted w v c.args.kept j c.give_back.new.journal (ap (λ (h : Held). h.journal) c.requires.book.held) vis c.requires.kept c.give_back.ensures).went (omega arith)
+    few-left 0 (forgone posted w v c.args.kept j c.give_back.new.journal (ap (λ (h : TurnsHeld). h.journal) c.requires.book.held) vis c.requires.kept c.give_back.ensures).went (omega arith)
 
 pub returns-clause-went : goal.returns-clause-went
 returns-clause-went g c =
@@ -51,7 +51,7 @@ returns-clause-went g c =
     let posted = g.T.Post.PostRoutine.posted in
     let j = c.take_journal-journal.result in
     let vis = visiting posted w v j c.take_journal-journal.ensures.took c.take_journal-journal.ensures.stands in
-    subst (λ (x : Standing). WentWith 0 w x) (sym c.give_journal.ensures) (forgone posted w v c.args.kept j c.give_back.new.journal (ap (λ (h : Held). h.journal) c.requires.book.held) vis c.requires.kept c.give_back.ensures).went
+    subst (λ (x : Standing). WentWith 0 w x) (sym c.give_journal.ensures) (forgone posted w v c.args.kept j c.give_back.new.journal (ap (λ (h : TurnsHeld). h.journal) c.requires.book.held) vis c.requires.kept c.give_back.ensures).went
 
 pub returns-clause-book : goal.returns-clause-book
 returns-clause-book g c =
@@ -60,7 +60,7 @@ returns-clause-book g c =
     let posted = g.T.Post.PostRoutine.posted in
     let j = c.take_journal-journal.result in
     book_released posted w v j c.give_back.new.journal c.take_journal-journal.ensures.took c.take_journal-journal.ensures.stands c.give_back.ensures
-    (g.T.Turns.standing c.give_journal.new.self) c.give_journal.ensures (ap (λ (h : Held). h.journal) c.requires.book.held) c.args.page.stream c.args.book.now c.requires.book
+    (g.T.Turns.standing c.give_journal.new.self) c.give_journal.ensures (ap (λ (h : TurnsHeld). h.journal) c.requires.book.held) c.args.page.stream c.args.book.now c.requires.book
 
 pub returns-clause-rest : goal.returns-clause-rest
 returns-clause-rest g c =
@@ -69,7 +69,7 @@ returns-clause-rest g c =
     let posted = g.T.Post.PostRoutine.posted in
     let j = c.take_journal-journal.result in
     rest_released posted w v j c.give_back.new.journal c.take_journal-journal.ensures.took c.take_journal-journal.ensures.stands c.give_back.ensures
-    (g.T.Turns.standing c.give_journal.new.self) c.give_journal.ensures (ap (λ (h : Held). h.journal) c.requires.book.held) c.args.page.stream c.requires.rest
+    (g.T.Turns.standing c.give_journal.new.self) c.give_journal.ensures (ap (λ (h : TurnsHeld). h.journal) c.requires.book.held) c.args.page.stream c.requires.rest
 
 pub returns-clause-disk : goal.returns-clause-disk
 returns-clause-disk g c =
@@ -78,7 +78,7 @@ returns-clause-disk g c =
     let posted = g.T.Post.PostRoutine.posted in
     let j = c.take_journal-journal.result in
     disk_released posted w v j c.give_back.new.journal c.take_journal-journal.ensures.took c.take_journal-journal.ensures.stands c.give_back.ensures
-    (g.T.Turns.standing c.give_journal.new.self) c.give_journal.ensures (ap (λ (h : Held). h.journal) c.requires.book.held) c.args.page.stream c.requires.rest.device
+    (g.T.Turns.standing c.give_journal.new.self) c.give_journal.ensures (ap (λ (h : TurnsHeld). h.journal) c.requires.book.held) c.args.page.stream c.requires.rest.device
 
 pub returns-clause-idle : goal.returns-clause-idle
 returns-clause-idle g c =
@@ -87,4 +87,4 @@ returns-clause-idle g c =
     let posted = g.T.Post.PostRoutine.posted in
     let j = c.take_journal-journal.result in
     idle posted w v j c.give_back.new.journal c.take_journal-journal.ensures.took c.take_journal-journal.ensures.stands c.give_back.ensures
-    (g.T.Turns.standing c.give_journal.new.self) c.give_journal.ensures (ap (λ (h : Held). h.journal) c.requires.book.held)
+    (g.T.Turns.standing c.give_journal.new.self) c.give_journal.ensures (ap (λ (h : TurnsHeld). h.journal) c.requires.book.held)

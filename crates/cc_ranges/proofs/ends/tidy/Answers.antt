@@ -2,7 +2,7 @@
 -- place, stays.
 use Rattle.std.specs.Prelude.{◌≡◌, ℕ, ◌+◌, ◌-◌, ◌<◌, ◌≤◌, Bool, true, false}
 use Rattle.std.proofs.Common.{ap, sym, subst, refl, arith, ◌∙◌, true≢false}
-use Rattle.cc_book.specs.Book.{MayPlace, Gains, GoesOn}
+use Rattle.cc_book.specs.Book.{MayPlaceOnBook, Gains, GoesOn}
 use Rattle.cc_entry.specs.declared.entry.Entry.TheVariants as entry
 use Rattle.cc_journal.specs.Journal.{JournalState}
 use Rattle.cc_ranges.specs.Stores.{places_kept}
@@ -26,7 +26,7 @@ pub take_out-requires-clause-may : goal.take_out-requires-clause-may
 take_out-requires-clause-may g c =
     let u = c.requires.may.0 in
     let may = c.requires.may.1 in
-    subst (λ (x : JournalState g.row.Q.Denot). MayPlace x.entries (entry.PageOut c.args.pass c.args.page) c.args.book.now) (sym c.has_place.ensures.reserved)
+    subst (λ (x : JournalState g.row.Q.Denot). MayPlaceOnBook x.entries (entry.PageOut c.args.pass c.args.page) c.args.book.now) (sym c.has_place.ensures.reserved)
     (may-go u c.args.pass c.args.file c.args.page c.args.book.now c.args.journal.now c.requires.stream may (c.may_go.ensures.goes c.if-may_go.true u may.stand c.requires.stream))
 
 pub take_out-requires-clause-reserved : goal.take_out-requires-clause-reserved

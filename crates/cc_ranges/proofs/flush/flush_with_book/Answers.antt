@@ -4,7 +4,7 @@ use Rattle.std.proofs.Common.{inl, subst}
 use Rattle.cc_entry.specs.declared.entry.Entry.{Entry}
 use Rattle.cc_effects.proofs.Starts.{begins}
 use Rattle.cc_entry.specs.declared.call.Call.TheVariants as call
-use Rattle.cc_ranges.specs.Flush.{IsFlushing, IsFullRound, IsRising, RoundBegins, RoundLeft, RoundWent, outcome_of}
+use Rattle.cc_ranges.specs.Flush.{IsFlushing, IsFullFlushRound, FlushRoundRises, RoundBegins, FlushRoundLeft, RoundWent, outcome_of}
 use Rattle.cc_ranges.specs.declared.flush.Round.{Round}
 use Rattle.cc_ranges.specs.declared.flush.Round.TheVariants as round
 use Rattle.cc_ranges.proofs.FlushHolding.{begun-ended, begun-on, comes-first, some-flushing, round-on, comes-on, at-sync-on, ended-on}
@@ -21,7 +21,7 @@ returns-in-Ended-clause-left g c begun way =
     let w = g.T.Turns.standing c.args.turns.now in
     let v = g.T.Turns.standing c.pages.turns in
     let x = g.T.Turns.standing c.write_next-now.new.turns in
-    let left = subst (λ (r : Round). (begun : List Entry) → IsFlushing v.number c.args.file c.args.span c.pages.from begun v.seen → RoundLeft v.setup v.number c.args.file c.args.span r begun x.seen) c.in-Ended.is c.write_next-now.ensures.left in
+    let left = subst (λ (r : Round). (begun : List Entry) → IsFlushing v.number c.args.file c.args.span c.pages.from begun v.seen → FlushRoundLeft v.setup v.number c.args.file c.args.span r begun x.seen) c.in-Ended.is c.write_next-now.ensures.left in
     round-on g.T.Disk.Told.told g.T.Disk.Told.faults w v x c.args.file c.args.span c.pages.from c.pages.book c.write_next-now.result.0 c.pages.disk c.write_next-now.new.disk c.pages.invariant
     (round.Ended c.in-Ended.error) left begun way
 
@@ -30,9 +30,9 @@ pages-preserved g c =
     let w = g.T.Turns.standing c.args.turns.now in
     let v = g.T.Turns.standing c.pages.turns in
     let x = g.T.Turns.standing c.write_next-now.new.turns in
-    let left = subst (λ (r : Round). (begun : List Entry) → IsFlushing v.number c.args.file c.args.span c.pages.from begun v.seen → RoundLeft v.setup v.number c.args.file c.args.span r begun x.seen) c.in-CameTo.is c.write_next-now.ensures.left in
+    let left = subst (λ (r : Round). (begun : List Entry) → IsFlushing v.number c.args.file c.args.span c.pages.from begun v.seen → FlushRoundLeft v.setup v.number c.args.file c.args.span r begun x.seen) c.in-CameTo.is c.write_next-now.ensures.left in
     let went = subst (λ (r : Round). RoundWent r v x) c.in-CameTo.is c.write_next-now.ensures.went in
-    let rising = subst (λ (r : Round). IsRising r c.pages.from) c.in-CameTo.is c.write_next-now.ensures.rising in
+    let rising = subst (λ (r : Round). FlushRoundRises r c.pages.from) c.in-CameTo.is c.write_next-now.ensures.rising in
     let more = subst (λ (r : Round). RoundBegins v.number r c.pages.from v.seen x.seen) c.in-CameTo.is c.write_next-now.ensures.ascending in
     comes-on g.T.Disk.Told.told g.T.Disk.Told.faults w v x c.args.file c.args.span c.pages.from c.pages.book c.write_next-now.result.0 c.pages.disk c.write_next-now.new.disk c.pages.invariant
     c.in-CameTo.page c.write_next-now.ensures.both went rising.1 more left
@@ -42,7 +42,7 @@ sync_held-requires-clause-at g c =
     let w = g.T.Turns.standing c.args.turns.now in
     let v = g.T.Turns.standing c.pages.turns in
     let x = g.T.Turns.standing c.write_next-now.new.turns in
-    let left = subst (λ (r : Round). (begun : List Entry) → IsFlushing v.number c.args.file c.args.span c.pages.from begun v.seen → RoundLeft v.setup v.number c.args.file c.args.span r begun x.seen) c.in-Syncs.is c.write_next-now.ensures.left in
+    let left = subst (λ (r : Round). (begun : List Entry) → IsFlushing v.number c.args.file c.args.span c.pages.from begun v.seen → FlushRoundLeft v.setup v.number c.args.file c.args.span r begun x.seen) c.in-Syncs.is c.write_next-now.ensures.left in
     let went = subst (λ (r : Round). RoundWent r v x) c.in-Syncs.is c.write_next-now.ensures.went in (
       w.seen,
       at-sync-on g.T.Disk.Told.told g.T.Disk.Told.faults w v x c.args.file c.args.span c.pages.from c.pages.book c.write_next-now.result.0 c.pages.disk c.write_next-now.new.disk c.pages.invariant
@@ -54,7 +54,7 @@ returns-in-Syncs-clause-left g c begun way =
     let w = g.T.Turns.standing c.args.turns.now in
     let v = g.T.Turns.standing c.pages.turns in
     let x = g.T.Turns.standing c.write_next-now.new.turns in
-    let left = subst (λ (r : Round). (begun : List Entry) → IsFlushing v.number c.args.file c.args.span c.pages.from begun v.seen → RoundLeft v.setup v.number c.args.file c.args.span r begun x.seen) c.in-Syncs.is c.write_next-now.ensures.left in
+    let left = subst (λ (r : Round). (begun : List Entry) → IsFlushing v.number c.args.file c.args.span c.pages.from begun v.seen → FlushRoundLeft v.setup v.number c.args.file c.args.span r begun x.seen) c.in-Syncs.is c.write_next-now.ensures.left in
     let went = subst (λ (r : Round). RoundWent r v x) c.in-Syncs.is c.write_next-now.ensures.went in
     ended-on g.T.Disk.Told.told g.T.Disk.Told.faults w v x c.args.file c.args.span c.pages.from c.pages.book c.write_next-now.result.0 c.pages.disk c.write_next-now.new.disk c.pages.invariant 1 went
     (outcome_of c.sync_held.result.1) begun (g.T.Turns.standing c.sync_held.new.turns).seen
@@ -90,7 +90,7 @@ pages-init g c =
 pub returns-in-Ended-clause-full : goal.returns-in-Ended-clause-full
 returns-in-Ended-clause-full g c =
     let x = g.T.Turns.standing c.write_next-now.new.turns in
-    subst (λ (r : Round). IsFullRound (call.Flush c.args.file c.args.span) x r) c.in-Ended.is c.write_next-now.ensures.full
+    subst (λ (r : Round). IsFullFlushRound (call.Flush c.args.file c.args.span) x r) c.in-Ended.is c.write_next-now.ensures.full
 
 pub returns-in-Syncs-clause-full : goal.returns-in-Syncs-clause-full
 returns-in-Syncs-clause-full g c = inl c.sync_held.ensures.full

@@ -11,7 +11,7 @@ use Rattle.cc_writes.specs.Hands.{HasBook, IsAtRest, SameDisk, WentWith}
 use Rattle.cc_writes.specs.Ways.{IsFull}
 use Rattle.cc_writes.proofs.Resting.{rest-went}
 use Rattle.cc_writes.proofs.Visiting.{few-left, visiting}
-use Rattle.cc_ranges.specs.Flush.{answer_of, outcome_of}
+use Rattle.cc_ranges.specs.Flush.{flush_answer, outcome_of}
 use Rattle.cc_ranges.proofs.Finishing.{may-finish, finished-so, left-finish, visited-finish, disk-finish, begun-finish, full-finish}
 use Rattle.cc_ranges.proofs.flush_visits.finish_at.Goals as goal
 
@@ -209,7 +209,7 @@ returns-clause-left g c begun is =
     let ended = c.finish-ended.result in
     let left = finished-so posted w v file span b n j k has vis here rest c.requires.synced.0 c.requires.synced.1 c.me-pass.result ended c.me-pass.ensures c.finish-ended.ensures in
     subst (λ (r : Result (Unit {0}) CcError). CallLeft w.setup w.number (call.Flush file span) (outcome_of r) begun (g.T.Turns.standing c.give_journal.new.self).seen) (sym c.answer_of.ensures)
-    (subst (λ (x : Standing). CallLeft w.setup w.number (call.Flush file span) (outcome_of (answer_of ended)) begun x.seen) (sym c.give_journal.ensures)
+    (subst (λ (x : Standing). CallLeft w.setup w.number (call.Flush file span) (outcome_of (flush_answer ended)) begun x.seen) (sym c.give_journal.ensures)
     (left-finish posted w v file span b n j k has vis here rest begun is ended left))
 
 pub returns-clause-full : goal.returns-clause-full
@@ -230,5 +230,5 @@ returns-clause-full g c =
     let ended = c.finish-ended.result in
     let left = finished-so posted w v file span b n j k has vis here rest c.requires.synced.0 c.requires.synced.1 c.me-pass.result ended c.me-pass.ensures c.finish-ended.ensures in
     subst (λ (r : Result (Unit {0}) CcError). IsFull 1 (g.T.Turns.standing c.give_journal.new.self) r) (sym c.answer_of.ensures)
-    (subst (λ (x : Standing). IsFull 1 x (answer_of ended)) (sym c.give_journal.ensures)
+    (subst (λ (x : Standing). IsFull 1 x (flush_answer ended)) (sym c.give_journal.ensures)
     (full-finish posted w v file span b n j k has vis here rest ended left))

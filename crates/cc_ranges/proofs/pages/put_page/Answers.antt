@@ -14,7 +14,7 @@ use Rattle.cc_writes.specs.Hands.{WentWith}
 use Rattle.cc_writes.proofs.OneVisit.{went-number, went-then}
 use Rattle.cc_entry.specs.declared.error.CcError.{CcError}
 use Rattle.cc_ranges.specs.Ends.{HasEndedTidy, IsTidyEnd}
-use Rattle.cc_ranges.specs.Pages.{FinishedLeft, PutLeft}
+use Rattle.cc_ranges.specs.Pages.{FinishedLeft, ReadyWriteLeft}
 use Rattle.cc_ranges.specs.Stores.{IsTightUnkept, kept_in, places_kept}
 use Rattle.cc_ranges.proofs.TidyEnds.{put-tidy}
 use Rattle.cc_ranges.proofs.WriteFull.{full-finished, still-to-store}
@@ -70,7 +70,7 @@ returns-in-Ok-store_at-clause-left g c begun work =
     let within : 4096 * page.page < c.size.result = subst (λ (n : ℕ). 4096 * page.page < n) (sym sized) below in
     let left : FinishedLeft x c.args.file page (min (c.size.result - 4096 * page.page) 4096) c.finish_page.result.1 y.seen =
     subst (λ (n : ℕ). FinishedLeft x c.args.file page n c.finish_page.result.1 y.seen) (c.min.ensures ∙ ap (λ (n : ℕ). min (c.size.result - 4096 * n) 4096) c.page.ensures.same) c.finish_page.ensures.left in
-    subst (λ (l : List ℕ). PutLeft w c.args.file page.page l c.finish_page.result.1 begun y.seen) c.in-Ok.ensures
+    subst (λ (l : List ℕ). ReadyWriteLeft w c.args.file page.page l c.finish_page.result.1 begun y.seen) c.in-Ok.ensures
     (put-left (kept_in c.store_at.result) w x c.args.file page c.in-Ok.stored begun c.requires.ready.here c.store_at.ensures.went c.in-Ok-store_at.ensures.left
     (subst (λ (l : List ℕ). IsAtWork w.number (Calls (call.NcStore c.args.file page.page l)) begun w.seen) (sym c.in-Ok.ensures) work)
     c.size.result

@@ -7,7 +7,7 @@ use Rattle.cc_effects.specs.Calls.{IsUnderWay}
 use Rattle.cc_turns.specs.Standing.{Standing}
 use Rattle.cc_writes.specs.Alone.{NobodyElseChanged}
 use Rattle.cc_ranges.specs.Flush.{outcome_of}
-use Rattle.cc_ranges.specs.Purge.{IsFullRound, IsRising, RoundLeft, RoundPlaced}
+use Rattle.cc_ranges.specs.Purge.{IsFullPurgeRound, PurgeRoundRises, PurgeRoundLeft, RoundPlaced}
 use Rattle.cc_ranges.specs.declared.purge.Round.{Round}
 use Rattle.cc_ranges.specs.declared.purge.Round.TheVariants as round
 use Rattle.cc_ranges.proofs.PurgeHolding.{comes-first, round-on, comes-on, placed-on, ended-on}
@@ -27,7 +27,7 @@ returns-in-Ended-clause-left g c begun way =
     let w = g.T.Turns.standing c.args.turns.now in
     let v = g.T.Turns.standing c.pages.turns in
     let x = g.T.Turns.standing c.advance-now.new.turns in
-    let left = subst (λ (r : Round). (begun : List Entry) → IsUnderWay v.number (call.Purge c.args.file c.args.span) begun v.seen → RoundLeft v.setup v.number c.args.file c.args.span r begun x.seen) c.in-Ended.is c.advance-now.ensures.left in
+    let left = subst (λ (r : Round). (begun : List Entry) → IsUnderWay v.number (call.Purge c.args.file c.args.span) begun v.seen → PurgeRoundLeft v.setup v.number c.args.file c.args.span r begun x.seen) c.in-Ended.is c.advance-now.ensures.left in
     round-on g.T.Disk.Told.told g.T.Disk.Told.faults w v x c.args.file c.args.span c.pages.from c.pages.book c.advance-now.result.0 c.pages.disk c.advance-now.new.disk c.pages.invariant.on
     (round.Ended c.in-Ended.answer) left begun way
 
@@ -36,8 +36,8 @@ pages-preserved g c =
     let w = g.T.Turns.standing c.args.turns.now in
     let v = g.T.Turns.standing c.pages.turns in
     let x = g.T.Turns.standing c.advance-now.new.turns in
-    let left = subst (λ (r : Round). (begun : List Entry) → IsUnderWay v.number (call.Purge c.args.file c.args.span) begun v.seen → RoundLeft v.setup v.number c.args.file c.args.span r begun x.seen) c.in-CameTo.is c.advance-now.ensures.left in
-    let rising = subst (λ (r : Round). IsRising r c.pages.from) c.in-CameTo.is c.advance-now.ensures.rising in
+    let left = subst (λ (r : Round). (begun : List Entry) → IsUnderWay v.number (call.Purge c.args.file c.args.span) begun v.seen → PurgeRoundLeft v.setup v.number c.args.file c.args.span r begun x.seen) c.in-CameTo.is c.advance-now.ensures.left in
+    let rising = subst (λ (r : Round). PurgeRoundRises r c.pages.from) c.in-CameTo.is c.advance-now.ensures.rising in
     let placed =
     placed-on g.T.Disk.Told.told g.T.Disk.Told.faults w v x c.args.file c.args.span c.pages.from c.pages.book c.advance-now.result.0 c.pages.disk c.advance-now.new.disk c.pages.invariant.on
     c.pages.from false c.advance-now.result.1 c.advance-now.ensures.placed in
@@ -56,7 +56,7 @@ returns-in-GoesOn-clause-left g c begun way =
     let w = g.T.Turns.standing c.args.turns.now in
     let v = g.T.Turns.standing c.pages.turns in
     let x = g.T.Turns.standing c.advance-now.new.turns in
-    let left = subst (λ (r : Round). (begun : List Entry) → IsUnderWay v.number (call.Purge c.args.file c.args.span) begun v.seen → RoundLeft v.setup v.number c.args.file c.args.span r begun x.seen) c.in-GoesOn.is c.advance-now.ensures.left in
+    let left = subst (λ (r : Round). (begun : List Entry) → IsUnderWay v.number (call.Purge c.args.file c.args.span) begun v.seen → PurgeRoundLeft v.setup v.number c.args.file c.args.span r begun x.seen) c.in-GoesOn.is c.advance-now.ensures.left in
     let still = round-on g.T.Disk.Told.told g.T.Disk.Told.faults w v x c.args.file c.args.span c.pages.from c.pages.book c.advance-now.result.0 c.pages.disk c.advance-now.new.disk c.pages.invariant.on round.GoesOn left in
     ended-on g.T.Disk.Told.told g.T.Disk.Told.faults w v x c.args.file c.args.span c.pages.from c.pages.book c.advance-now.result.0 c.pages.disk c.advance-now.new.disk c.pages.invariant.on
     (outcome_of c.empty_held.result.1) (g.T.Turns.standing c.empty_held.new.turns).seen c.empty_held.ensures.left c.advance-now.ensures.went still begun way
@@ -120,4 +120,4 @@ returns-in-GoesOn-clause-failed g c =
 pub returns-in-Ended-clause-full : goal.returns-in-Ended-clause-full
 returns-in-Ended-clause-full g c =
     let x = g.T.Turns.standing c.advance-now.new.turns in
-    subst (λ (r : Round). IsFullRound (call.Purge c.args.file c.args.span) x r) c.in-Ended.is c.advance-now.ensures.full
+    subst (λ (r : Round). IsFullPurgeRound (call.Purge c.args.file c.args.span) x r) c.in-Ended.is c.advance-now.ensures.full

@@ -8,7 +8,7 @@ use Rattle.cc_step.specs.Step.{AttemptRefused}
 use Rattle.cc_step.proofs.Attempts.{forgoing}
 use Rattle.cc_ranges.specs.Dirty.{IsNext, IsCleanFrom}
 use Rattle.cc_ranges.specs.FlushSteps.{without_one}
-use Rattle.cc_ranges.specs.PurgeSteps.{GoneOn}
+use Rattle.cc_ranges.specs.PurgeSteps.{PurgeGoneOn}
 use Rattle.cc_ranges.proofs.PurgeStepping.{may-fail, refused-here, refused-within, to-write}
 use Rattle.cc_ranges.proofs.purge_steps.go_on.Goals as goal
 
@@ -59,7 +59,7 @@ empty-requires-clause-may g c =
 
 pub returns-then-from-eq0-clause-left : goal.returns-then-from-eq0-clause-left
 returns-then-from-eq0-clause-left g c u may =
-    subst (λ (n : ℕ). GoneOn u c.args.pass c.args.file c.args.span.now n c.empty.result c.args.book.now c.empty.new.book c.args.journal.now c.empty.new.journal) (sym c.if-from-eq0.true)
+    subst (λ (n : ℕ). PurgeGoneOn u c.args.pass c.args.file c.args.span.now n c.empty.result c.args.book.now c.empty.new.book c.args.journal.now c.empty.new.journal) (sym c.if-from-eq0.true)
     (c.empty.ensures.left u (record {
       may = may;
       admitted = sym (c.in-Ok-None.ensures u (u.opening c.args.book.now.stream) may.may.stand.logs_are may.may.stand.stands) ∙ c.in-Ok-None.field-0-is;

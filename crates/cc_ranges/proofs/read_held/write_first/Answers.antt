@@ -15,9 +15,9 @@ use Rattle.cc_model.specs.History.{history}
 use Rattle.cc_model.specs.Refusals.{refusal}
 use Rattle.std.specs.declared.option.Option.TheVariants.{None}
 use Rattle.cc_step.proofs.Admitted.{admitted}
-use Rattle.cc_writes.specs.Calls.{PageLeft}
+use Rattle.cc_writes.specs.Calls.{PageStepLeft}
 use Rattle.cc_writes.specs.Writes.{HasTransferred, IsToWrite}
-use Rattle.cc_writes.specs.Ways.{IsReason}
+use Rattle.cc_writes.specs.Ways.{IsCallReason}
 use Rattle.cc_ranges.specs.ReadVisits.{IsReading, ReadEnded}
 use Rattle.cc_ranges.proofs.ReadCalls.{read-filed, wrote}
 use Rattle.cc_ranges.proofs.ReadHolding.{said-before, said-after, may-fault, asks-page, failed-write}
@@ -58,7 +58,7 @@ read_written-requires-clause-reading g c =
     let v = g.T.Turns.standing c.write_for-book.new.turns in
     let file = c.args.file in
     let page = c.args.page in
-    let left = subst (λ (r : Result Call CcError). (begun : List Entry) → IsUnderWay w.number (call.NcRead file page) begun w.seen → PageLeft w.setup w.number (call.NcRead file page) r begun v.seen) c.in-Ok.is c.write_for-book.ensures.left in
+    let left = subst (λ (r : Result Call CcError). (begun : List Entry) → IsUnderWay w.number (call.NcRead file page) begun w.seen → PageStepLeft w.setup w.number (call.NcRead file page) r begun v.seen) c.in-Ok.is c.write_for-book.ensures.left in
     let shown = subst (λ (n : ℕ). HasTransferred w (record { stream = n; page = page }) how.Good false v.seen) c.requires.stream
     (subst (λ (r : Result Call CcError). IfOk r (λ again. HasTransferred w (record { stream = c.args.book.stream; page = page }) how.Good false v.seen)) c.in-Ok.is c.write_for-book.ensures.written) in (
       w.seen,
@@ -75,7 +75,7 @@ returns-clause-left g c begun is =
     let ends = λ (t : g.row.T.Denot) (r : BookState × Result ℕ CcError) (out : List ℕ). ReadEnded w.setup w.number file page r.1 begun (g.T.Turns.standing t).seen c.args.out.now out in
     elim c.match-written.branch [
       | in-Ok b ↦
-          let left = subst (λ (r : Result Call CcError). PageLeft w.setup w.number (call.NcRead file page) r begun v.seen) b.in-Ok.is (c.write_for-book.ensures.left begun is) in
+          let left = subst (λ (r : Result Call CcError). PageStepLeft w.setup w.number (call.NcRead file page) r begun v.seen) b.in-Ok.is (c.write_for-book.ensures.left begun is) in
           let shown = subst (λ (n : ℕ). HasTransferred w (record { stream = n; page = page }) how.Good false v.seen) c.requires.stream
           (subst (λ (r : Result Call CcError). IfOk r (λ again. HasTransferred w (record { stream = c.args.book.stream; page = page }) how.Good false v.seen)) b.in-Ok.is c.write_for-book.ensures.written) in
           subst (λ (t : g.row.T.Denot). ends t c.match-written.result c.match-written.out) (sym b.turns-is)
@@ -90,6 +90,6 @@ returns-clause-left g c begun is =
           (subst (λ (r : BookState × Result ℕ CcError). ends c.write_for-book.new.turns r c.match-written.out) (sym b.result-is)
           (subst (λ (out : List ℕ). ends c.write_for-book.new.turns (c.write_for-book.result.0, Err b.in-Err.error) out) (sym b.out-is)
           (failed-write w.setup w.number c.args.book.stream file page b.in-Err.error begun v.seen c.args.out.now
-          (subst (λ (r : Result Call CcError). PageLeft w.setup w.number (call.NcRead file page) r begun v.seen) b.in-Err.is (c.write_for-book.ensures.left begun is))
-          (subst (λ (r : Result Call CcError). IfErr r (IsReason w.setup c.args.book.stream (call.NcRead file page))) b.in-Err.is c.write_for-book.ensures.reason))))
+          (subst (λ (r : Result Call CcError). PageStepLeft w.setup w.number (call.NcRead file page) r begun v.seen) b.in-Err.is (c.write_for-book.ensures.left begun is))
+          (subst (λ (r : Result Call CcError). IfErr r (IsCallReason w.setup c.args.book.stream (call.NcRead file page))) b.in-Err.is c.write_for-book.ensures.reason))))
     ]

@@ -5,19 +5,19 @@ use Rattle.std.proofs.Common.{ap, sym, ◌∙◌, subst}
 use Rattle.cc_entry.specs.declared.call.Call.TheVariants as call
 use Rattle.cc_entry.specs.declared.reply.Reply.TheVariants as reply
 use Rattle.cc_effects.specs.Calls.{has_no_write}
-use Rattle.cc_step.specs.Fill.{page_of}
+use Rattle.cc_step.specs.Fill.{book_page}
 use Rattle.cc_journal.specs.Journal.{JournalState}
 use Rattle.cc_model.specs.History.{history}
 use Rattle.cc_model.specs.Replies.{Reads}
 use Rattle.cc_model.specs.Touches.{size_of}
 use Rattle.cc_step.specs.Step.{AttemptDone}
 use Rattle.cc_step.proofs.Attempts.{forgoing}
-use Rattle.cc_ranges.specs.ReadSteps.{without_one}
 use Rattle.cc_book.proofs.NoncachedReads.{reads-none}
 use Rattle.cc_ranges.proofs.DirtyNext.{never, always}
 use Rattle.cc_ranges.proofs.ReadStepping.{forgone-left, may-do, done-here, to-write, to-read}
 use Rattle.cc_ranges.proofs.read_steps.admitted.Goals.{else-not-written-via-then-not-written+else-is_to_write, else-not-written-via-else-not-written}
 use Rattle.cc_ranges.proofs.read_steps.admitted.Goals as goal
+use Rattle.cc_ranges.specs.FlushSteps.{without_one}
 
 pub returns-then-is_to_write : goal.returns-then-is_to_write
 returns-then-is_to_write g c u may admitted =
@@ -25,7 +25,7 @@ returns-then-is_to_write g c u may admitted =
     let j = c.args.journal.now in
     to-write u c.args.pass c.args.file c.args.page b j may c.requires.reserved admitted c.args.written c.release.new.self
     c.if-not-written.true
-    (never (has_no_write (page_of b c.args.page) j.entries) (sym (c.is_to_write.ensures (u.opening b.stream) may.may.stand.stands) ∙ c.if-is_to_write.true))
+    (never (has_no_write (book_page b c.args.page) j.entries) (sym (c.is_to_write.ensures (u.opening b.stream) may.may.stand.stands) ∙ c.if-is_to_write.true))
     c.release.ensures
 
 pub done-requires-clause-may : goal.done-requires-clause-may
@@ -48,7 +48,7 @@ returns-in-Some g c u may admitted =
     to-read u c.args.pass c.args.file c.args.page b j may c.requires.reserved admitted c.args.written
     (λ unwritten.
     elim c.else-not-written.branch [
-      | else-not-written-via-then-not-written+else-is_to_write w ↦ always (has_no_write (page_of b c.args.page) j.entries) (sym (w.is_to_write.ensures (u.opening b.stream) may.may.stand.stands) ∙ w.if-is_to_write.false)
+      | else-not-written-via-then-not-written+else-is_to_write w ↦ always (has_no_write (book_page b c.args.page) j.entries) (sym (w.is_to_write.ensures (u.opening b.stream) may.may.stand.stands) ∙ w.if-is_to_write.false)
       | else-not-written-via-else-not-written w ↦ absurd (cc (w.if-not-written.false, unwritten))
     ])
     (subst (λ (n : ℕ). n < size_of (history j.entries b.stream)) start.0 start.1)
@@ -71,7 +71,7 @@ returns-in-Ok g c u may admitted =
     record {
       clean = λ unwritten.
           elim c.else-not-written.branch [
-            | else-not-written-via-then-not-written+else-is_to_write w ↦ always (has_no_write (page_of b c.args.page) j.entries) (sym (w.is_to_write.ensures (u.opening b.stream) may.may.stand.stands) ∙ w.if-is_to_write.false)
+            | else-not-written-via-then-not-written+else-is_to_write w ↦ always (has_no_write (book_page b c.args.page) j.entries) (sym (w.is_to_write.ensures (u.opening b.stream) may.may.stand.stands) ∙ w.if-is_to_write.false)
             | else-not-written-via-else-not-written w ↦ absurd (cc (w.if-not-written.false, unwritten))
           ];
       attempt = subst (λ (k : JournalState g.row.Q.Denot). AttemptDone u c.args.pass (call.NcRead c.args.file c.args.page) (reply.Read []) b c.done.new.self (without_one j) k) (sym given)

@@ -5,9 +5,9 @@ use Rattle.cc_entry.specs.declared.call.Call.TheVariants as call
 use Rattle.cc_journal.specs.Journal.{JournalState}
 use Rattle.cc_step.specs.Step.{AttemptRefused}
 use Rattle.cc_step.proofs.Attempts.{forgoing}
-use Rattle.cc_ranges.specs.ReadSteps.{without_one}
 use Rattle.cc_ranges.proofs.ReadStepping.{may-fail, refused-here, forgone-left, gone-on}
 use Rattle.cc_ranges.proofs.read_steps.go_on.Goals as goal
+use Rattle.cc_ranges.specs.FlushSteps.{without_one}
 
 pub fail-requires-clause-may : goal.fail-requires-clause-may
 fail-requires-clause-may g c =

@@ -10,11 +10,11 @@ use Rattle.cc_model.specs.Ranges.{span_has}
 use Rattle.cc_model.specs.Residency.{is_resident}
 use Rattle.cc_step.proofs.Below.{resident-below}
 use Rattle.cc_step.proofs.Placed.{so-far}
-use Rattle.cc_ranges.specs.Residents.{IsLeastIn, IsLeastOf}
+use Rattle.cc_ranges.specs.Residents.{IsLeastOfSpanIn, IsLeastOf}
 use Rattle.cc_ranges.proofs.residents.least_resident.Goals as goal
 
 -- where no page of a lower block is resident, the least one of a block is the least of the span
-least-of : (h : List Effect) (span : Option Range) (block : ℕ) (o : Option ℕ) → IsLeastIn h span block o → is_some o ≡ true → ((p : ℕ) → p / 64 < block → span_has span p ≡ true → is_resident h p ≡ false) → IsLeastOf h span o
+least-of : (h : List Effect) (span : Option Range) (block : ℕ) (o : Option ℕ) → IsLeastOfSpanIn h span block o → is_some o ≡ true → ((p : ℕ) → p / 64 < block → span_has span p ≡ true → is_resident h p ≡ false) → IsLeastOf h span o
 least-of h span block None least some lower = absurd (cc)
 least-of h span block (Some page) least some lower = record {
   in_span = least.in_span;
@@ -30,7 +30,7 @@ least-of h span block (Some page) least some lower = record {
     below p less has false after = least.none_below p less (within p less least.here (ltb-false (p / 64) block after)) has
 
 -- where none was found in a block, none is resident there
-none-of : (h : List Effect) (span : Option Range) (block : ℕ) (o : Option ℕ) → IsLeastIn h span block o → is_some o ≡ false → (p : ℕ) → p / 64 ≡ block → span_has span p ≡ true → is_resident h p ≡ false
+none-of : (h : List Effect) (span : Option Range) (block : ℕ) (o : Option ℕ) → IsLeastOfSpanIn h span block o → is_some o ≡ false → (p : ℕ) → p / 64 ≡ block → span_has span p ≡ true → is_resident h p ≡ false
 none-of h span block None none some p here has = none p here has
 none-of h span block (Some page) none some p here has = absurd (cc)
 

@@ -1,7 +1,7 @@
 -- With a place reserved the refusal's entry is good; what is released is the place of the end that the pass owed.
 use Rattle.std.specs.Prelude.{◌≡◌, ℕ, ◌-◌, ◌≤◌, List}
 use Rattle.std.proofs.Common.{ap, sym, ◌∙◌, subst}
-use Rattle.cc_book.specs.Book.{Gains, GoesOn, MayPlace, failed}
+use Rattle.cc_book.specs.Book.{Gains, GoesOn, MayPlaceOnBook, failed}
 use Rattle.cc_entry.specs.declared.entry.Entry.{Entry}
 use Rattle.cc_entry.specs.declared.error.CcError.{CcError}
 use Rattle.cc_journal.specs.Calls.{owed_end}
@@ -17,8 +17,8 @@ fail-requires-clause-may g c =
     let may = c.requires.may.1 in
     let j = c.args.journal.now in
     let b = c.args.book.now in
-    subst (λ (x : JournalState g.row.Q.Denot). MayPlace x.entries (failed c.args.pass x.entries b.stream c.args.call c.refusal_first-error.result) b) (sym c.in-Ok.ensures.reserved)
-    (subst (λ (e : CcError). MayPlace j.entries (failed c.args.pass j.entries b.stream c.args.call e) b) (sym (c.refusal_first-error.ensures j.entries u may.stand.stands))
+    subst (λ (x : JournalState g.row.Q.Denot). MayPlaceOnBook x.entries (failed c.args.pass x.entries b.stream c.args.call c.refusal_first-error.result) b) (sym c.in-Ok.ensures.reserved)
+    (subst (λ (e : CcError). MayPlaceOnBook j.entries (failed c.args.pass j.entries b.stream c.args.call e) b) (sym (c.refusal_first-error.ensures j.entries u may.stand.stands))
     (may-refuse u c.args.pass c.args.file c.args.call c.args.refusal b j c.requires.page c.requires.shape may))
 
 pub release-requires : goal.release-requires

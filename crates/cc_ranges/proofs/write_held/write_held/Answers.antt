@@ -5,10 +5,10 @@ use Rattle.cc_entry.specs.declared.call.Call.TheVariants as call
 use Rattle.cc_entry.specs.declared.error.CcError.{CcError}
 use Rattle.cc_writes.specs.Calls.{IsFullWriting}
 use Rattle.cc_ranges.specs.WriteHeld.{RoomLeft}
-use Rattle.cc_ranges.specs.WriteVisits.{page_in}
 use Rattle.cc_ranges.proofs.TidyEnds.{tidy-went}
 use Rattle.cc_ranges.proofs.WriteHolding.{begins-writing, ready-left, turned-left}
 use Rattle.cc_ranges.proofs.write_held.write_held.Goals as goal
+use Rattle.cc_ranges.specs.ReadVisits.{file_page}
 
 pub returns-in-Ok-clause-left : goal.returns-in-Ok-clause-left
 returns-in-Ok-clause-left g c begun is =
@@ -30,7 +30,7 @@ returns-in-Ok-clause-tidy g c =
     let w = g.T.Turns.standing c.args.turns.now in
     let x = g.T.Turns.standing c.make_room-book.new.turns in
     let way = subst (λ (r : Result (Unit {0}) CcError). RoomLeft w.setup w.number c.args.file c.args.page r w.seen x.seen) c.in-Ok.is (c.make_room-book.ensures.left w.seen (begins-writing w.number c.args.file c.args.page w.seen)) in
-    tidy-went w.in_flight w x c.args.file (page_in c.args.file c.args.page) c.write_ready.result.1 (g.T.Turns.standing c.write_ready.new.turns).seen c.make_room-book.ensures.went
+    tidy-went w.in_flight w x c.args.file (file_page c.args.file c.args.page) c.write_ready.result.1 (g.T.Turns.standing c.write_ready.new.turns).seen c.make_room-book.ensures.went
     (way.way.during, way.way.grew) c.write_ready.ensures.tidy
 
 pub returns-in-Err-clause-full : goal.returns-in-Err-clause-full

@@ -6,9 +6,10 @@ use Rattle.cc_entry.specs.declared.call.Call.TheVariants as call
 use Rattle.cc_journal.specs.Journal.{JournalState}
 use Rattle.cc_step.specs.Step.{AttemptRefused}
 use Rattle.cc_step.proofs.Attempts.{forgoing}
-use Rattle.cc_ranges.specs.WriteSteps.{MayMakeRoom, NextLeft, without_one}
+use Rattle.cc_ranges.specs.WriteSteps.{MayMakeRoom, WriteNextLeft}
 use Rattle.cc_ranges.proofs.Refusing.{may-fail, refused-here, forgone-left}
 use Rattle.cc_ranges.proofs.write_steps.go_on.Goals as goal
+use Rattle.cc_ranges.specs.FlushSteps.{without_one}
 
 pub fail-requires-clause-may : goal.fail-requires-clause-may
 fail-requires-clause-may g c =
@@ -47,6 +48,6 @@ admitted-requires g c =
 
 pub returns-in-Ok-None : goal.returns-in-Ok-None
 returns-in-Ok-None g c u fill =
-    subst (λ (j : JournalState g.row.Q.Denot). NextLeft u c.args.pass c.args.file c.args.page c.admitted.result c.args.book.now c.admitted.new.book j c.admitted.new.journal) c.release-in-Ok-None.ensures
+    subst (λ (j : JournalState g.row.Q.Denot). WriteNextLeft u c.args.pass c.args.file c.args.page c.admitted.result c.args.book.now c.admitted.new.book j c.admitted.new.journal) c.release-in-Ok-None.ensures
     (c.admitted.ensures u (subst (λ (j : JournalState g.row.Q.Denot). MayMakeRoom u c.args.pass c.args.file c.args.page c.args.book.now j) (sym c.release-in-Ok-None.ensures)
     (record { may = fill; admitted = sym (c.in-Ok-None.ensures u (u.opening c.args.book.now.stream) fill.may.stand.logs_are fill.may.stand.stands) ∙ c.in-Ok-None.field-0-is })))

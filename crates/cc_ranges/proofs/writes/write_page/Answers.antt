@@ -12,9 +12,9 @@ use Rattle.cc_writes.proofs.TakingBoth.{both_begun, setup_both}
 use Rattle.cc_ranges.specs.Stores.{IsFullStoring}
 use Rattle.cc_ranges.proofs.Callers.{went-both}
 use Rattle.cc_ranges.proofs.WriteFull.{given-storing}
-use Rattle.cc_ranges.specs.WriteVisits.{page_in}
 use Rattle.cc_ranges.proofs.WritePages.{page-since, tidy-both}
 use Rattle.cc_ranges.proofs.writes.write_page.Goals as goal
+use Rattle.cc_ranges.specs.ReadVisits.{file_page}
 
 pub write_held-book-requires-clause-both : goal.write_held-book-requires-clause-both
 write_held-book-requires-clause-both g c =
@@ -41,9 +41,9 @@ returns g c =
     record {
       ends = record {
         left = page-since w v x s can first second y z c.args.file c.args.page c.args.bytes.now answer given c.write_held-book.ensures.left;
-        tidy = tidy-both w v x s can first second c.args.file (page_in c.args.file c.args.page) answer y.seen z.seen (ap (λ (a : Standing). a.seen) given) c.write_held-book.ensures.tidy;
-        full = subst (λ (a : Standing). IsFullStoring c.args.file (page_in c.args.file c.args.page) a answer) (sym given)
-            (given-storing c.args.file (page_in c.args.file c.args.page) y answer c.write_held-book.ensures.full);
+        tidy = tidy-both w v x s can first second c.args.file (file_page c.args.file c.args.page) answer y.seen z.seen (ap (λ (a : Standing). a.seen) given) c.write_held-book.ensures.tidy;
+        full = subst (λ (a : Standing). IsFullStoring c.args.file (file_page c.args.file c.args.page) a answer) (sym given)
+            (given-storing c.args.file (file_page c.args.file c.args.page) y answer c.write_held-book.ensures.full);
         goes_on = went-both w v x y z s can.free first second went given;
         good = subst (λ (u : Setup). IsGood u z.seen) (ap (λ (a : Standing). a.setup) went.same ∙ setup_both w v x s can first second)
             (subst (λ (past : List Entry). IsGood y.setup past) (sym (ap (λ (a : Standing). a.seen) given)) both.book.good);

@@ -4,7 +4,7 @@ use Rattle.cc_readers.specs.declared.holds.OpenHold.{OpenHold}
 use Rattle.cc_model.specs.Holds.{Hold}
 use Rattle.cc_model.specs.Conflicts.{busy}
 use Rattle.cc_model.specs.Refusals.{first_of}
-use Rattle.cc_readers.specs.HoldReads.{hold_of}
+use Rattle.cc_readers.specs.HoldReads.{hold_of_reader}
 use Rattle.cc_readers.proofs.RefusalReads.{same_reasons}
 use Rattle.cc_readers.proofs.refusals.by_use.Goals as goal
 
@@ -12,7 +12,7 @@ pub returns : goal.returns
 returns c =
     let by_pins =
     c.in_ok-by_pins.ensures
-    ∙ (ap (λ (hs : List OpenHold). busy (map hold_of hs) c.args.call.now) c.deref.ensures.value
+    ∙ (ap (λ (hs : List OpenHold). busy (map hold_of_reader hs) c.args.call.now) c.deref.ensures.value
     ∙ ap (λ (hs : List Hold). busy hs c.args.call.now) c.in_ok-holds.ensures) in
     c.first_in.ensures
     ∙ ap first_of

@@ -3,7 +3,7 @@ use Rattle.std.proofs.Common.{◌≡◌, ℕ, List, IfOk, sym, ◌∙◌, ap, su
 use Rattle.std.specs.declared.option.Option.{Option}
 use Rattle.std.proofs.lemmas.List.{nil_from_length}
 use Rattle.cc_events.specs.declared.touching.Touching.TheVariants as touching
-use Rattle.cc_entry.specs.Lsns.{joined, alone}
+use Rattle.cc_entry.specs.Lsns.{joined, lsn_alone}
 use Rattle.cc_model.specs.Stamps.{lsns_among}
 use Rattle.cc_model.specs.Sizes.{Touch}
 use Rattle.cc_readers.proofs.TouchReads.{touches_back, touches_none, begins_ended, begins_open}
@@ -24,7 +24,7 @@ pub returns-in_ok-before-in-Touches : goal.returns-in_ok-before-in-Touches
 returns-in_ok-before-in-Touches t c =
     c.joined.ensures
     ∙ (ap (λ (own : Option (ℕ × ℕ)). joined own c.in_ok-before-in-Touches.before) c.alone.ensures
-    ∙ (ap (λ (before : Option (ℕ × ℕ)). joined (alone c.in-Touches.lsn) before) c.in_ok-before-in-Touches.ensures
+    ∙ (ap (λ (before : Option (ℕ × ℕ)). joined (lsn_alone c.in-Touches.lsn) before) c.in_ok-before-in-Touches.ensures
     ∙ sym (ap lsns_among (touches_back _ _ _ _ (touching.Touches c.in-Touches.lsn) c.args.ended c.args.page c.in-Some.ensures.cases.0 (sym c.in-Touches.is ∙ c.in_ok-touching_by.ensures)))))
 
 pub returns-in-Cuts : goal.returns-in-Cuts

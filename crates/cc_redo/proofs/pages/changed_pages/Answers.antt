@@ -8,7 +8,7 @@ use Rattle.cc_traits.specs.Disk.{Disk}
 use Rattle.cc_redo.proofs.Changing.{IsChanged, IsRedoing, entries-done, entry-changed, entry-early, entry-other, redone-some}
 use Rattle.cc_redo.proofs.Covering.{changed-by, read-so, spared-by}
 use Rattle.cc_redo.proofs.Steps.{handed-on}
-use Rattle.cc_redo.specs.Changes.{covers, is_changed}
+use Rattle.cc_redo.specs.Changes.{change_covers, is_changed}
 use Rattle.cc_redo.specs.Heard.{Change, redone_of}
 use Rattle.cc_redo.specs.Scanned.{IsReadRefusal}
 use Rattle.cc_redo.proofs.pages.changed_pages.Goals as goal
@@ -73,7 +73,7 @@ returns-in_err-change_pages-clause-refused g c =
     let change : Change = record { at = c.in-Some.at; bytes = c.in-Some.bytes.now } in
     let e = c.in_err-change_pages.field-0.0 in
     handed-on (λ answer. IfErr answer (IsReadRefusal (λ page. is_changed (redone_of redo c.args.from entries) page ≡ true))) c.from_residual.result e c.from_residual.ensures.1
-    (read-so (λ page. covers change page ≡ true) (λ page. is_changed (redone_of redo c.args.from entries) page ≡ true) e
+    (read-so (λ page. change_covers change page ≡ true) (λ page. is_changed (redone_of redo c.args.from entries) page ≡ true) e
     (λ page covered.
     changed-by redo c.args.from entries c.loop-entry.entry-index entry change page c.loop-entry-test.true c.entry-item.is
     (redone-some redo c.args.from entry change c.if-entry-from.true c.in-Some.ensures) covered) c.in_err-change_pages.ensures.refused)

@@ -2,7 +2,7 @@ use Rattle.std.proofs.Common.{◌≡◌, ◌+◌, ◌<◌, ℕ, List, [], ◌∷
 use Rattle.std.specs.declared.option.Option.{Option}
 use Rattle.std.specs.declared.option.Option.TheVariants.{Some, None}
 use Rattle.cc_traits.specs.Told.{IfTold}
-use Rattle.cc_traits.specs.Log.{Holds, Log}
+use Rattle.cc_traits.specs.Log.{HoldsEntry, Log}
 use Rattle.cc_redo.specs.Reading.{said_by}
 use Rattle.cc_redo.specs.declared.record.LogRecord.{LogRecord}
 use Rattle.cc_redo.specs.declared.scan.ReadEntry.{ReadEntry}
@@ -16,7 +16,7 @@ loop-n-preserved g c =
     let lsn = c.in-Ok-Some.lsn in
     let bytes = c.entry.new.out.items in
     let items = c.loop-n.entries.items in
-    let held : IfTold (g.L.LogFile.told c.loop-n.log) (Holds n (Some lsn) bytes) = rw (c.in-Ok-Some.is, c.in-Ok-Some.field-0-is) at c.entry.ensures.held in
+    let held : IfTold (g.L.LogFile.told c.loop-n.log) (HoldsEntry n (Some lsn) bytes) = rw (c.in-Ok-Some.is, c.in-Ok-Some.field-0-is) at c.entry.ensures.held in
     let says : c.in_ok-says-in-Ok-Some.says ≡ said_by bytes = c.in_ok-says-in-Ok-Some.ensures ∙ ap said_by c.deref.ensures.value in
     let made : Option LogRecord → ReadEntry = λ s. record { lsn = lsn; says = s } in
     let pushed : c.push.new.self.items ≡ items ++ made (said_by bytes) ∷ [] =
@@ -27,7 +27,7 @@ loop-n-preserved g c =
       read =
           subst (λ (l : List ReadEntry). IfTold told (HasRead (n + 1) l)) (sym pushed)
           (read-more told n lsn bytes items c.loop-n.invariant.read
-          (subst (λ (t : Option Log). IfTold t (Holds n (Some lsn) bytes)) c.loop-n.invariant.stays held));
+          (subst (λ (t : Option Log). IfTold t (HoldsEntry n (Some lsn) bytes)) c.loop-n.invariant.stays held));
     }
 
 pub returns-in-Ok-Some-entry-clause-refused : goal.returns-in-Ok-Some-entry-clause-refused
@@ -44,7 +44,7 @@ returns-in-Ok-None-entry-clause-read g c =
     let n = c.loop-n.n in
     let last : n ≡ 4194304 = omega arith in
     let bytes = c.entry-2.new.out.items in
-    let held : IfTold (g.L.LogFile.told c.loop-n.log) (Holds 4194304 None bytes) = rw (c.in-Ok-None-entry.is, c.in-Ok-None-entry.field-0-is) at c.entry-2.ensures.held in
+    let held : IfTold (g.L.LogFile.told c.loop-n.log) (HoldsEntry 4194304 None bytes) = rw (c.in-Ok-None-entry.is, c.in-Ok-None-entry.field-0-is) at c.entry-2.ensures.held in
     read-all told 4194304 bytes c.loop-n.entries.items (omega arith)
     (subst (λ (m : ℕ). IfTold told (HasRead m c.loop-n.entries.items)) last c.loop-n.invariant.read)
-    (subst (λ (t : Option Log). IfTold t (Holds 4194304 None bytes)) c.loop-n.invariant.stays held)
+    (subst (λ (t : Option Log). IfTold t (HoldsEntry 4194304 None bytes)) c.loop-n.invariant.stays held)

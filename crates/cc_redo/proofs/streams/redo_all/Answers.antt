@@ -2,7 +2,7 @@ use Rattle.std.proofs.Common.{◌≡◌, ◌≤◌, arith}
 use Rattle.std.specs.Prelude.{IfErr, OnErr}
 use Rattle.std.proofs.Math.ListN.{get_or, set}
 use Rattle.cc_redo.specs.Ends.{EachDisk, IsFaultOf}
-use Rattle.cc_redo.specs.Stages.{IsStageRefusal, PagesDone, PagesLeft}
+use Rattle.cc_redo.specs.Stages.{IsStageRefusal, PagesDone, RedonePagesLeft}
 use Rattle.cc_redo.proofs.Disking.{reached-all}
 use Rattle.cc_redo.proofs.Settling.{pages-fault, pages-itself, pages-weaker}
 use Rattle.cc_redo.proofs.Steps.{goes-on, handed-on, refuses, stops}
@@ -19,11 +19,11 @@ returns-in_err-redo_pages-clause-left g c =
     let here = get_or c.loop-redo.disks redo.disk one in
     let next = c.redo_pages.new.disk in
     let count : faults here ≤ faults next = let counted = c.in_err-redo_pages.ensures.counted in omega arith in
-    handed-on (λ answer. OnErr answer (EachDisk c.args.streams.now (PagesLeft told faults from items) c.args.disks.now (set c.loop-redo.disks redo.disk next)))
+    handed-on (λ answer. OnErr answer (EachDisk c.args.streams.now (RedonePagesLeft told faults from items) c.args.disks.now (set c.loop-redo.disks redo.disk next)))
     c.from_residual.result c.in_err-redo_pages.field-0.0 c.from_residual.ensures.1
     (stops c.args.streams.now c.loop-redo.redo-index (PagesDone told faults from items) c.args.disks.now c.loop-redo.disks redo one next
     (record { differ = c.requires.differ; disks = c.requires.disks; below = c.loop-redo-test.true; redo_is = c.redo-item.is; reached = c.loop-redo.invariant })
-    (PagesLeft told faults from items) (λ r was is done. pages-weaker told faults items from r was is done) (λ r d. pages-itself told faults items from r d)
+    (RedonePagesLeft told faults from items) (λ r was is done. pages-weaker told faults items from r was is done) (λ r d. pages-itself told faults items from r d)
     (record { writing = c.redo_pages.ensures.writing; counted = count }))
 
 pub returns-in_err-redo_pages-clause-refused : goal.returns-in_err-redo_pages-clause-refused

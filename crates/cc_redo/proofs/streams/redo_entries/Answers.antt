@@ -2,7 +2,7 @@ use Rattle.std.proofs.Common.{ℕ, subst}
 use Rattle.std.specs.Prelude.{IfErr}
 use Rattle.cc_redo.specs.Ends.{EachDisk, IsCounted, IsFaultOf, LeavesBy}
 use Rattle.cc_redo.specs.Heard.{from_of}
-use Rattle.cc_redo.specs.Stages.{IsStageRefusal, PagesDone, PagesLeft}
+use Rattle.cc_redo.specs.Stages.{IsStageRefusal, PagesDone, RedonePagesLeft}
 use Rattle.cc_redo.proofs.Steps.{handed-on}
 use Rattle.cc_redo.proofs.Whole.{pages-counted, pages-left, records-counted, records-left, records-made, records-refused, records-same}
 use Rattle.cc_redo.proofs.streams.redo_entries.Goals as goal
@@ -18,7 +18,7 @@ returns-in_err-redo_all-clause-leaves g c =
     let e = c.in_err-redo_all.field-0.0 in
     handed-on (λ answer. EachDisk streams (λ redo was now. LeavesBy streams items answer redo (told was) (told now)) disks new)
     c.from_residual-in_err-redo_all.result e c.from_residual-in_err-redo_all.ensures.1
-    (pages-left told faults streams items disks disks new e (subst (λ (from : ℕ). EachDisk streams (PagesLeft told faults from items) disks new) c.first_redone-from.ensures c.in_err-redo_all.ensures.left))
+    (pages-left told faults streams items disks disks new e (subst (λ (from : ℕ). EachDisk streams (RedonePagesLeft told faults from items) disks new) c.first_redone-from.ensures c.in_err-redo_all.ensures.left))
 
 pub returns-in_err-redo_all-clause-refused : goal.returns-in_err-redo_all-clause-refused
 returns-in_err-redo_all-clause-refused g c =
@@ -44,7 +44,7 @@ returns-in_err-redo_all-clause-counted g c =
     let e = c.in_err-redo_all.field-0.0 in
     handed-on (λ answer. EachDisk streams (λ redo was now. IsCounted answer (faults was) (faults now)) disks new)
     c.from_residual-in_err-redo_all.result e c.from_residual-in_err-redo_all.ensures.1
-    (pages-counted told faults streams items disks disks new (subst (λ (from : ℕ). EachDisk streams (PagesLeft told faults from items) disks new) c.first_redone-from.ensures c.in_err-redo_all.ensures.left))
+    (pages-counted told faults streams items disks disks new (subst (λ (from : ℕ). EachDisk streams (RedonePagesLeft told faults from items) disks new) c.first_redone-from.ensures c.in_err-redo_all.ensures.left))
 
 pub returns-in_err-settle_all-clause-leaves : goal.returns-in_err-settle_all-clause-leaves
 returns-in_err-settle_all-clause-leaves g c =

@@ -5,16 +5,16 @@ use Rattle.std.proofs.lemmas.Bool.{cases_lt}
 use Rattle.std.proofs.lemmas.Bool.Decides.{nat_tests}
 use Rattle.std.specs.Bool.{then_some}
 use Rattle.std.specs.Option.{option_map}
-use Rattle.cc_pages.specs.Pages.{Page}
-use Rattle.cc_views.specs.Views.{Mapped, Pages, frames_at}
-use Rattle.cc_resident.specs.Residents.{page_at, is_resident}
+use Rattle.cc_pages.specs.Pages.{PageFrame}
+use Rattle.cc_views.specs.Views.{MappedViews, ViewFrames, frames_at}
+use Rattle.cc_resident.specs.Residents.{page_bytes_at, is_resident}
 use Rattle.cc_resident.proofs.Frames.{frame_in, frame_is, some_map}
 use Rattle.cc_resident.proofs.Kept.{page_from}
 use Rattle.cc_resident.proofs.Lists.{find_more}
 use Rattle.cc_resident.proofs.steps.absent_in_block.Goals as goal
 
 -- the page in the frames of its block
-page_in_block : (m : Mapped) (frames : Option Pages) (from page : ℕ) → frames ≡ frames_at m (from / 64) → page / 64 ≡ from / 64 → page_at m page ≡ option_map (λ (f : Page). f.bytes) (frame_in page frames)
+page_in_block : (m : MappedViews) (frames : Option ViewFrames) (from page : ℕ) → frames ≡ frames_at m (from / 64) → page / 64 ≡ from / 64 → page_bytes_at m page ≡ option_map (λ (f : PageFrame). f.bytes) (frame_in page frames)
 page_in_block m frames from page there same = page_from m page (frame_in page frames) (frame_is m page ∙ ap (λ (b : ℕ). frame_in page (frames_at m b)) same ∙ ap (frame_in page) (sym there))
 
 -- where each page lacks

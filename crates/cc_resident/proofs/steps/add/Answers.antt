@@ -1,6 +1,6 @@
 use Rattle.std.proofs.Common.{◌/◌, Some, ap, ◌∙◌}
 use Rattle.cc_pages.specs.Pages.{owned}
-use Rattle.cc_views.specs.Views.{without}
+use Rattle.cc_views.specs.Views.{without_view}
 use Rattle.cc_resident.proofs.Frames.{put_views, Keeps-last, mapped_last, blocks-last, unmapped}
 use Rattle.cc_resident.proofs.Kept.{Puts-after}
 use Rattle.cc_resident.proofs.steps.add.Goals as goal
@@ -16,5 +16,5 @@ returns-in-Ok-clause-blocks c = c.put.ensures.blocks ∙ blocks-last c.args.view
 
 pub returns-in-Err-clause-err : goal.returns-in-Err-clause-err
 returns-in-Err-clause-err c =
-    c.remove-frames.ensures.rest ∙ ap (λ m. put_views m (without m.views (c.args.page / 64))) c.in-Err.ensures.err
+    c.remove-frames.ensures.rest ∙ ap (λ m. put_views m (without_view m.views (c.args.page / 64))) c.in-Err.ensures.err
     ∙ unmapped c.args.views.now c.add.new.self (c.args.page / 64) c.requires.unmapped c.in_ok-add.ensures.last c.add.ensures.quota c.add.ensures.size

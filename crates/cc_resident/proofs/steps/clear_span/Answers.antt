@@ -3,7 +3,7 @@ use Rattle.std.proofs.Common.{◌≡◌, ◌≤◌, ◌+◌, ◌&&◌, ◌==◌,
 use Rattle.std.proofs.lemmas.Map.Entries.{length-keys_of}
 use Rattle.cc_entry.specs.Pages.{block_of}
 use Rattle.cc_resident.specs.Residents.{blocks}
-use Rattle.cc_resident.specs.Changes.{is_between}
+use Rattle.cc_resident.specs.Changes.{is_number_between}
 use Rattle.cc_resident.proofs.Spans.{in_front, in_front-more, front-more, small_block, Clears-then, Clears-all}
 use Rattle.cc_resident.proofs.steps.clear_span.Goals as goal
 
@@ -15,7 +15,7 @@ loop-place-preserved c =
     let old = c.args.views.now in
     let place = c.loop-place.place in
     let block = c.block_at-block.result in
-    let span = is_between c.args.from c.args.to in
+    let span = is_number_between c.args.from c.args.to in
     let at : slice_get (blocks old) place ≡ Some block = ap (λ l. slice_get l place) (sym c.loop-place.invariant.blocks) ∙ c.block_at-block.ensures in
     record {
       clears = Clears-then old c.loop-place.views c.clear_in_block.new.views (λ p. in_front place (blocks old) (block_of p) && span p) (λ p. (block_of p == block) && span p) (λ p. in_front (place + 1) (blocks old) (block_of p) && span p)

@@ -1,5 +1,5 @@
 use Rattle.std.proofs.Common.{◌≡◌, ◌-◌, ap, ◌∙◌, if◌then◌else◌, arith}
-use Rattle.cc_resident.specs.Residents.{blocks, has_pages, without}
+use Rattle.cc_resident.specs.Residents.{blocks, has_pages, order_without}
 use Rattle.cc_resident.proofs.Kept.{Keeps-then, has_alike}
 use Rattle.cc_resident.proofs.Spans.{Dropped-more}
 use Rattle.cc_resident.proofs.steps.drop_empty.Goals as goal
@@ -15,5 +15,5 @@ loop-place-preserved c =
     record {
       keeps = Keeps-then old mid new c.loop-place.invariant.keeps c.drop_if_empty.ensures.pages;
       dropped = Dropped-more (has_pages old) (blocks old) (blocks mid) (blocks new) c.loop-place.place place block (omega (arith, c.loop-place-test.true)) c.drop_if_empty.ensures.distinct c.block_at-block.ensures
-          (c.drop_if_empty.ensures.blocks ∙ ap (λ b. if b then blocks mid else without block (blocks mid)) same) c.loop-place.invariant.dropped;
+          (c.drop_if_empty.ensures.blocks ∙ ap (λ b. if b then blocks mid else order_without block (blocks mid)) same) c.loop-place.invariant.dropped;
     }

@@ -1,12 +1,12 @@
 use Rattle.cc_resident.specs.Residents.{blocks, has_pages}
-use Rattle.cc_resident.specs.Changes.{Keeps}
+use Rattle.cc_resident.specs.Changes.{KeepsFrames}
 use Rattle.cc_resident.proofs.Spans.{Dropped}
 use Rattle.cc_resident.proofs.steps.drop_empty.Given as goal
 
 abbrev pub invariant-loop-place : goal.invariant-loop-place
 invariant-loop-place l =
     record {
-      keeps : Keeps l.initial.views l.views;
+      keeps : KeepsFrames l.initial.views l.views;
       dropped : Dropped (has_pages l.initial.views) (blocks l.initial.views) (blocks l.views) l.place;
     }
 

@@ -1,7 +1,7 @@
 use Rattle.std.proofs.Common.{ℕ, ◌≡◌, ◌+◌, ◌<◌, length, get_or, set, take, subst, sym, ◌∙◌, arith}
 use Rattle.std.specs.Prelude.{IfErr}
 use Rattle.cc_redo.proofs.Steps.{handed-on}
-use Rattle.cc_restarts.specs.Given.{GivenTo, Gives}
+use Rattle.cc_restarts.specs.Given.{GivenTo, GivesRedo}
 use Rattle.cc_restarts.specs.Restarting.{ReadingLeft}
 use Rattle.cc_restarts.proofs.Reading.{IsAt, gives-more, goes-on, stops}
 use Rattle.cc_restarts.proofs.given.given_to.Goals as goal
@@ -47,8 +47,8 @@ loop-stream-preserved g c =
       read = c.loop-stream.invariant.read;
     } in
     let before : GivenTo told disks handle 0 (take n streams) given = subst (λ (k : ℕ). GivenTo told disks handle 0 (take k streams) given) (sym place) c.loop-stream.invariant.given in
-    let gives : Gives (told (get_or c.loop-stream.disks n one)) handle n stream given more =
-    subst (λ (k : ℕ). Gives (told (get_or c.loop-stream.disks n one)) handle k stream given more) (sym c.from.ensures) c.in_ok-give_stream.ensures.gives in
+    let gives : GivesRedo (told (get_or c.loop-stream.disks n one)) handle n stream given more =
+    subst (λ (k : ℕ). GivesRedo (told (get_or c.loop-stream.disks n one)) handle k stream given more) (sym c.from.ensures) c.in_ok-give_stream.ensures.gives in
     record {
       number = let number = c.loop-stream.invariant.number in omega (arith, number);
       read = goes-on told faults handle streams n disks c.loop-stream.disks stream one next at_it c.give_stream.ensures.stays c.give_stream.ensures.untouched c.in_ok-give_stream.ensures.counted;

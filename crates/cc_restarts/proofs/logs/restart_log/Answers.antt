@@ -2,7 +2,7 @@ use Rattle.std.proofs.Common.{◌+◌, ◌<◌, List, All, length, slice_index_o
 use Rattle.std.specs.Prelude.{IfOk, IfErr}
 use Rattle.cc_traits.specs.Told.{IfTold}
 use Rattle.cc_redo.specs.declared.redo.Redo.{Redo}
-use Rattle.cc_redo.specs.Ends.{DisksDiffer, IsAnswer, IsRefused}
+use Rattle.cc_redo.specs.Ends.{DisksDiffer, IsRestartAnswer, IsRestartRefusal}
 use Rattle.cc_restarts.specs.Given.{GivenTo}
 use Rattle.cc_restarts.proofs.Giving.{given-below, given-differ}
 use Rattle.cc_restarts.proofs.logs.restart_log.Goals as goal
@@ -40,8 +40,8 @@ returns g c =
       given_are = subst (λ (l : List Redo). GivenTo told c.args.disks.now c.args.handle 0 c.args.streams.now l) (sym c.deref.ensures.value) c.in_ok-given.ensures.given;
       read = c.in_ok-given.ensures.read;
       leaves = c.restart-answer.ensures.leaves;
-      answer = λ done is. subst (λ r. IfOk r (λ d. IfTold (log_told c.args.log.now) (λ l. IsAnswer given l d))) is c.restart-answer.ensures.answer;
-      refused = λ e is. subst (λ r. IfErr r (IsRefused told faults given (log_told c.args.log.now) between c.restart-answer.new.disks)) is c.restart-answer.ensures.refused;
+      answer = λ done is. subst (λ r. IfOk r (λ d. IfTold (log_told c.args.log.now) (λ l. IsRestartAnswer given l d))) is c.restart-answer.ensures.answer;
+      refused = λ e is. subst (λ r. IfErr r (IsRestartRefusal told faults given (log_told c.args.log.now) between c.restart-answer.new.disks)) is c.restart-answer.ensures.refused;
       counted = c.restart-answer.ensures.counted;
       log_tells = c.restart-answer.ensures.log_stays;
       log_counted = c.restart-answer.ensures.log_counted;

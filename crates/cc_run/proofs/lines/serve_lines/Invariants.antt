@@ -5,7 +5,7 @@ use Rattle.cc_script.specs.HoldWords.{AreUsedRight}
 use Rattle.cc_script.specs.declared.bound.Bound.{Bound}
 use Rattle.cc_pieces.specs.Bindings.{Binding}
 use Rattle.cc_turns.specs.Desk.{standing_of}
-use Rattle.cc_run.specs.Desks.{IsReady, IsSameRun}
+use Rattle.cc_run.specs.Desks.{PassIsReady, IsSameRun}
 use Rattle.cc_entry.specs.declared.answer.LineReply.{LineReply}
 use Rattle.cc_run.specs.Lines.{AllStand, KeepRoom, LinesEnd}
 use Rattle.cc_run.specs.Places.{AreOfQueues}
@@ -17,7 +17,7 @@ invariant-loop-line g l =
     let at = standing_of g.D.Told.told g.D.Told.faults g.L.LogFile.told g.L.LogFile.faults in
     record {
       run : IsSameRun (at l.initial.desk) (at l.desk);
-      ready : IsReady (at l.desk);
+      ready : PassIsReady (at l.desk);
       long : length l.replies.items ≡ length l.initial.replies.items + l.line-index;
       room : vec_capacity l.replies ≡ vec_capacity l.initial.replies;
       counted : length l.names ≡ 16;

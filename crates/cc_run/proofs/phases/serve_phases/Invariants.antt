@@ -3,7 +3,7 @@ use Rattle.std.proofs.Common.{◌≡◌, ◌+◌, ◌≤◌, length}
 use Rattle.std.specs.Prelude.{vec_capacity}
 use Rattle.cc_script.specs.Within.{PhasesAscend}
 use Rattle.cc_turns.specs.Desk.{standing_of}
-use Rattle.cc_run.specs.Desks.{IsReady, IsSameRun}
+use Rattle.cc_run.specs.Desks.{PassIsReady, IsSameRun}
 use Rattle.cc_run.specs.Aheads.{step_lines}
 use Rattle.cc_run.specs.Lines.{KeepRoom}
 use Rattle.cc_run.specs.Places.{AreOfQueues, PlaceWent}
@@ -15,7 +15,7 @@ invariant-loop-phase g l =
     let at = standing_of g.D.Told.told g.D.Told.faults g.L.LogFile.told g.L.LogFile.faults in
     record {
       run : IsSameRun (at l.fn.desk) (at l.desk);
-      ready : IsReady (at l.desk);
+      ready : PassIsReady (at l.desk);
       capacity : vec_capacity l.replies ≡ vec_capacity l.fn.replies;
       room : length l.replies.items + length l.rest ≤ vec_capacity l.fn.replies;
       within : l.phase ≤ l.fn.phases + 1;

@@ -1,13 +1,13 @@
 -- Behind the restarts the desk acts as pass 0 anew, and opens the streams.
 use Rattle.std.proofs.Common.{sym, subst}
 use Rattle.cc_turns.specs.Desk.{standing_of}
-use Rattle.cc_run.specs.Desks.{IsReady}
+use Rattle.cc_run.specs.Desks.{PassIsReady}
 use Rattle.cc_run.proofs.Begins.{begun-so, run-over}
 use Rattle.cc_run.proofs.run.begin_run.Goals as goal
 
 pub open_streams-requires-clause-ready : goal.open_streams-requires-clause-ready
 open_streams-requires-clause-ready g c =
-    subst (λ d. IsReady (standing_of g.D.Told.told g.D.Told.faults g.L.LogFile.told g.L.LogFile.faults d)) (sym c.act_as.ensures)
+    subst (λ d. PassIsReady (standing_of g.D.Told.told g.D.Told.faults g.L.LogFile.told g.L.LogFile.faults d)) (sym c.act_as.ensures)
     (record { free = c.end_restarts.ensures.ready.free; at_rest = c.end_restarts.ensures.ready.at_rest })
 
 pub returns-clause-begun : goal.returns-clause-begun

@@ -1,11 +1,12 @@
 -- The streams opened, and behind them the phases, explain the run; disks, logs and table stand for its journal.
+use Rattle.std.specs.Prelude.{◌<◌, ◌^◌}
 use Rattle.std.proofs.Common.{◌≡◌, ◌≤◌, ◌∙◌, length, map, reverse, sym, ap, subst, arith}
 use Rattle.std.specs.List.{AllByRecursion}
 use Rattle.std.proofs.lemmas.List.{length-reverse}
 use Rattle.cc_script.specs.Within.{IsLineWithin}
 use Rattle.cc_journal.specs.Capacity.{IsWithinCapacity}
 use Rattle.cc_journal.specs.Rows.{Follows}
-use Rattle.cc_pieces.specs.Steps.{PostsLeft, deferrals_by}
+use Rattle.cc_pieces.specs.Steps.{RoutinesLeft, deferrals_by}
 use Rattle.cc_pieces.specs.Table.{table_of}
 use Rattle.cc_lines.specs.Holds.{NamesState}
 use Rattle.cc_lines.specs.Line.{IsServable}
@@ -58,6 +59,10 @@ settle-posts-requires-clause-answered g c =
     c.begin_run.ensures.begun.0 c.begin_run.new.desk.last.entries c.serve_phases-desk.result.0.last.entries
     c.begin_run.ensures.begun.1 (rw (c.as_slice.ensures, c.requires.ticks, c.requires.steps) at c.serve_phases-desk.ensures.served)
 
+pub end-disks-requires-clause-recorded : goal.end-disks-requires-clause-recorded
+end-disks-requires-clause-recorded g c =
+    subst (λ n. n < 2 ^ 32) (sym (ap (λ u. u.capacity) c.serve_phases-desk.ensures.run.setup ∙ ap (λ u. u.capacity) c.begin_run.ensures.run.setup)) c.requires.recorded
+
 pub returns-clause-within : goal.returns-clause-within
 returns-clause-within g c =
     rw c.end-disks.ensures.journal (subst (λ n. IsWithinCapacity n c.serve_phases-desk.result.0.last.entries)
@@ -100,7 +105,7 @@ returns-clause-told g c =
 
 pub returns-clause-posts : goal.returns-clause-posts
 returns-clause-posts g c =
-    subst (λ l. PostsLeft g.Q.PostRoutine.posted (deferrals_by c.args.script.now.streams c.args.script.now.lines l) (reverse c.end-disks.result.journal.items) c.args.posts.items c.settle-posts.result.items)
+    subst (λ l. RoutinesLeft g.Q.PostRoutine.posted (deferrals_by c.args.script.now.streams c.args.script.now.lines l) (reverse c.end-disks.result.journal.items) c.args.posts.items c.settle-posts.result.items)
     (sym (kept-behind _ c.args.script.now c.args.ended.now c.begin_run.new.told.items c.begin_run.new.replies.items c.settle-posts.new.replies.items c.put_back.result.items c.begin_run.ensures.begun.0 c.begin_run.new.desk.last.entries c.begin_run.ensures.begun.1
     (all-replies c.begin_run.new.told.items c.settle-posts.new.replies.items c.reverse.new.self.items c.put_back.result.items c.reverse.ensures.items c.put_back.ensures)))
     (rw c.deref.ensures.value at c.settle-posts.ensures.posts)

@@ -32,6 +32,10 @@ run_on-replies-requires-clause-enough g c κs within =
     let enough = enough-disks (length c.args.disks.items) (length c.args.logs.items) (length c.args.posts.items) c.args.script.now c.requires.enough in
     omega (arith, begun, ap length c.in-Ok-first_of.ensures.first, length-take 16 c.args.disks.items, few, enough)
 
+pub run_on-replies-requires-clause-recorded : goal.run_on-replies-requires-clause-recorded
+run_on-replies-requires-clause-recorded g c κs within =
+    omega (arith, ap (λ b. b.capacity) c.in-Ok-new-2.ensures.fresh.begun_is, c.requires.within.header.most_journal)
+
 pub run_on-replies-requires-clause-deferring : goal.run_on-replies-requires-clause-deferring
 run_on-replies-requires-clause-deferring g c κs within =
     enough-posts (length c.args.disks.items) (length c.args.logs.items) (length c.args.posts.items) c.args.script.now c.requires.enough

@@ -5,10 +5,10 @@ use Rattle.std.specs.Prelude.{map, slice_get}
 use Rattle.cc_journal.specs.Capacity.{IsWithinCapacity}
 use Rattle.cc_journal.specs.Rows.{Follows}
 use Rattle.cc_model.specs.Good.{IsGood}
-use Rattle.cc_pieces.specs.Steps.{IsSteppedThrough, PostsLeft, deferrals_by}
+use Rattle.cc_pieces.specs.Steps.{IsSteppedThrough, RoutinesLeft, deferrals_by}
 use Rattle.cc_pieces.specs.Table.{table_of}
 use Rattle.cc_turns.specs.Desk.{disk_at_first, log_at_first, tells_of}
-use Rattle.cc_event_lines.specs.Run.{setup_of as made_setup}
+use Rattle.cc_turns.specs.Slots.{setup_in as made_setup}
 use Rattle.cc_program.specs.Disks.{DisksStand}
 use Rattle.cc_program.specs.Logs.{LogsStand}
 use Rattle.cc_run.specs.Rows.{printed_row}
@@ -34,6 +34,9 @@ run_steps-requires-clause-disks g c =
     let few = c.requires.within.few_streams in
     let enough = enough-disks (length c.args.disks.items) (length c.args.logs.items) (length c.args.posts.items) c.args.script.now c.requires.enough in
     omega (arith, ap length c.in-Ok.ensures.first, length-take 16 c.args.disks.items, few, enough)
+
+pub run_steps-requires-clause-recorded : goal.run_steps-requires-clause-recorded
+run_steps-requires-clause-recorded g c = omega (arith, c.requires.within.header.most_journal)
 
 pub run_steps-requires-clause-posts : goal.run_steps-requires-clause-posts
 run_steps-requires-clause-posts g c =
@@ -100,10 +103,10 @@ returns-in-Ok-run_steps-clause-ran g c =
           (logs-ended g.D.Told.told g.D.Told.faults g.L.LogFile.told g.L.LogFile.faults g.Q.PostRoutine.posted world c.end-replies.result.logs.items c.end-replies.ensures.logs)))
           (c.put_back-in-Ok-run_steps-2.ensures ∙ ap (λ l. c.end-replies.result.logs.items ++ l) (ap reverse c.in-Ok-first_of.ensures.left ∙ reverse_twice (drop 4 c.args.logs.items)));
       posts_left =
-          subst (λ rs. PostsLeft g.Q.PostRoutine.posted (deferrals_by c.args.script.now.streams c.args.script.now.lines (drop (length rs) c.end-replies.result.replies.items)) past c.args.posts.items c.end-replies.result.posts.items) (sym c.requires.of_mode.restarts)
+          subst (λ rs. RoutinesLeft g.Q.PostRoutine.posted (deferrals_by c.args.script.now.streams c.args.script.now.lines (drop (length rs) c.end-replies.result.replies.items)) past c.args.posts.items c.end-replies.result.posts.items) (sym c.requires.of_mode.restarts)
           (rw (is, c.end-replies.ensures.replies)
-          (subst (λ ps. PostsLeft g.Q.PostRoutine.posted (deferrals_by c.args.script.now.streams c.args.script.now.lines c.in-Ok-run_steps.ran.replies) world.journal.entries ps c.end-replies.result.posts.items) c.in-Ok-run_steps.ensures.posts
-          (subst (λ deferrals. PostsLeft g.Q.PostRoutine.posted deferrals world.journal.entries c.in-Ok-run_steps.ran.posts c.end-replies.result.posts.items) c.in-Ok-run_steps.ensures.deferrals c.end-replies.ensures.posts)));
+          (subst (λ ps. RoutinesLeft g.Q.PostRoutine.posted (deferrals_by c.args.script.now.streams c.args.script.now.lines c.in-Ok-run_steps.ran.replies) world.journal.entries ps c.end-replies.result.posts.items) c.in-Ok-run_steps.ensures.posts
+          (subst (λ deferrals. RoutinesLeft g.Q.PostRoutine.posted deferrals world.journal.entries c.in-Ok-run_steps.ran.posts c.end-replies.result.posts.items) c.in-Ok-run_steps.ensures.deferrals c.end-replies.ensures.posts)));
     }
 
 pub returns-in-Err-clause-kept : goal.returns-in-Err-clause-kept

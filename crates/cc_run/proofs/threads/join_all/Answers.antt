@@ -4,18 +4,18 @@ use Rattle.std.proofs.lemmas.List.{append-nil, reverse-append, map_push}
 use Rattle.std.specs.Global.{Global}
 use Rattle.std.specs.declared.vec.Vec.{Vec}
 use Rattle.cc_entry.specs.declared.answer.Answer.{Answer}
-use Rattle.cc_board.specs.Board.{FirstState, IsOf, after_join}
+use Rattle.cc_board.specs.Board.{FirstState, IsOfBoard, after_join}
 use Rattle.cc_lines.specs.Holds.{NamesState}
 use Rattle.cc_run.specs.Lines.{IsCaller}
 use Rattle.cc_run.specs.Threads.{under_way_of}
-use Rattle.cc_run.specs.declared.callers.Finished.{Finished}
+use Rattle.cc_run.specs.declared.callers.FinishedCaller.{FinishedCaller}
 use Rattle.cc_run.proofs.Lists.{all-back}
 use Rattle.cc_run.proofs.Rooms.{has-room, taken-next}
 use Rattle.cc_run.proofs.RowSteps.{longer}
 use Rattle.cc_run.proofs.threads.join_all.Goals as goal
 
 -- pass 0 after these were joined
-abbrev after : {D L Q : Type 0} → FirstState D L → List (Finished D L Q) → FirstState D L
+abbrev after : {D L Q : Type 0} → FirstState D L → List (FinishedCaller D L Q) → FirstState D L
 after first gone = record first {
   knows = record first.knows {
     in_flight = first.knows.in_flight + under_way_of gone;
@@ -29,7 +29,7 @@ after-none first =
     let same : first.knows.in_flight ≡ first.knows.in_flight + 0 = omega arith in
     ap (λ n. record first { knows = record first.knows { in_flight = n } }) same
 
-after-next : {D L Q : Type 0} (old at new : FirstState D L) (gone : List (Finished D L Q)) (one : Finished D L Q) →
+after-next : {D L Q : Type 0} (old at new : FirstState D L) (gone : List (FinishedCaller D L Q)) (one : FinishedCaller D L Q) →
     at ≡ after old gone → new ≡ after_join at one.pass → new ≡ after old (one ∷ gone)
 after-next {D = D} {L = L} old at new gone one is joined =
     let more : old.knows.in_flight + under_way_of gone + one.pass.knows.in_flight ≡ old.knows.in_flight + under_way_of (one ∷ gone) = omega arith in
@@ -43,20 +43,20 @@ numbered ended fewer one number rows is counted as_many =
     record { first = omega (arith, longer ended fewer one is, counted); last = omega (arith, as_many) }
 
 -- one row more
-rows-next : {D L Q : Type 0} (rows new : List (Vec Answer Global)) (row : Vec Answer Global) (gone : List (Finished D L Q)) (one : Finished D L Q) →
+rows-next : {D L Q : Type 0} (rows new : List (Vec Answer Global)) (row : Vec Answer Global) (gone : List (FinishedCaller D L Q)) (one : FinishedCaller D L Q) →
     map (λ row. row.items) rows ≡ map (λ one. reverse one.answers.items) (reverse gone) → row.items ≡ reverse one.answers.items →
     new ≡ rows ++ row ∷ [] → map (λ row. row.items) new ≡ map (λ one. reverse one.answers.items) (reverse (one ∷ gone))
 rows-next {D = D} {L = L} {Q = Q} rows new row gone one before turned is =
     let items : Vec Answer Global → List Answer = λ row. row.items in
-    let turn : Finished D L Q → List Answer = λ one. reverse one.answers.items in
+    let turn : FinishedCaller D L Q → List Answer = λ one. reverse one.answers.items in
     ap (map items) is ∙ (map_push items rows row ∙ (ap (λ l. l ++ row.items ∷ []) before ∙ (ap (λ l. map turn (reverse gone) ++ l ∷ []) turned
     ∙ sym (ap (map turn) (reverse-append (one ∷ []) gone) ∙ map_push turn (reverse gone) one))))
 
 -- what is kept of one caller's words more
-names-next : {D L Q : Type 0} (names new : List NamesState) (gone : List (Finished D L Q)) (one : Finished D L Q) →
+names-next : {D L Q : Type 0} (names new : List NamesState) (gone : List (FinishedCaller D L Q)) (one : FinishedCaller D L Q) →
     names ≡ map (λ one. one.names) (reverse gone) → new ≡ names ++ one.names ∷ [] → new ≡ map (λ one. one.names) (reverse (one ∷ gone))
 names-next {D = D} {L = L} {Q = Q} names new gone one before is =
-    let named : Finished D L Q → NamesState = λ one. one.names in
+    let named : FinishedCaller D L Q → NamesState = λ one. one.names in
     is ∙ (ap (λ l. l ++ one.names ∷ []) before ∙ sym (ap (map named) (reverse-append (one ∷ []) gone) ∙ map_push named (reverse gone) one))
 
 pub push_reserved-requires-in-Some : goal.push_reserved-requires-in-Some
@@ -83,7 +83,7 @@ pub join-requires-clause-other_here : goal.join-requires-clause-other_here
 join-requires-clause-other_here g c =
     let left : c.pop.new.self.items ++ c.in-Some.field-0 ∷ c.loop-pass.invariant.gone ≡ c.args.ended.items =
     taken-next _ _ _ _ _ c.in-Some.ensures.items c.loop-pass.invariant.left in
-    (all-back (λ one. IsOf c.args.board.now one.pass) c.pop.new.self.items (c.in-Some.field-0 ∷ c.loop-pass.invariant.gone) (rw left c.requires.may.each)).0
+    (all-back (λ one. IsOfBoard c.args.board.now one.pass) c.pop.new.self.items (c.in-Some.field-0 ∷ c.loop-pass.invariant.gone) (rw left c.requires.may.each)).0
 
 pub add-requires : goal.add-requires
 add-requires g c = numbered c.loop-pass.ended.items c.pop.new.self.items c.in-Some.field-0 c.loop-pass.number (length c.loop-pass.rows.items)

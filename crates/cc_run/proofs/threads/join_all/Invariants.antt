@@ -1,12 +1,12 @@
 -- The passes joined so far are ended ones of pass 0, and rows and names are theirs, the last caller's first.
 use Rattle.std.proofs.Common.{◌≡◌, ◌≤◌, ◌+◌, ◌++◌, List, length, map, reverse, vec_capacity}
 use Rattle.cc_run.specs.Threads.{under_way_of}
-use Rattle.cc_run.specs.declared.callers.Finished.{Finished}
+use Rattle.cc_run.specs.declared.callers.FinishedCaller.{FinishedCaller}
 use Rattle.cc_run.proofs.threads.join_all.Given as goal
 
 abbrev pub invariant-loop-pass : goal.invariant-loop-pass
 invariant-loop-pass g l = record {
-  gone : List (Finished g.row.D.Denot g.row.L.Denot g.row.Q.Denot);
+  gone : List (FinishedCaller g.row.D.Denot g.row.L.Denot g.row.Q.Denot);
   left : l.ended.items ++ gone ≡ l.initial.ended.items;
   counted : length l.ended.items ≡ l.number;
   as_many : length l.rows.items + l.number ≡ 16;

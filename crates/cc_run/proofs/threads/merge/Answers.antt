@@ -6,7 +6,7 @@ use Rattle.std.proofs.lemmas.List.{get_or-map, map-set, drop_all, length-map}
 use Rattle.std.specs.declared.vec.Vec.{Vec}
 use Rattle.std.specs.Global.{Global}
 use Rattle.cc_entry.specs.declared.answer.Answer.{Answer}
-use Rattle.cc_run.specs.Callers.{AreRows}
+use Rattle.cc_run.specs.Callers.{AreAnswerRows}
 use Rattle.cc_run.specs.Lines.{IsCaller}
 use Rattle.cc_run.specs.Threads.{Merged}
 use Rattle.cc_run.proofs.Lists.{all-at}
@@ -34,7 +34,7 @@ loop-line-preserved c =
     drop-cons lines i line c.loop-line-test.true
     ∙ (ap (λ l. l ∷ drop (suc i) lines) (sym c.line-item.is) ∙ ap (λ n. line ∷ drop n lines) (sym (add-one i))) in
     record {
-      rows = rw same (rows-left line (drop (i + 1) lines) (map items was) c.pop.new.self.items c.in-Some.answer caller there (subst (λ l. AreRows l (map items was)) parted c.loop-line.invariant.rows));
+      rows = rw same (rows-left line (drop (i + 1) lines) (map items was) c.pop.new.self.items c.in-Some.answer caller there (subst (λ l. AreAnswerRows l (map items was)) parted c.loop-line.invariant.rows));
       long = omega (arith, longer _ _ _ c.push_reserved.ensures.items, c.loop-line.invariant.long);
       room = c.push_reserved.ensures.capacity ∙ c.loop-line.invariant.room;
       rest = λ after merged. c.loop-line.invariant.rest after (subst (λ l. Merged l (map items was) c.loop-line.replies.items after) (sym parted)

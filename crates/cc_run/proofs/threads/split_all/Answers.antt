@@ -9,7 +9,7 @@ use Rattle.cc_entry.specs.declared.answer.Answer.{Answer}
 use Rattle.cc_board.specs.Board.{BoardState, FirstState, PassState, IsFirstOf, IsSplit}
 use Rattle.cc_board.specs.View.{run_of, with_number, split_left, split_right}
 use Rattle.cc_lines.specs.Holds.{NamesState}
-use Rattle.cc_run.specs.Threads.{IsMade}
+use Rattle.cc_run.specs.Threads.{CallerIsMade}
 use Rattle.cc_run.specs.declared.callers.Caller.{Caller}
 use Rattle.cc_run.proofs.Rooms.{behind, has-room, next, taken-next}
 use Rattle.cc_run.proofs.RowSteps.{longer}
@@ -22,7 +22,7 @@ after first made drawn = record first { knows = record first.knows { made = made
 -- the next split makes a caller with the next number
 made-next : {D L Q : Type 0} (board : BoardState D L) (old at new : FirstState D L) (number : ℕ) (drawn : Bool) (room : Vec Answer Global)
     (names : NamesState) (caller : Caller D L Q) → IsFirstOf board old → at ≡ after old (number + 1) drawn → IsSplit at new caller.pass →
-    caller.room ≡ room → caller.names ≡ names → IsMade board old (suc number) room names caller
+    caller.room ≡ room → caller.names ≡ names → CallerIsMade board old (suc number) room names caller
 made-next {D = D} {L = L} board old at new number drawn room names caller here is split room_is names_are =
     let given : FirstState D L → PassState D L = λ f. record { board = f.board; knows = split_right (with_number f.knows); device_turns = 0 } in
     let whole : caller.pass ≡ given (after old (number + 1) drawn) = split.made_is ∙ ap given is in
@@ -112,7 +112,7 @@ loop-room-preserved g c =
                   c.in-Some-pop.own,
                   rw place (subst (λ row. slice_get row (length fewer) ≡ Some c.in-Some.room) left (next fewer before.gone c.in-Some.room)),
                   rw names_place (subst (λ row. slice_get row (length c.pop-in-Some.new.self.items) ≡ Some c.in-Some-pop.own) names_left (next c.pop-in-Some.new.self.items before.names_gone c.in-Some-pop.own)),
-                  rw is (subst (λ one. IsMade c.args.board.now c.args.first.now (suc c.loop-room.number) c.in-Some.room c.in-Some-pop.own one) here.1
+                  rw is (subst (λ one. CallerIsMade c.args.board.now c.args.first.now (suc c.loop-room.number) c.in-Some.room c.in-Some-pop.own one) here.1
                       (made-next c.args.board.now c.args.first.now c.loop-room.first c.split.new.first c.loop-room.number before.drawn c.in-Some.room c.in-Some-pop.own _ c.requires.may.here before.first c.in-Some-split.ensures.made refl refl)),
                 )
           ];

@@ -6,7 +6,7 @@ use Rattle.std.specs.declared.vec.Vec.{Vec}
 use Rattle.std.specs.declared.option.Option.TheVariants.{Some}
 use Rattle.cc_entry.specs.declared.answer.Answer.{Answer}
 use Rattle.cc_lines.specs.Holds.{NamesState}
-use Rattle.cc_run.specs.Threads.{IsMade}
+use Rattle.cc_run.specs.Threads.{CallerIsMade}
 use Rattle.cc_run.specs.declared.callers.Caller.{Caller}
 use Rattle.cc_run.proofs.threads.split_all.Given as goal
 
@@ -25,7 +25,7 @@ invariant-loop-room g l = record {
   first : l.first ≡ record l.initial.first { knows = record l.initial.first.knows { made = l.number + 1; drawn = drawn } };
   each : (n : ℕ) (caller : Caller g.row.D.Denot g.row.L.Denot g.row.Q.Denot) → slice_get l.callers.items n ≡ Some caller →
       (one : Vec Answer Global) × (own : NamesState) × (slice_get l.initial.rooms.items (15 - n) ≡ Some one)
-      × (slice_get l.initial.names.items (15 - n) ≡ Some own) × IsMade l.board l.initial.first (suc n) one own caller;
+      × (slice_get l.initial.names.items (15 - n) ≡ Some own) × CallerIsMade l.board l.initial.first (suc n) one own caller;
 }
 
 abbrev pub decreases-loop-room : goal.decreases-loop-room

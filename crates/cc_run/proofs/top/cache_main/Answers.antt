@@ -5,7 +5,7 @@ use Rattle.std.specs.declared.option.Option.TheVariants.{Some, None}
 use Rattle.std.proofs.Common.{ap}
 use Rattle.cc_entry.specs.declared.answer.LineReply.{LineReply}
 use Rattle.cc_entry.specs.declared.entry.Entry.{Entry}
-use Rattle.cc_program.specs.Ends.{Input, Output, IsAsked, IsEnded}
+use Rattle.cc_program.specs.Ends.{Input, ProgramOutput, IsAsked, ProgramIsEnded}
 use Rattle.cc_script.specs.declared.script.Script.{Script}
 use Rattle.cc_run.proofs.Statuses.{words-always, syntax-always, too_long-always, too_long-told, too_few-always, complete}
 use Rattle.cc_run.proofs.top.cache_main.Goals as goal
@@ -27,7 +27,7 @@ returns-clause-ended g c =
     }
 
 -- the script that was run is the one that the words ask for
-asked-of : (i : Input) (o : Output) (script : Option Script) (replies : List LineReply) (journal : List Entry) (status : ℕ) → IsEnded i o script replies journal status → IfSome script (IsAsked i)
+asked-of : (i : Input) (o : ProgramOutput) (script : Option Script) (replies : List LineReply) (journal : List Entry) (status : ℕ) → ProgramIsEnded i o script replies journal status → IfSome script (IsAsked i)
 asked-of i o None replies journal status ended = tt
 asked-of i o (Some script) replies journal status ended = ended.asked
 

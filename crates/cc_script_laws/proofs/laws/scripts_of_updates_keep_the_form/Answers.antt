@@ -8,7 +8,7 @@ use Rattle.cc_entry.specs.declared.place.Request.{Request}
 use Rattle.cc_script.specs.declared.script.Action.{Action}
 use Rattle.cc_script.specs.declared.script.ActionLine.{ActionLine}
 use Rattle.cc_model.specs.Setup.{Setup}
-use Rattle.cc_pieces.specs.Explained.{Answered, Given, IsExplained}
+use Rattle.cc_pieces.specs.Explained.{Answered, GivenToRun, IsExplained}
 use Rattle.cc_pieces.specs.Runs.{asked_of}
 use Rattle.cc_script_laws.specs.Lines.{IsUnwanting, checkpoints, left_to_updates, lines_answered}
 use Rattle.cc_script_laws.specs.Told.{initialises}
@@ -22,7 +22,7 @@ use Rattle.cc_script_laws.proofs.Unopening.{unopened-invariant, unopened-known-a
 use Rattle.cc_script_laws.proofs.laws.scripts_of_updates_keep_the_form.Goals as goal
 
 -- what is known of each line with its answer
-leaves-of : (u : Setup) (given : Given) (told : Answered) (taken : List Request) (past : List Entry) (is : IsExplained u given told taken past) (s log : ℕ) → AllByRecursion (λ (each : Action × Answer). left_to_updates s log each.0 each.1 ≡ true) (lines_answered given told) →
+leaves-of : (u : Setup) (given : GivenToRun) (told : Answered) (taken : List Request) (past : List Entry) (is : IsExplained u given told taken past) (s log : ℕ) → AllByRecursion (λ (each : Action × Answer). left_to_updates s log each.0 each.1 ≡ true) (lines_answered given told) →
     AllByRecursion (λ (each : Action × Answer). left_to_updates s log each.0 each.1 ≡ true) (asked_of (λ line. true) given.lines is.answers)
 leaves-of u given told taken past is s log leaves =
     subst (λ (replies : List LineReply). AllByRecursion (λ (each : Action × Answer). left_to_updates s log each.0 each.1 ≡ true) (asked_of (λ line. true) given.lines replies)) (answers-are u given told taken past is) leaves

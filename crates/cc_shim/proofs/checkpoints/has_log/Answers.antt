@@ -2,9 +2,10 @@
 use Rattle.std.specs.Prelude.{◌≡◌, ◌≢◌}
 use Rattle.std.proofs.Common.{ap, sym, rules}
 use Rattle.cc_entry.specs.declared.error.CcError.TheVariants as error
-use Rattle.cc_pieces.specs.Checkpoints.{first_object, is_log}
+use Rattle.cc_pieces.specs.Checkpoints.{first_object}
 use Rattle.cc_shim.proofs.Checkpointing.{log-not_open, log-told, log-untold, same-file}
 use Rattle.cc_shim.proofs.checkpoints.has_log.Goals as goal
+use Rattle.cc_model.specs.Stamps.{is_log}
 
 pub returns-in-Some : goal.returns-in-Some
 returns-in-Some g c =

@@ -2,7 +2,7 @@
 use Rattle.std.specs.Prelude.{false, length, refl}
 use Rattle.std.proofs.Common.{sym, ◌∙◌}
 use Rattle.cc_pieces.specs.Locks.{tested_range}
-use Rattle.cc_pieces.specs.Shim.{ReadTested, first_of, misaligned_for, too_long_for}
+use Rattle.cc_pieces.specs.Shim.{ReadTested, first_of_two, misaligned_for, too_long_for}
 use Rattle.cc_shim.specs.Locked.{FoundReadEnds}
 use Rattle.cc_shim.specs.Reads.{read_in}
 use Rattle.cc_shim.proofs.Going.{handed}
@@ -15,7 +15,7 @@ returns-in-Some g c =
     record {
       ends = record {
         ends =
-            found-refused c.args.file (tested_range c.args.at (length c.args.out.now)) false (λ u me. ReadTested u me c.args.file c.args.path c.args.at (length c.args.out.now) (too_long_for c.args.path (length c.args.out.now)) (misaligned_for c.args.path c.args.at (length c.args.out.now))) w (first_of (too_long_for c.args.path (length c.args.out.now)) (misaligned_for c.args.path c.args.at (length c.args.out.now))) c.in-Some.refusal (sym c.refusal_of.ensures ∙ c.in-Some.is)
+            found-refused c.args.file (tested_range c.args.at (length c.args.out.now)) false (λ u me. ReadTested u me c.args.file c.args.path c.args.at (length c.args.out.now) (too_long_for c.args.path (length c.args.out.now)) (misaligned_for c.args.path c.args.at (length c.args.out.now))) w (first_of_two (too_long_for c.args.path (length c.args.out.now)) (misaligned_for c.args.path c.args.at (length c.args.out.now))) c.in-Some.refusal (sym c.refusal_of.ensures ∙ c.in-Some.is)
             (read-tells w c.args.path c.args.at (length c.args.out.now) c.in-Some.refusal (sym c.refusal_of.ensures ∙ c.in-Some.is));
         rest = refl;
       };
@@ -30,7 +30,7 @@ returns-in_err-test_range g c =
           handed (λ answer. FoundReadEnds w v c.args.file c.args.path c.args.at answer c.args.out.now c.args.out.now)
           c.from_residual.result c.in_err-test_range.field-0.0 c.from_residual.ensures.1
           (record {
-            ends = found-untested c.args.file (tested_range c.args.at (length c.args.out.now)) false (λ u me. ReadTested u me c.args.file c.args.path c.args.at (length c.args.out.now) (too_long_for c.args.path (length c.args.out.now)) (misaligned_for c.args.path c.args.at (length c.args.out.now))) w v (first_of (too_long_for c.args.path (length c.args.out.now)) (misaligned_for c.args.path c.args.at (length c.args.out.now))) c.in_err-test_range.field-0.0 (sym c.refusal_of.ensures ∙ c.in_default.is) c.in_err-test_range.ensures.ends;
+            ends = found-untested c.args.file (tested_range c.args.at (length c.args.out.now)) false (λ u me. ReadTested u me c.args.file c.args.path c.args.at (length c.args.out.now) (too_long_for c.args.path (length c.args.out.now)) (misaligned_for c.args.path c.args.at (length c.args.out.now))) w v (first_of_two (too_long_for c.args.path (length c.args.out.now)) (misaligned_for c.args.path c.args.at (length c.args.out.now))) c.in_err-test_range.field-0.0 (sym c.refusal_of.ensures ∙ c.in_default.is) c.in_err-test_range.ensures.ends;
             rest = refl;
           });
     }
@@ -42,7 +42,7 @@ returns g c =
     let x = g.T.Turns.standing c.read.new.turns in
     record {
       ends = record {
-        ends = found-made c.args.file (tested_range c.args.at (length c.args.out.now)) false (λ u me. ReadTested u me c.args.file c.args.path c.args.at (length c.args.out.now) (too_long_for c.args.path (length c.args.out.now)) (misaligned_for c.args.path c.args.at (length c.args.out.now))) w v x (first_of (too_long_for c.args.path (length c.args.out.now)) (misaligned_for c.args.path c.args.at (length c.args.out.now))) (read_in c.read.result c.read.new.out) (sym c.refusal_of.ensures ∙ c.in_default.is) c.in_ok-test_range.ensures.ends c.read.ensures.ends.ends;
+        ends = found-made c.args.file (tested_range c.args.at (length c.args.out.now)) false (λ u me. ReadTested u me c.args.file c.args.path c.args.at (length c.args.out.now) (too_long_for c.args.path (length c.args.out.now)) (misaligned_for c.args.path c.args.at (length c.args.out.now))) w v x (first_of_two (too_long_for c.args.path (length c.args.out.now)) (misaligned_for c.args.path c.args.at (length c.args.out.now))) (read_in c.read.result c.read.new.out) (sym c.refusal_of.ensures ∙ c.in_default.is) c.in_ok-test_range.ensures.ends c.read.ensures.ends.ends;
         rest = c.read.ensures.ends.rest;
       };
     }

@@ -7,7 +7,7 @@ use Rattle.cc_book.specs.Book.{Gains, GoesOn}
 use Rattle.cc_journal.specs.Journal.{JournalState}
 use Rattle.cc_model.specs.History.{Effect, history}
 use Rattle.cc_step.proofs.Placed.{so-far}
-use Rattle.cc_step.specs.Fill.{page_of}
+use Rattle.cc_step.specs.Fill.{book_page}
 use Rattle.cc_step.specs.Room.{IsLeastIn}
 use Rattle.cc_step.proofs.Emptied.{block-numbered, has-least, page-numbered, good-going, made-way}
 use Rattle.cc_step.specs.Step.{StandUnder, most_asked}
@@ -52,7 +52,7 @@ returns-in-Ok-clause-left g c u waited may crowded to_go clean =
     let h = history c.args.journal.now.entries b.stream in
     let least = subst (λ (o : Option ℕ). IsLeastIn h c.args.block o) c.unwrap-page.ensures (c.least_in.ensures (u.opening b.stream) c.args.journal.now.entries crowded.stands) in
     made-way u c.args.pass c.args.call waited c.args.block b c.args.journal.now c.requires.answered c.requires.room may crowded to_go c.unwrap-page.result clean least c.take_out.new.self c.take_out.new.journal
-    (subst (λ (j : JournalState g.row.Q.Denot). Gains (entry.PageOut c.args.pass (page_of b c.unwrap-page.result)) j c.take_out.new.journal) c.in-Ok.ensures.reserved
+    (subst (λ (j : JournalState g.row.Q.Denot). Gains (entry.PageOut c.args.pass (book_page b c.unwrap-page.result)) j c.take_out.new.journal) c.in-Ok.ensures.reserved
     (subst (λ (p : Page). Gains (entry.PageOut c.args.pass p) c.reserve.new.self c.take_out.new.journal) c.page_id-going.ensures c.take_out.ensures.placed))
     (subst (λ (j : JournalState g.row.Q.Denot). GoesOn j.entries c.take_out.new.journal.entries b c.take_out.new.self) c.in-Ok.ensures.reserved c.take_out.ensures.stands)
     c.take_out.ensures.stream

@@ -2,11 +2,11 @@
 use Rattle.std.proofs.Common.{ap, sym, subst}
 use Rattle.cc_entry.specs.declared.entry.Entry.{Entry}
 use Rattle.cc_entry.specs.Place.{Page}
-use Rattle.cc_book.specs.Book.{Gains, page_in}
+use Rattle.cc_book.specs.Book.{Gains, book_page_in}
 use Rattle.cc_content.specs.Filling.{IsReadFrom}
 use Rattle.cc_model.specs.History.{history}
 use Rattle.cc_step.proofs.Placed.{so-far}
-use Rattle.cc_step.specs.Fill.{page_of}
+use Rattle.cc_step.specs.Fill.{book_page}
 use Rattle.cc_step.proofs.Admitted.{admitted}
 use Rattle.cc_step.proofs.PlacedPages.{good-in, stand-onto, comes-in, is-reached}
 use Rattle.cc_step.proofs.Awaiting.{awaited-of}
@@ -28,8 +28,8 @@ returns-in-Ok g c u it may read =
     let b = c.args.book.now in
     let past = c.args.journal.now.entries in
     let stand = may.may.may.stand in
-    let e : Entry = page_in c.args.pass (page_of b c.args.page) b in
-    let placed : Gains e c.args.journal.now c.bring_in.new.journal = subst (λ (p : Page). Gains (page_in c.args.pass p b) c.args.journal.now c.bring_in.new.journal) c.page_id-coming.ensures c.in-Ok.ensures.placed in
+    let e : Entry = book_page_in c.args.pass (book_page b c.args.page) b in
+    let placed : Gains e c.args.journal.now c.bring_in.new.journal = subst (λ (p : Page). Gains (book_page_in c.args.pass p b) c.args.journal.now c.bring_in.new.journal) c.page_id-coming.ensures c.in-Ok.ensures.placed in
     let good = good-in u past c.args.pass b.stream c.args.page _ stand.good (comes-in u c.args.pass it c.args.page b c.args.journal.now may) in
     let stands = c.in-Ok.ensures.stands (u.opening b.stream) (subst (λ (p : Page). IsReadFrom (u.opening b.stream) (history past b.stream) p.page c.args.raw.now) (sym c.page_id-coming.ensures) read) stand.stands in
     record {

@@ -10,7 +10,7 @@ use Rattle.cc_journal.specs.Journal.{JournalState}
 use Rattle.cc_model.specs.History.{history}
 use Rattle.cc_model.specs.Setup.{Setup}
 use Rattle.cc_model.specs.Touches.{valid_of}
-use Rattle.cc_step.specs.Fill.{IsRead, BringLeft, LandLeft}
+use Rattle.cc_step.specs.Fill.{PageIsRead, BringLeft, LandLeft}
 use Rattle.cc_step.proofs.Waiting.{needs}
 use Rattle.cc_step.proofs.landing.place.Goals as goal
 
@@ -24,7 +24,7 @@ returns-in-Some g c u it may read =
     let past = c.args.journal.now.entries in
     let s = c.args.book.now.stream in
     let n = needs u past s it c.args.page may.wanted.waits in
-    let told : IsRead u past s c.args.page (Some c.in-Some.bytes.now) = rw c.in-Some.is at read in
+    let told : PageIsRead u past s c.args.page (Some c.in-Some.bytes.now) = rw c.in-Some.is at read in
     landed u c.args.pass it c.args.page _ c.bring_in.result c.args.book.now c.bring_in.new.book c.args.journal.now c.bring_in.new.journal
     (c.bring_in.ensures u it may (told n.absent))
 

@@ -8,7 +8,7 @@ use Rattle.cc_book.proofs.BookSteps.{goes_on_none}
 use Rattle.cc_book.specs.Book.{Gains}
 use Rattle.cc_journal.proofs.GoodEntries.{MayBePushed-good}
 use Rattle.cc_step.proofs.Placed.{so-far}
-use Rattle.cc_step.specs.Fill.{page_of}
+use Rattle.cc_step.specs.Fill.{book_page}
 use Rattle.cc_step.proofs.PlacedPages.{good-unread, stand-onto}
 use Rattle.cc_step.proofs.landing.unread.Goals as goal
 
@@ -22,7 +22,7 @@ pub returns-then-is_on_disk_alone : goal.returns-then-is_on_disk_alone
 returns-then-is_on_disk_alone g c u stand =
     let past = c.args.journal.now.entries in
     let b = c.args.book.now in
-    let e : Entry = entry.FillFailed c.args.pass (page_of b c.args.page) in
+    let e : Entry = entry.FillFailed c.args.pass (book_page b c.args.page) in
     let placed : Gains e c.args.journal.now c.push.new.self = subst (λ (p : Page). Gains (entry.FillFailed c.args.pass p) c.args.journal.now c.push.new.self) c.page_id-page.ensures c.push.ensures.placed in
     let good = good-unread u past c.args.pass b.stream c.args.page stand.good in
     let grown = ap (λ j. j.entries) placed in

@@ -1,8 +1,8 @@
 -- The disk stands, and the lengths may be told, while others go on before a place is reserved.
 use Rattle.std.specs.Prelude.{ℕ, suc}
 use Rattle.std.proofs.Common.{ap, subst}
-use Rattle.cc_turns.specs.Standing.{Standing, Held}
-use Rattle.cc_stored.specs.Settle.{WriteLeft}
+use Rattle.cc_turns.specs.Standing.{Standing, TurnsHeld}
+use Rattle.cc_stored.specs.Settle.{RecordWriteLeft}
 use Rattle.cc_stored.proofs.Written.{disk-on, grows-idle, tells-on, write-before}
 use Rattle.cc_stored.proofs.record.write_one.Goals as goal
 
@@ -16,7 +16,7 @@ pub write_reserved-requires-clause-tells : goal.write_reserved-requires-clause-t
 write_reserved-requires-clause-tells g c =
     let w = g.T.Turns.standing c.args.turns.now in
     let x = g.T.Turns.standing c.reserve_one.new.turns in
-    tells-on (suc w.in_flight) c.args.stream c.args.first w x (ap (λ (h : Held). h.device) c.requires.disk.held) c.in-Ok.ensures.left c.reserve_one.ensures.grows c.requires.tells
+    tells-on (suc w.in_flight) c.args.stream c.args.first w x (ap (λ (h : TurnsHeld). h.device) c.requires.disk.held) c.in-Ok.ensures.left c.reserve_one.ensures.grows c.requires.tells
 
 pub returns-in-Ok-clause-left : goal.returns-in-Ok-clause-left
 returns-in-Ok-clause-left g c =
@@ -24,7 +24,7 @@ returns-in-Ok-clause-left g c =
     let x = g.T.Turns.standing c.reserve_one.new.turns in
     let z = g.T.Turns.standing c.write_reserved.new.turns in
     write-before w.number c.args.stream c.args.first c.write_reserved.result w.seen x.seen z.seen (grows-idle w x.seen c.reserve_one.ensures.grows)
-    (subst (λ (n : ℕ). WriteLeft n c.args.stream c.args.first c.write_reserved.result x.seen z.seen) (ap (λ (a : Standing). a.number) c.in-Ok.ensures.left.same) c.write_reserved.ensures.left)
+    (subst (λ (n : ℕ). RecordWriteLeft n c.args.stream c.args.first c.write_reserved.result x.seen z.seen) (ap (λ (a : Standing). a.number) c.in-Ok.ensures.left.same) c.write_reserved.ensures.left)
 
 pub returns-in-Err-clause-disk : goal.returns-in-Err-clause-disk
 returns-in-Err-clause-disk g c =

@@ -8,7 +8,7 @@ use Rattle.cc_model.specs.Records.{MayRecord}
 use Rattle.cc_turns.specs.Takes.{without_book}
 use Rattle.cc_writes.specs.Visits.{HasPlaced}
 use Rattle.cc_stored.specs.declared.record.Lengths.{Lengths}
-use Rattle.cc_stored.specs.Settle.{WriteLeft, recorded}
+use Rattle.cc_stored.specs.Settle.{RecordWriteLeft, record_answer}
 use Rattle.cc_stored.proofs.Written.{book_stands, disk_z, in_range, left_z, may, stands_taken, within}
 use Rattle.cc_stored.proofs.record.write_reserved.Goals as goal
 
@@ -76,8 +76,8 @@ returns-clause-left g c =
     let y = g.T.Turns.standing c.write_held-how.new.turns in
     let z = g.T.Turns.standing c.give_book.new.self in
     let placed = subst (λ (n : ℕ). HasPlaced x (entry.Record x.number c.args.stream c.size-size.result n c.write_held-how.result) y.seen) c.lesser-valid.ensures c.write_held-how.ensures.placed in
-    subst (λ (r : Result Lengths CcError). WriteLeft w.number c.args.stream c.args.first r w.seen z.seen) (sym c.recorded.ensures)
-    (subst (λ (n : ℕ). WriteLeft w.number c.args.stream c.args.first (recorded c.write_held-how.result (record { size = c.size-size.result; valid = n })) w.seen z.seen) (sym c.lesser-valid.ensures)
+    subst (λ (r : Result Lengths CcError). RecordWriteLeft w.number c.args.stream c.args.first r w.seen z.seen) (sym c.recorded.ensures)
+    (subst (λ (n : ℕ). RecordWriteLeft w.number c.args.stream c.args.first (record_answer c.write_held-how.result (record { size = c.size-size.result; valid = n })) w.seen z.seen) (sym c.lesser-valid.ensures)
     (left_z g.T.Disk.Told.told g.T.Disk.Told.faults w x c.args.stream c.args.first c.size-size.result c.valid.result c.take_book-book.result c.args.disk.now
     c.requires.disk c.take_book-book.ensures.took c.take_book-book.ensures.stream c.take_book-book.ensures.stands c.requires.tells
     (c.size-size.ensures (x.setup.opening c.args.stream) x.seen c.take_book-book.ensures.stands) (c.valid.ensures (x.setup.opening c.args.stream) x.seen c.take_book-book.ensures.stands)

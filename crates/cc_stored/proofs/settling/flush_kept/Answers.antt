@@ -6,7 +6,7 @@ use Rattle.cc_keep.specs.Keeps.{keeping_standing}
 use Rattle.cc_model.specs.History.{history}
 use Rattle.cc_model.specs.Touches.{valid_of}
 use Rattle.cc_stored.specs.Settle.{TellsAfter}
-use Rattle.cc_turns.specs.Standing.{Held, Standing}
+use Rattle.cc_turns.specs.Standing.{TurnsHeld, Standing}
 use Rattle.cc_writes.specs.Hands.{Went}
 use Rattle.cc_stored.proofs.Kept.{kept-tells, keeping-new}
 use Rattle.cc_stored.proofs.settling.flush_kept.Goals as goal
@@ -26,4 +26,4 @@ returns-clause-tells g c =
     let same : c.turns-1.given.0 ≡ j.turns.now = search rules in
     subst (λ (a : Standing). OnOk c.flush_held-flushed.result (TellsAfter a s (valid_of (history w.seen s)))) (sym (ap g.T.Turns.standing same))
     (kept-tells w y (g.T.Turns.standing j.begun.value) k.turns.ghost_name j.turns.ghost_name s j.stream j.device_turns went j.keeps c.args.file c.flush_held-flushed.result refl
-    (ap (λ (h : Held). h.device) c.flush_held-flushed.ensures.disk.held) ends)
+    (ap (λ (h : TurnsHeld). h.device) c.flush_held-flushed.ensures.disk.held) ends)

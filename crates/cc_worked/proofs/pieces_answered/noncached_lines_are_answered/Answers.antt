@@ -5,7 +5,7 @@ use Rattle.cc_entry.specs.declared.call.Call.TheVariants as call
 use Rattle.cc_entry.specs.declared.entry.End.TheVariants as how
 use Rattle.cc_entry.specs.declared.entry.Entry.TheVariants as entry
 use Rattle.cc_effects.specs.Asked.{Calls}
-use Rattle.cc_effects.specs.Noncached.{IsTransferred, IsPageWritten}
+use Rattle.cc_effects.specs.Noncached.{StoreIsTransferred, IsPageWritten}
 use Rattle.cc_effects.proofs.WorkSteps.{works-others}
 use Rattle.cc_effects.proofs.Stretches.{idle-none}
 use Rattle.cc_worked.specs.Values.{a, page, goes_out}
@@ -22,7 +22,7 @@ pub returns-clause-write_refused : goal.returns-clause-write_refused
 returns-clause-write_refused c =
     (refl, (1, refl, record { later = []; earlier = []; grew = refl; is_own = refl; quiet_after = tt; quiet_before = tt }))
 
-transferred : IsTransferred 1 a 0 whole_page how.Good two_pages (entry.WriteEnd 1 (page 0) how.Good ∷ (page_is_stored ++ two_pages))
+transferred : StoreIsTransferred 1 a 0 whole_page how.Good two_pages (entry.WriteEnd 1 (page 0) how.Good ∷ (page_is_stored ++ two_pages))
 transferred = record {
   nth = 1;
   earlier = [];

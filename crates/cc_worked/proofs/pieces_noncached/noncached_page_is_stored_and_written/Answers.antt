@@ -6,7 +6,7 @@ use Rattle.cc_entry.specs.declared.entry.End.{End}
 use Rattle.cc_entry.specs.declared.entry.End.TheVariants as how
 use Rattle.cc_entry.specs.declared.entry.Entry.TheVariants as entry
 use Rattle.cc_effects.specs.Asked.{Calls}
-use Rattle.cc_effects.specs.Noncached.{IsTransferred}
+use Rattle.cc_effects.specs.Noncached.{StoreIsTransferred}
 use Rattle.cc_effects.proofs.WorkSteps.{works-others}
 use Rattle.cc_effects.proofs.Stretches.{idle-none}
 use Rattle.cc_worked.specs.Values.{a, page, goes_out}
@@ -15,7 +15,7 @@ use Rattle.cc_worked.specs.PiecesNoncached.{some_bytes, stored}
 use Rattle.cc_worked.proofs.PiecesOpened.{computed}
 use Rattle.cc_worked.proofs.pieces_noncached.noncached_page_is_stored_and_written.Goals as goal
 
-transferred : (end : End) → IsTransferred 1 a 0 some_bytes end two_pages (entry.WriteEnd 1 (page 0) end ∷ (stored ++ two_pages))
+transferred : (end : End) → StoreIsTransferred 1 a 0 some_bytes end two_pages (entry.WriteEnd 1 (page 0) end ∷ (stored ++ two_pages))
 transferred end = record {
   nth = 1;
   earlier = [];

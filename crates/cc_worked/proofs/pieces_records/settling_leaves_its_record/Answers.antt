@@ -16,7 +16,7 @@ use Rattle.cc_model.specs.Touches.{valid_of}
 use Rattle.cc_effects.specs.Asked.{is_admitted}
 use Rattle.cc_effects.proofs.Starts.{done_by}
 use Rattle.cc_effects.proofs.Stretches.{idle-none, some-begin}
-use Rattle.cc_records.specs.Left.{HasFlushed}
+use Rattle.cc_records.specs.Left.{StreamHasFlushed}
 use Rattle.cc_worked.specs.Values.{a, page, setup, done, synced}
 use Rattle.cc_worked.specs.Records.{recorded}
 use Rattle.cc_worked.specs.PiecesReads.{first_resident, one_valid}
@@ -42,7 +42,7 @@ abbrev fails : Mark
 fails = Ended (call.Flush a None) (outcome.Failed (error.WriteFault 0))
 
 -- a stream without dirty pages is flushed behind its state
-flushed_full : HasFlushed setup 1 a two_full (tells two_full ++ first_resident) first_resident (flushed_behind two_full ++ first_resident)
+flushed_full : StreamHasFlushed setup 1 a two_full (tells two_full ++ first_resident) first_resident (flushed_behind two_full ++ first_resident)
 unfolding computed
 flushed_full = record {
   stated = tells two_full ++ first_resident;
@@ -51,7 +51,7 @@ flushed_full = record {
   flush = done_by 1 2 (Some 0) (call.Flush a None) reply.Unit (synced 1 ∷ []) (tells two_full ++ first_resident) (record { each = ((λ is. (refl, some-begin (λ moment. is_admitted (call.Flush a None) 0 moment ≡ true) [] (tells two_full ++ first_resident) refl)), tt); one_sync = omega arith; whole = refl }) refl refl (record { after = []; before = []; split = refl; quiet = tt; settled = refl });
 }
 
-flushed_less : HasFlushed setup 1 a one_page_valid (tells one_page_valid ++ one_valid) one_valid (flushed_behind one_page_valid ++ one_valid)
+flushed_less : StreamHasFlushed setup 1 a one_page_valid (tells one_page_valid ++ one_valid) one_valid (flushed_behind one_page_valid ++ one_valid)
 unfolding computed
 flushed_less = record {
   stated = tells one_page_valid ++ one_valid;

@@ -15,7 +15,7 @@ use Rattle.cc_entry.specs.declared.answer.Answer.TheVariants as answer
 use Rattle.cc_entry.specs.declared.entry.End.TheVariants as how
 use Rattle.cc_entry.specs.declared.entry.Entry.{Entry}
 use Rattle.cc_entry.specs.declared.entry.Entry.TheVariants as entry
-use Rattle.cc_format.specs.Spelling.{Spells, first_page}
+use Rattle.cc_format.specs.Spelling.{SpellsStreamRecord, first_version_page}
 use Rattle.cc_format.specs.declared.record.StreamRecord.{StreamRecord}
 use Rattle.cc_format.specs.declared.record.StreamRecord.TheVariants.{V1, V2}
 use Rattle.cc_format.proofs.Numbers.{spelled_once}
@@ -58,7 +58,7 @@ returns-clause-recorded c =
     }
 
 -- each page of such a disk spells the record of the first version
-its_record : Spells (first_page 8192) (V1 8192)
+its_record : SpellsStreamRecord (first_version_page 8192) (V1 8192)
 its_record = record { in_range = record { size_in_range = omega arith; within = omega arith }; spelled = refl }
 
 its_opening : CallLeft first_versions 0 initialises (outcome.Done reply.Unit) [] opens
@@ -97,7 +97,7 @@ returns-clause-migrated c = record {
     load = idle-none 0 [];
     at_first = λ pages is none. record {
       in_range = its_record.in_range;
-      spelled = ap (λ (it : ℕ → List ℕ). it (2 ^ 51)) (sym (same_Some (λ p. first_page 8192) pages is));
+      spelled = ap (λ (it : ℕ → List ℕ). it (2 ^ 51)) (sym (same_Some (λ p. first_version_page 8192) pages is));
     };
     opened = inr (opens, its_opening, (two_full, its_migration));
   });
@@ -149,11 +149,11 @@ returns-clause-not_unmigrated c left = by left.opened
         settled size told state same = absurd (cc)
     read_so (Some (V2 size valid)) loaded at_first opened idle =
         let its = marked-call first_versions 0 (recorded_call 0 stored (Some (V2 size valid))) (outcome.Done reply.Unit) loaded opens opened refl in
-        let once : V1 8192 ≡ V2 size valid = spelled_once (first_page 8192) (V1 8192) (V2 size valid) its_record (at_first (λ p. first_page 8192) refl (unrecorded its.during loaded its.grew)) in
+        let once : V1 8192 ≡ V2 size valid = spelled_once (first_version_page 8192) (V1 8192) (V2 size valid) its_record (at_first (λ p. first_version_page 8192) refl (unrecorded its.during loaded its.grew)) in
         absurd (cc once)
     read_so None loaded at_first opened idle =
         let its = marked-call first_versions 0 (recorded_call 0 stored None) (outcome.Done reply.Unit) loaded opens opened refl in
-        at_first (λ p. first_page 8192) refl (unrecorded its.during loaded its.grew) (V1 8192) its_record
+        at_first (λ p. first_version_page 8192) refl (unrecorded its.during loaded its.grew) (V1 8192) its_record
 
     by : StreamOpening first_versions 0 stored true unit [] opens → ⊥
     by (inl refused) = given_not_refused refused.0 refused.1

@@ -5,8 +5,8 @@ use Rattle.std.proofs.lemmas.Bool.{eqb-true}
 use Rattle.cc_entry.specs.declared.entry.Entry.{Entry}
 use Rattle.cc_entry.specs.declared.place.Request.{Request}
 use Rattle.cc_effects.specs.Moments.{own}
-use Rattle.cc_pieces.specs.Explained.{Answered, Given}
-use Rattle.cc_pieces.specs.Queue.{AreAmong, QueuePlace, answers_to, fulls_told, is_ask, lines_told, nones, requests_asked, requests_served, steps_told}
+use Rattle.cc_pieces.specs.Explained.{Answered, GivenToRun}
+use Rattle.cc_pieces.specs.Queue.{AreAmong, AheadQueuePlace, answers_to, fulls_told, is_ask, lines_told, nones, requests_asked, requests_served, steps_told}
 use Rattle.cc_worked.specs.PiecesAnswered.{first_request}
 use Rattle.cc_worked.specs.PiecesQueue.{asks_ahead, asked_once, at_rest, finds_it_full, found_full, no_line, one_ask, one_served, places_with, told_full, told_steps, took_once}
 use Rattle.cc_worked.specs.PiecesWithoutEntry.{request}
@@ -21,7 +21,7 @@ each-pass P caller worker others me = by (me == 1) refl (me == 18) refl
     by false is true other = rw (eqb-true me 18 other) worker
     by false is false other = others me is other
 
-abbrev places : ℕ → QueuePlace
+abbrev places : ℕ → AheadQueuePlace
 places = places_with asked_once took_once
 
 -- entries of the caller and of the worker alone
@@ -48,7 +48,7 @@ returns-clause-queued c = record {
   worker_took = refl;
 }
 
-abbrev full_places : ℕ → QueuePlace
+abbrev full_places : ℕ → AheadQueuePlace
 full_places = places_with found_full at_rest
 
 none-full : (me : ℕ) → (me == 1) ≡ false → own me finds_it_full ≡ []

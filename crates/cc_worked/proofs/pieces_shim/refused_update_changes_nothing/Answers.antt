@@ -20,7 +20,7 @@ use Rattle.cc_effects.specs.Asked.{is_admitted, reaches}
 use Rattle.cc_effects.specs.Calls.{CallLeft}
 use Rattle.cc_effects.specs.Refusals.{owes_nothing}
 use Rattle.cc_effects.specs.LogCalls.{AppendLeft, AppendRefused}
-use Rattle.cc_pieces.specs.Shim.{update_record}
+use Rattle.cc_pieces.specs.Shim.{update_record_of_file}
 use Rattle.cc_effects.proofs.Starts.{begins, brings, ends_done, ends_refused, gives_up}
 use Rattle.cc_effects.proofs.Stretches.{idle-none}
 use Rattle.cc_worked.specs.Values.{setup, a, page, done, answers, read_in}
@@ -84,7 +84,7 @@ unfolding computed pinned_on asked
 returns-clause-log_failed c =
     let told = asked (logged_state 8192) (logged 8192) in
     let below : 0 < 2 ^ 62 = omega arith in
-    let append : AppendLeft setup 1 0 (update_record a 258 (171 ∷ [])) (Err (error.LogFault 0)) told (entry.LogFailed 1 0 ∷ told) = (refl, record { moment = told; later = entry.LogFailed 1 0 ∷ []; since = []; ends = refl; begins = refl; holds = below }, (omega arith, record { later = []; earlier = []; grew = refl; is_own = refl; quiet_after = tt; quiet_before = tt })) in
+    let append : AppendLeft setup 1 0 (update_record_of_file a 258 (171 ∷ [])) (Err (error.LogFault 0)) told (entry.LogFailed 1 0 ∷ told) = (refl, record { moment = told; later = entry.LogFailed 1 0 ∷ []; since = []; ends = refl; begins = refl; holds = below }, (omega arith, record { later = []; earlier = []; grew = refl; is_own = refl; quiet_after = tt; quiet_before = tt })) in
     inr (
       1,
       pinned_on (logged 8192),
@@ -100,7 +100,7 @@ returns-clause-no_memory c =
     let told = asked (logged_state 8192) (logged 8192) in
     let recorded = entry.Append 1 0 1 its_record ∷ told in
     let change = call.PinnedWrite 1 258 (171 ∷ []) in
-    let append : AppendLeft setup 1 0 (update_record a 258 (171 ∷ [])) (Ok 1) told recorded = (omega arith, record { later = []; earlier = []; grew = refl; is_own = refl; quiet_after = tt; quiet_before = tt }) in
+    let append : AppendLeft setup 1 0 (update_record_of_file a 258 (171 ∷ [])) (Ok 1) told recorded = (omega arith, record { later = []; earlier = []; grew = refl; is_own = refl; quiet_after = tt; quiet_before = tt }) in
     inr (
       1,
       pinned_on (logged 8192),

@@ -6,7 +6,7 @@ use Rattle.cc_book.specs.Book.{BookStands}
 use Rattle.cc_model.specs.History.{history}
 use Rattle.cc_model.specs.Refusals.{refusal}
 use Rattle.cc_model.specs.Setup.{Setup}
-use Rattle.cc_world.specs.Calls.{IsMade}
+use Rattle.cc_world.specs.Calls.{CallIsMade}
 use Rattle.cc_effects.specs.Events.{reason_of}
 use Rattle.cc_world.proofs.CallGood.{reason-else}
 use Rattle.cc_world.proofs.ends.reason.Goals as goal
@@ -18,6 +18,6 @@ returns-in_default g c =
     let it = c.args.call.now in
     IfOk-weaker c.refusal.result
     (λ refused. (u : Setup) (opening : Option (ℕ → List ℕ)) → u.logs ≡ j.logs → BookStands opening j.entries b → refused ≡ refusal u j.entries (history j.entries b.stream) it)
-    (λ refused. (u : Setup) → IsMade u 0 it b j → refused ≡ reason_of u j.entries it)
+    (λ refused. (u : Setup) → CallIsMade u 0 it b j → refused ≡ reason_of u j.entries it)
     (λ refused is u made. is u (u.opening b.stream) made.stands.stand.logs_are made.stands.stand.stands ∙ sym (reason-else u j.entries b.stream it c.in_default.not-NcWrite made.here))
     c.refusal.ensures

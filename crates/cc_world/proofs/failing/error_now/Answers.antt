@@ -6,9 +6,9 @@ use Rattle.cc_entry.specs.declared.error.CcError.{CcError}
 use Rattle.cc_model.specs.Faults.{faults_since, oldest}
 use Rattle.cc_model.specs.Legal.{NothingElse}
 use Rattle.cc_readers.specs.FaultReads.{fault_in}
-use Rattle.cc_world.proofs.FaultTold.{may-tell}
+use Rattle.cc_world.proofs.FaultTold.{may-tell, unfiled-untold}
 use Rattle.cc_world.specs.Calls.{IsFiledOn}
-use Rattle.cc_world.specs.Failing.{MayTell}
+use Rattle.cc_world.specs.Failing.{MayTellFault}
 use Rattle.cc_world.specs.Pages.{Says}
 use Rattle.cc_world.proofs.failing.error_now.Goals as goal
 
@@ -16,8 +16,16 @@ pub returns : goal.returns
 returns g c u failing =
     let past = c.args.journal.now.entries in
     let it = c.args.call.now in
-    subst (λ (e : CcError). MayTell u past c.args.pass it e) (sym c.error_of.ensures)
+    subst (λ (e : CcError). MayTellFault u past c.args.pass it e) (sym c.error_of.ensures)
     (may-tell u past c.args.pass c.args.book.now.stream it failing.here (fault_in c.in-Some.fault)
     (ap (λ (p : _). oldest (faults_since p c.args.pass)) (sym c.entries.ensures) ∙ (sym c.oldest_fault.ensures ∙ ap (option_map fault_in) c.in-Some.is))
-    (subst (λ (b : Bool). Says b (IsFiledOn past c.args.pass c.args.book.now.stream it)) c.if-not-branch.false c.in_ok-is_filed.ensures)
+    (subst (λ (b : Bool). Says b (IsFiledOn past c.args.pass c.args.book.now.stream it)) c.if-not-is_filed.false (c.is_filed.ensures (u.opening c.args.book.now.stream) past failing.stands.stand.stands failing.here))
     (subst (λ (b : Bool). Says (not b) (NothingElse u past c.args.pass (Some c.args.book.now.stream) it)) c.if-branch.false (c.in_ok-is_refused.ensures u failing)))
+
+pub returns-then-not-is_filed : goal.returns-then-not-is_filed
+returns-then-not-is_filed g c u failing =
+    let past = c.args.journal.now.entries in
+    let s = c.args.book.now.stream in
+    let it = c.args.call.now in
+    unfiled-untold u past c.args.pass s it failing.here
+    (subst (λ (b : Bool). Says b (IsFiledOn past c.args.pass s it)) c.if-not-is_filed.true (c.is_filed.ensures (u.opening s) past failing.stands.stand.stands failing.here))

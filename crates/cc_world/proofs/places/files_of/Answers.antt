@@ -1,13 +1,13 @@
 -- As logs are taken from the last on, their files stand in the opposite order; reversed, they are those of all logs.
 use Rattle.std.proofs.Common.{◌≡◌, length, ap, arith, rules}
 use Rattle.cc_turns.proofs.RowSteps.{longer, no_items}
-use Rattle.cc_log.specs.Turn.{LogState}
+use Rattle.cc_log.specs.Turn.{LogTurnState}
 use Rattle.cc_world.proofs.Emptying.{out-begun, out-next, out-ended}
 use Rattle.cc_world.proofs.places.files_of.Goals as goal
 
 pub loop-log-init : goal.loop-log-init
 loop-log-init g c = record {
-  moved = out-begun (λ (log : LogState g.row.L.Denot). log.file) c.args.logs.items c.args.files.items c.requires.empty;
+  moved = out-begun (λ (log : LogTurnState g.row.L.Denot). log.file) c.args.logs.items c.args.files.items c.requires.empty;
   room = omega (arith, ap length c.requires.empty, c.requires.room);
 }
 
@@ -17,7 +17,7 @@ push_reserved-requires g c =
 
 pub loop-log-preserved : goal.loop-log-preserved
 loop-log-preserved g c = record {
-  moved = rw (c.push_reserved.ensures.items, c.end.ensures) (out-next (λ (log : LogState g.row.L.Denot). log.file) _ _ c.in-Some.log c.loop-log.files.items _ c.in-Some.ensures.items c.loop-log.invariant.moved);
+  moved = rw (c.push_reserved.ensures.items, c.end.ensures) (out-next (λ (log : LogTurnState g.row.L.Denot). log.file) _ _ c.in-Some.log c.loop-log.files.items _ c.in-Some.ensures.items c.loop-log.invariant.moved);
   room = omega (
     arith,
     longer _ _ c.in-Some.log c.in-Some.ensures.items,
@@ -30,5 +30,5 @@ loop-log-preserved g c = record {
 pub returns : goal.returns
 returns g c =
     let none : c.loop-log.logs.len ≡ 0 = search rules in
-    rw c.reverse.ensures.items (out-ended (λ (log : LogState g.row.L.Denot). log.file) _ c.loop-log.files.items _
+    rw c.reverse.ensures.items (out-ended (λ (log : LogTurnState g.row.L.Denot). log.file) _ c.loop-log.files.items _
     (no_items _ c.loop-log.logs.len c.loop-log.logs.ok.0 none) c.loop-log.invariant.moved)

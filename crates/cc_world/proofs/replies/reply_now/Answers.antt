@@ -4,7 +4,7 @@ use Rattle.std.specs.Prelude.{Option}
 use Rattle.cc_entry.specs.declared.call.Call.{Call}
 use Rattle.cc_entry.specs.declared.call.Call.TheVariants as call
 use Rattle.cc_entry.specs.declared.reply.Reply.{Reply}
-use Rattle.cc_world.specs.Calls.{IsAnswer}
+use Rattle.cc_world.specs.Calls.{IsCallAnswer}
 use Rattle.cc_world.proofs.CallReplies.{purge-answer, stepped-else}
 use Rattle.cc_world.proofs.replies.reply_now.Goals as goal
 
@@ -17,7 +17,7 @@ pub returns-in-Purge : goal.returns-in-Purge
 returns-in-Purge g c u un =
     let past = c.args.journal.now.entries in
     let s = c.args.book.now.stream in
-    subst (λ (it : Call). IsAnswer u past c.args.pass s it c.unit_if-in-Purge.result) (sym c.in-Purge.is)
-    (subst (λ (o : Option Reply). IsAnswer u past c.args.pass s (call.Purge c.in-Purge.file c.in-Purge.span) o) (sym c.unit_if-in-Purge.ensures)
+    subst (λ (it : Call). IsCallAnswer u past c.args.pass s it c.unit_if-in-Purge.result) (sym c.in-Purge.is)
+    (subst (λ (o : Option Reply). IsCallAnswer u past c.args.pass s (call.Purge c.in-Purge.file c.in-Purge.span) o) (sym c.unit_if-in-Purge.ensures)
     (purge-answer u past c.args.pass s c.in-Purge.file c.in-Purge.span c.has_resident.result
     (c.has_resident.ensures (u.opening s) un.made.stands.stand.stands)))

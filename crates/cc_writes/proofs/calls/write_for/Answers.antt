@@ -5,9 +5,9 @@ use Rattle.cc_entry.specs.declared.call.Call.{Call}
 use Rattle.cc_entry.specs.declared.error.CcError.{CcError}
 use Rattle.cc_entry.specs.declared.error.CcError.TheVariants as error
 use Rattle.cc_model.specs.Faults.{WriteFailed, LogFailed}
-use Rattle.cc_writes.specs.Ways.{IsReason}
-use Rattle.cc_writes.specs.declared.writes.PageWrite.TheVariants as write
-use Rattle.cc_writes.specs.Calls.{IsFullWriting, PageLeft}
+use Rattle.cc_writes.specs.Ways.{IsCallReason}
+use Rattle.cc_writes.specs.declared.writes.PageTransfer.TheVariants as write
+use Rattle.cc_writes.specs.Calls.{IsFullWriting, PageStepLeft}
 use Rattle.cc_writes.proofs.Disks.{still_of}
 use Rattle.cc_writes.proofs.Alone.{alone-shown, alone-ended}
 use Rattle.cc_writes.proofs.Begun.{ascend-shown, ascend-ended, stays-shown, stays-ended}
@@ -92,7 +92,7 @@ pub returns-in-Err-clause-left : goal.returns-in-Err-clause-left
 returns-in-Err-clause-left g c begun way =
     let w = g.T.Turns.standing c.args.turns.now in
     let v = g.T.Turns.standing c.write_page-book.new.turns in
-    subst (λ (r : Result Call CcError). PageLeft w.setup w.number c.args.call r begun v.seen) (sym c.given_up.ensures)
+    subst (λ (r : Result Call CcError). PageStepLeft w.setup w.number c.args.call r begun v.seen) (sym c.given_up.ensures)
     (gave_up w v c.args.book.stream c.args.page c.args.call c.requires.admitted c.requires.asked c.in-Err.error c.requires.answered c.requires.faults (rw c.in-Err.is at c.write_page-book.ensures.left) begun way)
 
 pub returns-in-Ok-NotWritten-clause-reason : goal.returns-in-Ok-NotWritten-clause-reason
@@ -109,7 +109,7 @@ pub returns-in-Err-clause-reason : goal.returns-in-Err-clause-reason
 returns-in-Err-clause-reason g c =
     let w = g.T.Turns.standing c.args.turns.now in
     let v = g.T.Turns.standing c.write_page-book.new.turns in
-    subst (λ (r : Result Call CcError). IfErr r (IsReason w.setup c.args.book.stream c.args.call)) (sym c.given_up.ensures)
+    subst (λ (r : Result Call CcError). IfErr r (IsCallReason w.setup c.args.book.stream c.args.call)) (sym c.given_up.ensures)
     (inl (gave_up-met w (record { stream = c.args.book.stream; page = c.args.page }) c.args.keeps c.in-Err.error v.seen (rw c.in-Err.is at c.write_page-book.ensures.shown)))
 
 pub returns-in-Ok-Written-clause-begun : goal.returns-in-Ok-Written-clause-begun

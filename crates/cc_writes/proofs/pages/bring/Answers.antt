@@ -14,9 +14,9 @@ use Rattle.cc_writes.proofs.pages.bring.Goals as goal
 pub returns-else-page-div_ceil-clause-both : goal.returns-else-page-div_ceil-clause-both
 returns-else-page-div_ceil-clause-both g c =
     let w = g.T.Turns.standing c.args.turns.now in
-    let v = g.T.Turns.standing c.land.new.turns in
-    both_still g.T.Disk.Told.told g.T.Disk.Told.faults 0 w v c.args.book.stream c.args.book c.land.result.0 c.args.disk.now
-    c.requires.both c.land.ensures.book c.land.ensures.rest c.land.ensures.went c.land.ensures.disk
+    let v = g.T.Turns.standing c.land_for_call.new.turns in
+    both_still g.T.Disk.Told.told g.T.Disk.Told.faults 0 w v c.args.book.stream c.args.book c.land_for_call.result.0 c.args.disk.now
+    c.requires.both c.land_for_call.ensures.book c.land_for_call.ensures.rest c.land_for_call.ensures.went c.land_for_call.ensures.disk
 
 pub returns-then-page-div_ceil-clause-unread : goal.returns-then-page-div_ceil-clause-unread
 returns-then-page-div_ceil-clause-unread g c elsewhere =
@@ -36,9 +36,9 @@ returns-else-page-div_ceil-clause-brought g c =
     let ceil = subst (λ (n : ℕ). nat_lt c.args.page n ≡ nat_lt (4096 * c.args.page) valid)
     (sym (c.div_ceil.ensures ∙ ap (λ (n : ℕ). div_ceil n 4096) (c.valid.ensures (w.setup.opening s) w.seen c.requires.both.book.stands))) (ceil-page c.args.page valid) in
     let above : nat_lt (4096 * c.args.page) valid ≡ false = sym ceil ∙ le-ltb c.args.page c.div_ceil.result c.if-page-div_ceil.false in
-    on-ok-weaker c.land.result.1
-    (brought-unread w s c.args.page c.args.call (g.T.Turns.standing c.land.new.turns).seen (ap (λ h. h.book) c.requires.both.book.held) c.requires.both.rest.device above)
-    c.land.ensures.landed
+    on-ok-weaker c.land_for_call.result.1
+    (brought-unread w s c.args.page c.args.call (g.T.Turns.standing c.land_for_call.new.turns).seen (ap (λ h. h.book) c.requires.both.book.held) c.requires.both.rest.device above)
+    c.land_for_call.ensures.landed
 
 pub bring_read-requires-clause-alone : goal.bring_read-requires-clause-alone
 bring_read-requires-clause-alone g c =
@@ -57,6 +57,6 @@ returns-else-page-div_ceil-clause-kept g c keeps room =
     let ceil = subst (λ (n : ℕ). nat_lt c.args.page n ≡ nat_lt (4096 * c.args.page) valid)
     (sym (c.div_ceil.ensures ∙ ap (λ (n : ℕ). div_ceil n 4096) (c.valid.ensures (w.setup.opening s) w.seen c.requires.both.book.stands))) (ceil-page c.args.page valid) in
     let above : nat_lt (4096 * c.args.page) valid ≡ false = sym ceil ∙ le-ltb c.args.page c.div_ceil.result c.if-page-div_ceil.false in
-    on-ok-weaker c.land.result.1
-    (lands w s c.args.page c.args.call (g.T.Turns.standing c.land.new.turns).seen (ap (λ h. h.book) c.requires.both.book.held) c.requires.both.rest.device c.requires.brings c.requires.waited None room (λ is. above))
-    c.land.ensures.landed
+    on-ok-weaker c.land_for_call.result.1
+    (lands w s c.args.page c.args.call (g.T.Turns.standing c.land_for_call.new.turns).seen (ap (λ h. h.book) c.requires.both.book.held) c.requires.both.rest.device c.requires.brings c.requires.waited None room (λ is. above))
+    c.land_for_call.ensures.landed

@@ -5,7 +5,7 @@ use Rattle.cc_entry.specs.declared.error.CcError.TheVariants as error
 use Rattle.cc_model.specs.Setup.{Setup}
 use Rattle.cc_step.proofs.Failing.{stepped-answered}
 use Rattle.cc_turns.specs.Standing.{Standing}
-use Rattle.cc_writes.specs.Visits.{UnreadLeft, UnreadPlaced}
+use Rattle.cc_writes.specs.Visits.{VisitUnreadLeft, UnreadPlaced}
 use Rattle.cc_writes.specs.Ways.{IsHalted}
 use Rattle.cc_writes.proofs.Refusals.{may-tell}
 use Rattle.cc_writes.proofs.pages.unread.Goals as goal
@@ -22,7 +22,7 @@ fail-requires-clause-halted g c =
     let v = g.T.Turns.standing c.unread_at.new.turns in
     let wanted = c.requires.wanted in
     let fault = error.ReadFault c.args.page in
-    let left = subst (λ (b : Bool). UnreadLeft w.setup w.number c.args.book.stream c.args.call c.args.page b wanted.0 v.seen) c.if-unread_at.true
+    let left = subst (λ (b : Bool). VisitUnreadLeft w.setup w.number c.args.book.stream c.args.call c.args.page b wanted.0 v.seen) c.if-unread_at.true
     (c.unread_at.ensures.left c.args.call wanted.0 c.requires.brings wanted.1 wanted.2) in (
       wanted.0,
       subst (λ (n : ℕ). IsHalted v.setup n c.args.book.stream c.args.call fault wanted.0 v.seen) (sym (ap (λ (x : Standing). x.number) c.unread_at.ensures.went.same))

@@ -8,8 +8,8 @@ use Rattle.cc_turns.specs.Standing.{Standing}
 use Rattle.cc_effects.specs.Begins.{BeginsNone, TakesNoneOut}
 use Rattle.cc_writes.specs.Alone.{NobodyElseChanged}
 use Rattle.cc_writes.specs.Hands.{HasBook, SameDisk, WentWith}
-use Rattle.cc_writes.specs.Told.{answer_of}
-use Rattle.cc_writes.specs.Ways.{IsFull, IsReason}
+use Rattle.cc_writes.specs.Told.{fault_answer}
+use Rattle.cc_writes.specs.Ways.{IsFull, IsCallReason}
 use Rattle.cc_writes.proofs.Failing.{is-fault, fail-as, has-failed, visited-fail, disk-fail, begun-fail, stays-fail, alone-fail, left-fail, reason-fail, full-fail}
 use Rattle.cc_writes.proofs.Resting.{filed-now}
 use Rattle.cc_writes.proofs.Visiting.{few-left, visiting}
@@ -170,7 +170,7 @@ returns-clause-left g c begun halted =
     let left = has-failed posted w v c.args.call b n j k c.requires.book vis c.requires.answered (filed-now w b.stream c.args.call c.requires.filed) c.args.fault c.requires.listed c.requires.halted.0 c.requires.halted.1 c.me-pass.result c.fail-ended.result c.me-pass.ensures c.fail-ended.ensures in
     let ended = left-fail posted w v c.args.call b n j k c.requires.book vis c.requires.answered (filed-now w b.stream c.args.call c.requires.filed) c.args.fault c.requires.listed c.requires.halted.0 c.requires.halted.1 begun halted c.fail-ended.result left in
     subst (λ (e : CcError). CallLeft w.setup w.number c.args.call (outcome.Failed e) begun (g.T.Turns.standing c.give_journal.new.self).seen) (sym c.answer_of.ensures)
-    (subst (λ (x : Standing). CallLeft w.setup w.number c.args.call (outcome.Failed (answer_of c.fail-ended.result c.args.fault)) begun x.seen) (sym c.give_journal.ensures) ended)
+    (subst (λ (x : Standing). CallLeft w.setup w.number c.args.call (outcome.Failed (fault_answer c.fail-ended.result c.args.fault)) begun x.seen) (sym c.give_journal.ensures) ended)
 
 pub returns-clause-full : goal.returns-clause-full
 returns-clause-full g c =
@@ -185,7 +185,7 @@ returns-clause-full g c =
     let left = has-failed posted w v c.args.call b n j k c.requires.book vis c.requires.answered (filed-now w b.stream c.args.call c.requires.filed) c.args.fault c.requires.listed c.requires.halted.0 c.requires.halted.1 c.me-pass.result c.fail-ended.result c.me-pass.ensures c.fail-ended.ensures in
     let full = full-fail posted w v c.args.call b n j k c.requires.book vis c.requires.answered (filed-now w b.stream c.args.call c.requires.filed) c.args.fault c.requires.listed c.requires.halted.0 c.requires.halted.1 c.fail-ended.result left in
     subst (λ (e : CcError). IsFull {A = Unit {0}} 1 (g.T.Turns.standing c.give_journal.new.self) (Err e)) (sym c.answer_of.ensures)
-    (subst (λ (x : Standing). IsFull {A = Unit {0}} 1 x (Err (answer_of c.fail-ended.result c.args.fault))) (sym c.give_journal.ensures) full)
+    (subst (λ (x : Standing). IsFull {A = Unit {0}} 1 x (Err (fault_answer c.fail-ended.result c.args.fault))) (sym c.give_journal.ensures) full)
 
 pub returns-clause-reason : goal.returns-clause-reason
 returns-clause-reason g c =
@@ -198,5 +198,5 @@ returns-clause-reason g c =
     let n = c.fail-ended.new.book in
     let k = c.fail-ended.new.journal in
     let left = has-failed posted w v c.args.call b n j k c.requires.book vis c.requires.answered (filed-now w b.stream c.args.call c.requires.filed) c.args.fault c.requires.listed c.requires.halted.0 c.requires.halted.1 c.me-pass.result c.fail-ended.result c.me-pass.ensures c.fail-ended.ensures in
-    subst (λ (e : CcError). IsReason w.setup b.stream c.args.call e) (sym c.answer_of.ensures)
+    subst (λ (e : CcError). IsCallReason w.setup b.stream c.args.call e) (sym c.answer_of.ensures)
     (reason-fail posted w v c.args.call b n j k c.requires.book vis c.requires.answered (filed-now w b.stream c.args.call c.requires.filed) c.args.fault c.requires.listed c.requires.halted.0 c.requires.halted.1 c.fail-ended.result left)

@@ -7,7 +7,7 @@ use Rattle.cc_step.proofs.Failing.{stepped-answered}
 use Rattle.cc_turns.specs.Standing.{Standing}
 use Rattle.cc_turns.specs.Takes.{without_journal}
 use Rattle.cc_writes.specs.Hands.{HasBook, IsAtRest, SameDisk, WentWith}
-use Rattle.cc_writes.specs.Visits.{LandLeft}
+use Rattle.cc_writes.specs.Visits.{VisitLandLeft}
 use Rattle.cc_writes.proofs.Landing.{has-place, land-as, landed, visited-land, disk-land, left-land, became-land}
 use Rattle.cc_writes.proofs.Resting.{filed-now, rest-went}
 use Rattle.cc_writes.proofs.Visiting.{few-left, visiting}
@@ -156,5 +156,5 @@ returns-clause-landed g c =
     let n = c.land_page-landed.new.book in
     let k = c.land_page-landed.new.journal in
     let left = landed posted w v c.args.call.now b n j k c.requires.book vis (stepped-answered c.args.call.now c.requires.stepped) (filed-now w b.stream c.args.call.now c.requires.filed) c.requires.rest c.requires.reserved c.args.page c.me-pass.result (option_copied c.args.raw) c.land_page-landed.result c.me-pass.ensures c.requires.read c.land_page-landed.ensures in
-    subst (λ (x : Standing). OnOk c.land_page-landed.result (LandLeft w b.stream c.args.call.now c.args.page (option_copied c.args.raw) x.seen)) (sym c.give_journal.ensures)
+    subst (λ (x : Standing). OnOk c.land_page-landed.result (VisitLandLeft w b.stream c.args.call.now c.args.page (option_copied c.args.raw) x.seen)) (sym c.give_journal.ensures)
     (became-land posted w v c.args.call.now b n j k c.requires.book vis (stepped-answered c.args.call.now c.requires.stepped) (filed-now w b.stream c.args.call.now c.requires.filed) c.requires.rest c.requires.reserved c.args.page (option_copied c.args.raw) c.land_page-landed.result left)

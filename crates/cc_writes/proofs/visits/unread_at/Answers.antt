@@ -2,7 +2,7 @@
 use Rattle.std.proofs.Common.{sym, subst, arith}
 use Rattle.cc_turns.specs.Standing.{Standing}
 use Rattle.cc_writes.specs.Hands.{HasBook, IsAtRest, WentWith}
-use Rattle.cc_writes.specs.Visits.{UnreadLeft, UnreadPlaced}
+use Rattle.cc_writes.specs.Visits.{VisitUnreadLeft, UnreadPlaced}
 use Rattle.cc_writes.proofs.Landing.{has-place, unread, visited-told, rest-told, placed-told, left-told}
 use Rattle.cc_writes.proofs.Visiting.{few-left, visiting}
 use Rattle.cc_writes.proofs.visits.unread_at.Goals as goal
@@ -126,5 +126,5 @@ returns-clause-left g c it begun brings way wanted =
     let vis = visiting posted w v b.stream b j c.requires.book c.take_journal-journal.ensures.took c.take_journal-journal.ensures.stands in
     let k = c.tell_unread-unread.new.journal in
     let told = unread posted w v b j k c.requires.book vis c.requires.rest c.requires.reserved c.args.page c.me-pass.result c.tell_unread-unread.result c.me-pass.ensures c.tell_unread-unread.ensures in
-    subst (λ (x : Standing). UnreadLeft w.setup w.number b.stream it c.args.page c.tell_unread-unread.result begun x.seen) (sym c.give_journal.ensures)
+    subst (λ (x : Standing). VisitUnreadLeft w.setup w.number b.stream it c.args.page c.tell_unread-unread.result begun x.seen) (sym c.give_journal.ensures)
     (left-told posted w v b j k c.requires.book vis c.requires.rest c.requires.reserved c.args.page c.tell_unread-unread.result told it begun brings way wanted)

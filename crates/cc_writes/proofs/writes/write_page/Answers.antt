@@ -2,9 +2,9 @@
 use Rattle.std.proofs.Common.{◌≡◌, ap, sym, ◌∙◌, subst, Ok, Err, true}
 use Rattle.cc_entry.specs.Place.{Page}
 use Rattle.cc_effects.specs.Asked.{may_write}
-use Rattle.cc_writes.specs.Writes.{HasBoth, IsToWrite, WriteLeft, WriteShown}
+use Rattle.cc_writes.specs.Writes.{HasBoth, IsToWrite, WorkWriteLeft, WriteShown}
 use Rattle.cc_writes.specs.declared.log.LogFlush.{LogFlush}
-use Rattle.cc_writes.specs.declared.writes.PageWrite.TheVariants as write
+use Rattle.cc_writes.specs.declared.writes.PageTransfer.TheVariants as write
 use Rattle.cc_writes.proofs.Numbered.{numbered, same-place}
 use Rattle.cc_writes.proofs.Explained.{both-flushed, dirty-flushed, written-left, unlogged-left, unflushed-left}
 use Rattle.cc_writes.proofs.Shown.{written-shown, unlogged-shown, unflushed-shown}
@@ -45,7 +45,7 @@ returns-in-Ok-Reached-clause-left g c work begun may is =
     let both : HasBoth g.T.Disk.Told.told g.T.Disk.Told.faults w page.stream c.args.book c.args.disk.now =
     subst (λ (q : Page). HasBoth g.T.Disk.Told.told g.T.Disk.Told.faults w q.stream c.args.book c.args.disk.now) (sym same) c.requires.both in
     let write_it : IsToWrite page w.seen = subst (λ (q : Page). IsToWrite q w.seen) (sym same) c.requires.to_write in
-    subst (λ (q : Page). WriteLeft w.number work q c.put.result.1 begun (g.T.Turns.standing c.put.new.turns).seen) same
+    subst (λ (q : Page). WorkWriteLeft w.number work q c.put.result.1 begun (g.T.Turns.standing c.put.new.turns).seen) same
     (written-left g.T.Disk.Told.told g.T.Disk.Told.faults w.in_flight w x page c.args.book c.args.disk.now both c.flush_log.ensures.went c.flush_log.ensures.book c.flush_log.result c.flush_log.ensures.left write_it
     work begun (subst (λ (q : Page). may_write work q w.seen ≡ true) (sym same) may) is c.args.keeps c.put.result.1 (g.T.Turns.standing c.put.new.turns).seen
     (c.in-Ok-Reached.is ∙ ap (λ (f : LogFlush). Ok f) c.in-Ok-Reached.field-0-is) c.put.ensures.left)
@@ -96,7 +96,7 @@ returns-in-Err-clause-left g c work begun may is =
     let both : HasBoth g.T.Disk.Told.told g.T.Disk.Told.faults w page.stream c.args.book c.args.disk.now =
     subst (λ (q : Page). HasBoth g.T.Disk.Told.told g.T.Disk.Told.faults w q.stream c.args.book c.args.disk.now) (sym same) c.requires.both in
     let write_it : IsToWrite page w.seen = subst (λ (q : Page). IsToWrite q w.seen) (sym same) c.requires.to_write in
-    subst (λ (q : Page). WriteLeft w.number work q (Err c.in-Err.error) begun x.seen) same
+    subst (λ (q : Page). WorkWriteLeft w.number work q (Err c.in-Err.error) begun x.seen) same
     (unflushed-left g.T.Disk.Told.told g.T.Disk.Told.faults w.in_flight w x page c.args.book c.args.disk.now both c.flush_log.ensures.went c.flush_log.ensures.book c.flush_log.result c.flush_log.ensures.left write_it
     work begun (subst (λ (q : Page). may_write work q w.seen ≡ true) (sym same) may) is c.in-Err.error c.in-Err.is)
 

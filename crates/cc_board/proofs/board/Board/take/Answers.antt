@@ -7,5 +7,5 @@ first_taken : {S : Type 0} (slot : ℕ) (taken : S) (held before : List (ℕ × 
 first_taken {S} slot taken held before is = is ∙ ap (λ (l : List (ℕ × S)). (slot, taken) ∷ l) (sym (ap rest is))
 
 pub exchange-requires : goal.exchange-requires
-exchange-requires g c = let t = c.requires.taken c.compare_exchange-found.new.seat.me (search rules) in
-    (search rules, (Some t.0, first_taken c.args.slot (Some t.0) c.compare_exchange-found.new.seat.me.1 c.args.seat.now.me.1 t.1))
+exchange-requires g c = let t = c.requires.may.taken c.take_word.new.seat.me c.take_word.ensures.told in
+    (search rules, (Some t.0, first_taken c.args.slot (Some t.0) c.take_word.new.seat.me.1 c.args.seat.now.me.1 t.1))

@@ -8,8 +8,8 @@ use Rattle.cc_board.proofs.Taking.{within-took}
 use Rattle.cc_board.proofs.Seating.{book-word, take-allowed, took-turn, seats-book}
 use Rattle.cc_board.proofs.seated.SeatedTurns.take_book.Goals as goal
 
-pub take-requires-clause-allowed : goal.take-requires-clause-allowed
-take-requires-clause-allowed g c =
+pub take-requires-clause-may : goal.take-requires-clause-may
+take-requires-clause-may g c =
     take-allowed _ c.self.inside.board.now.begun book_at (Book c.args.stream) (c.from.result + c.from-2.result) c.self.inside.seat.id c.self.inside.seat.me (omega (arith, c.from.ensures, c.streams.ensures, c.from-2.ensures, c.number.ensures.same))
     c.self.invariant.1 c.self.invariant.3
     (subst (λ n. c.args.stream < n) (ap (λ s. length s.knows.disks) (sym c.self.view_is) ∙ ap (λ b. length b.disks) c.self.invariant.1) c.requires.known)

@@ -10,8 +10,8 @@ use Rattle.cc_board.proofs.Taking.{within-took}
 use Rattle.cc_board.proofs.Seating.{take-allowed, took-turn, seats-journal, takes-journal}
 use Rattle.cc_board.proofs.seated.SeatedTurns.take_journal.Goals as goal
 
-pub take-requires-clause-allowed : goal.take-requires-clause-allowed
-take-requires-clause-allowed g c =
+pub take-requires-clause-may : goal.take-requires-clause-may
+take-requires-clause-may g c =
     take-allowed _ c.self.inside.board.now.begun journal_at Journal (2 * c.from.result + c.from-2.result) c.self.inside.seat.id c.self.inside.seat.me (omega (arith, c.from.ensures, c.streams.ensures, c.from-2.ensures, c.logs.ensures))
     c.self.invariant.1 c.self.invariant.3 tt (ap (λ s. s.knows.journal) c.self.view_is ∙ c.requires.free) refl
 

@@ -8,7 +8,7 @@ use Rattle.cc_content.specs.Filling.{IsReadFrom}
 use Rattle.cc_journal.proofs.GoodEntries.{MayBePushed-good}
 use Rattle.cc_book.specs.Book.{BookState, book_of, BookStands}
 use Rattle.cc_book.proofs.BookSteps.{goes_on_in, may_come_in}
-use Rattle.cc_book.specs.declared.book.Parts.{Parts}
+use Rattle.cc_book.specs.declared.book.BookParts.{BookParts}
 use Rattle.cc_book.proofs.book.Book.bring_in.Goals as goal
 
 pub came_in-requires : goal.came_in-requires
@@ -24,7 +24,7 @@ came_in-requires g c =
 
 pub push-requires-clause-may : goal.push-requires-clause-may
 push-requires-clause-may g c =
-    let valid = ap (λ (parts : Parts). parts.contents.valid) c.deref_mut.ensures.value ∙ ap (λ b. b.contents.valid) c.self.view_is in
+    let valid = ap (λ (parts : BookParts). parts.contents.valid) c.deref_mut.ensures.value ∙ ap (λ b. b.contents.valid) c.self.view_is in
     rw (c.page.ensures.same, c.valid.ensures.same, valid) (MayBePushed-good c.requires.may.0 c.args.journal.now.entries _ c.requires.may.1)
 
 pub returns-clause-stands : goal.returns-clause-stands

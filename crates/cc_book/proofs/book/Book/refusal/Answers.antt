@@ -32,7 +32,6 @@ returns g c =
       images = rw (sym stream) was.images_are;
       dirty = rw (sym stream) rows;
       logs = logs ∙ sym c.logs.ensures;
-      free_views = c.free_views.ensures;
     })
-    (c.least_absent.ensures opening past stands))
+    (c.least_absent.ensures opening past stands) c.free_views_for-free_views.ensures)
     c.refusal.ensures

@@ -8,7 +8,7 @@ use Rattle.cc_content.specs.Following.{truncated_by}
 use Rattle.cc_content.specs.Owned.{OwnsChanged}
 use Rattle.cc_model.specs.History.{Effect, history}
 use Rattle.cc_stream.specs.Stream.{StreamStands}
-use Rattle.cc_book.specs.Book.{BookState, book_of, MayDo, done}
+use Rattle.cc_book.specs.Book.{BookState, book_of, MayDoOnBook, done}
 use Rattle.cc_book.proofs.DoneSteps.{ends-below, is-writing, made-above, may-write, stands-done}
 use Rattle.cc_book.proofs.OwnedSteps.{owns-changed}
 use Rattle.cc_book.proofs.book.Book.write.Goals as goal
@@ -40,8 +40,8 @@ returns-clause-stands c mapped u past given mapped_is =
     let listed : c.deref.result.now ≡ c.args.bytes.now = c.deref.ensures.value ∙ c.in_ok-listed.ensures in
     let is : c.args.call.now ≡ call.PinnedWrite c.requires.is.0 c.args.at c.deref.result.now = rw listed c.requires.is.1 in
     let it = call.PinnedWrite c.requires.is.0 c.args.at c.deref.result.now in
-    let may : MayDo u past pass c.args.call.now c.args.reply.now b = subst (λ (x : BookState). MayDo u past pass c.args.call.now c.args.reply.now x) (sym view) given in
-    let writes : MayDo u past pass it c.args.reply.now b = subst (λ (k : Call). MayDo u past pass k c.args.reply.now b) is may in
+    let may : MayDoOnBook u past pass c.args.call.now c.args.reply.now b = subst (λ (x : BookState). MayDoOnBook u past pass c.args.call.now c.args.reply.now x) (sym view) given in
+    let writes : MayDoOnBook u past pass it c.args.reply.now b = subst (λ (k : Call). MayDoOnBook u past pass k c.args.reply.now b) is may in
     let told = c.pinned_write.ensures.stands u past pass _ b.stream c.requires.is.0 c.args.reply.now _ _ _ (may-write writes) in
     stands-done b view (book_of b.stream c.set.new.self) c.done.new.self c.pinned_write.new.self c.has_map-was_mapped.result (ap (book_of b.stream) c.set.ensures.same) c.set.ensures.state c.set.ensures.maps c.has_map-was_mapped.ensures.stands
     u past pass given

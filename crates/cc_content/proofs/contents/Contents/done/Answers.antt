@@ -3,7 +3,7 @@ use Rattle.std.proofs.Common.{◌≡◌, ◌∷◌, Some, refl, ap, sym, subst, 
 use Rattle.cc_model.specs.Acts.{act_of, Zeroes}
 use Rattle.cc_model.specs.History.{Did, history}
 use Rattle.cc_content.specs.Contents.{ContentsStand}
-use Rattle.cc_content.specs.Done.{Uses}
+use Rattle.cc_content.specs.Done.{UsesBlocks}
 use Rattle.cc_content.proofs.DoneStands.{where_ok}
 use Rattle.cc_content.proofs.DoneCalls.{called, uses-of, prepared, looks, finds-look, finds-written, kept-written, fits-written, starts-written, finds-zeroed, mapped-zeroed, fits-zeroed, starts-zeroed, finds-resized, finds-dropped, finds-closed, within-closed, mapped-called, finds-stored, starts-stored, valid-found, has_room-stored, whole-stored}
 use Rattle.cc_content.proofs.OwnedStand.{owned-of, owned-prepared}
@@ -18,7 +18,7 @@ pub returns-then-is_look-clause-stands : goal.returns-then-is_look-clause-stands
 returns-then-is_look-clause-stands c = λ u past pass nth s may.
     let look = sym c.is_look.ensures ∙ c.if-is_look.true in
     let found = looks may look in
-    let uses : Uses (history past s) pass c.args.call.now c.args.reply.now c.looked_range.result =
+    let uses : UsesBlocks (history past s) pass c.args.call.now c.args.reply.now c.looked_range.result =
     rw c.looked_range.ensures found.uses in
     called u past pass nth s c.args.call.now c.args.reply.now _
     (c.looked.ensures (u.opening s) _ pass c.args.call.now c.args.reply.now (finds-look may look) look uses)
@@ -190,7 +190,7 @@ returns-in-Zero-clause-stands c = λ u past pass nth s may.
     let reply = c.args.reply.now in
     let is : act_of call ≡ Zeroes c.from.result c.to.result =
     ap act_of w.is ∙ sym (rw (c.from.ensures.same, c.to.ensures.same) refl) in
-    let uses : Uses (history past s) pass call reply
+    let uses : UsesBlocks (history past s) pass call reply
     (Some (record { from = c.from.result; to = c.to.result })) =
     rw (c.from.ensures.same, c.to.ensures.same)
     (uses-of (history past s) pass call _ reply _ w.is (record { blocks = refl })) in

@@ -3,7 +3,7 @@ use Rattle.std.proofs.Common.{List, ◌||◌, ◌-◌, ◌∙◌, ap, sym, subst
 use Rattle.std.proofs.lemmas.Slice.{between_to_end}
 use Rattle.std.specs.List.{range_with_len}
 use Rattle.cc_model.specs.Numbers.{is_among}
-use Rattle.cc_holds.specs.Blocks.{holds_at, HasBlocksOf, IsPlaceOf}
+use Rattle.cc_holds.specs.Blocks.{holds_at, HasHeldBlocks, IsPlaceOf}
 use Rattle.cc_holds.specs.declared.block_rows.BlockRow.{BlockRow}
 use Rattle.cc_holds.proofs.BlockNumbers.{added-none, added-three, among-with, length-with, count-with}
 use Rattle.cc_holds.proofs.held_blocks.HeldBlocks.with.Goals as goal
@@ -28,5 +28,5 @@ returns-clause-counted c = λ bs has.
     (subst (λ rows. IsPlaceOf c.args.end rows c.place_of-after.result) c.deref-2.ensures.value c.place_of-after.ensures) in
     let counted = count-with c.self.inside.rows.items c.self.invariant c.args.first c.args.end c.place_of-before.result c.place_of-after.result c.requires.in_order
     (subst (λ rows. IsPlaceOf c.args.first rows c.place_of-before.result) c.deref.ensures.value c.place_of-before.ensures)
-    (subst (λ rows. IsPlaceOf c.args.end rows c.place_of-after.result) c.deref-2.ensures.value c.place_of-after.ensures) bs (subst (λ rows. HasBlocksOf rows bs) (sym c.self.view_is) has) in
+    (subst (λ rows. IsPlaceOf c.args.end rows c.place_of-after.result) c.deref-2.ensures.value c.place_of-after.ensures) bs (subst (λ rows. HasHeldBlocks rows bs) (sym c.self.view_is) has) in
     omega (arith, listed, long, counted, c.add_rows-2.new.blocks.ok.0)

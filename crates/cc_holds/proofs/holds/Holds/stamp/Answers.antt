@@ -1,6 +1,6 @@
 use Rattle.std.proofs.Common.{ap, arith}
 use Rattle.cc_holds.proofs.Changes.{found-within, found-changes}
-use Rattle.cc_holds.specs.declared.holds.Hold.{Hold}
+use Rattle.cc_holds.specs.declared.holds.KeptHold.{KeptHold}
 use Rattle.cc_holds.proofs.Order.{InOrder-set}
 use Rattle.cc_holds.proofs.HoldBlocks.{count-set}
 use Rattle.cc_holds.proofs.holds.Holds.stamp.Goals as goal
@@ -19,8 +19,8 @@ invariant_of-self c =
     record {
       in_order =
           InOrder-set c.self.inside.holds.items c.place_of-place.result c.index_mut.result.now c.clean.new.self within c.index_mut.ensures.value
-          (ap (λ (h : Hold). h.row.id) c.clean.ensures) c.self.invariant.in_order;
+          (ap (λ (h : KeptHold). h.row.id) c.clean.ensures) c.self.invariant.in_order;
       counts =
           count-set c.self.inside.holds.items c.self.inside.blocks c.place_of-place.result c.index_mut.result.now c.clean.new.self within c.index_mut.ensures.value
-          (ap (λ (h : Hold). h.row.at) c.clean.ensures) (ap (λ (h : Hold). h.row.len) c.clean.ensures) c.self.invariant.counts;
+          (ap (λ (h : KeptHold). h.row.at) c.clean.ensures) (ap (λ (h : KeptHold). h.row.len) c.clean.ensures) c.self.invariant.counts;
     }

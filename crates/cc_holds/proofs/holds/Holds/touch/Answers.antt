@@ -1,6 +1,6 @@
 use Rattle.std.proofs.Common.{arith}
 use Rattle.std.proofs.lemmas.Result.{on_ok_weaker}
-use Rattle.cc_holds.specs.Holds.{written}
+use Rattle.cc_holds.specs.Holds.{hold_written}
 use Rattle.cc_holds.proofs.Changes.{found-within, found-changes}
 use Rattle.cc_holds.proofs.Order.{InOrder-set}
 use Rattle.cc_holds.proofs.HoldBlocks.{count-set, written-same}
@@ -13,7 +13,7 @@ pub returns-clause-ok : goal.returns-clause-ok
 returns-clause-ok c =
     on_ok_weaker c.write.result
     (found-changes c.self.inside.holds.items _ _ c.args.id c.place_of-place.result c.place_of-place.ensures.value c.deref.ensures.value c.self.view_is c.requires
-    c.index_mut.result.now _ (written c.args.span) c.index_mut.ensures.value)
+    c.index_mut.result.now _ (hold_written c.args.span) c.index_mut.ensures.value)
     c.write.ensures.ok
 
 pub invariant_of-self : goal.invariant_of-self

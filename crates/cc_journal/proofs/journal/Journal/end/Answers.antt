@@ -1,13 +1,8 @@
-use Rattle.std.proofs.Common.{◌≡◌, ℕ, List, [], ◌∷◌, map, refl, ap, ◌∙◌}
+use Rattle.std.proofs.Common.{ℕ, map, ap, ◌∙◌}
 use Rattle.cc_entry.specs.declared.hold.Deferral.{Deferral}
 use Rattle.cc_model.specs.Throttle.{queue}
-use Rattle.cc_journal.specs.Queue.{deferrals_of, routines_of}
+use Rattle.cc_journal.proofs.DeferredSteps.{ids_same}
 use Rattle.cc_journal.proofs.journal.Journal.end.Goals as goal
-
--- the routines that wait have the ids of their writes
-ids_same : {Q : Type 0} (writes : List (Deferral × Q)) → map (λ (w : ℕ × Q). w.0) (routines_of writes) ≡ map (λ (d : Deferral). d.id) (deferrals_of writes)
-ids_same [] = refl
-ids_same (w ∷ writes) = ap (λ ids. w.0.id ∷ ids) (ids_same writes)
 
 pub returns-clause-ids : goal.returns-clause-ids
 returns-clause-ids g c =

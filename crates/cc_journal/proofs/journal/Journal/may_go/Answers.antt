@@ -1,4 +1,4 @@
-use Rattle.std.specs.Prelude.{◌≡◌, reverse, List}
+use Rattle.std.specs.Prelude.{◌≡◌, List}
 use Rattle.std.proofs.Common.{ap, sym, ◌∙◌}
 use Rattle.cc_entry.specs.declared.entry.Entry.{Entry}
 use Rattle.cc_model.specs.Throttle.{may_go}
@@ -7,7 +7,7 @@ use Rattle.cc_journal.proofs.journal.Journal.may_go.Goals as goal
 
 pub returns : goal.returns
 returns g c u is =
-    let past : List Entry = reverse c.self.inside.entries.items in
+    let past : List Entry = c.self.inside.entries.past in
     let streams = c.self.invariant.0.streams in
     let same : past ≡ c.args.self.now.entries = ap (λ j. j.entries) c.self.view_is in
     let limit : u.threshold ≡ c.self.inside.threshold = is ∙ sym (ap (λ j. j.threshold) c.self.view_is) in

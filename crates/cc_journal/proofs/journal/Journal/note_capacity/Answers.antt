@@ -1,12 +1,10 @@
 use Rattle.std.proofs.Common.{length, ap, arith}
-use Rattle.std.proofs.lemmas.List.{length-reverse}
 use Rattle.cc_journal.proofs.journal.Journal.note_capacity.Goals as goal
 
 pub returns : goal.returns
 returns g c =
     omega (
       arith,
-      length-reverse c.self.inside.entries.items,
       c.self.invariant.1.within,
       ap (λ j. length j.entries) c.self.view_is,
       ap (λ j. j.reserved) c.self.view_is,

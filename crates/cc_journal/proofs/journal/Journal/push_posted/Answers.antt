@@ -1,7 +1,7 @@
 -- The queue without its head is that of the past with the post; all else that is kept follows as for any entry.
-use Rattle.std.specs.Prelude.{◌≡◌, ◌≤◌, ◌∷◌, List, length, reverse}
-use Rattle.std.proofs.Common.{ap, arith, refl}
-use Rattle.std.proofs.lemmas.List.{reverse-append, length-drop}
+use Rattle.std.specs.Prelude.{◌≡◌, ◌≤◌, ◌∷◌, List, length}
+use Rattle.std.proofs.Common.{ap, arith, refl, ◌∙◌}
+use Rattle.std.proofs.lemmas.List.{length-drop}
 use Rattle.cc_entry.specs.declared.entry.Entry.{Entry}
 use Rattle.cc_entry.specs.declared.entry.Entry.TheVariants as entry
 use Rattle.cc_journal.proofs.KeptSteps.{kept_queue}
@@ -10,9 +10,9 @@ use Rattle.cc_journal.proofs.journal.Journal.push_posted.Goals as goal
 
 pub invariant_of-self : goal.invariant_of-self
 invariant_of-self g c =
-    let past : List Entry = reverse c.self.inside.entries.items in
+    let past : List Entry = c.self.inside.entries.past in
     let e : Entry = entry.Posted c.post-posted.result.id in
-    let grown : reverse c.push_reserved.new.self.items ≡ e ∷ past = rw (c.push_reserved.ensures.items, reverse-append) refl in
+    let grown : c.push_reserved.new.self.past ≡ e ∷ past = c.push_reserved.ensures.past in
     let kept = c.self.invariant.0 in
     let memory = c.self.invariant.1 in
     let reserved = ap (λ j. j.reserved) c.self.view_is in
@@ -21,11 +21,12 @@ invariant_of-self g c =
           (kept_queue e past c.self.inside.streams.states.value c.self.inside.streams.places.places.entries c.self.inside.streams.dirty c.self.inside.calls.counts.entries c.self.inside.holds
           c.self.inside.waiting c.post-posted.new.self c.self.inside.scans.total c.self.inside.scans.cursor kept refl (λ me. refl) refl refl (c.post-posted.ensures.stands past kept.queue) short),
       record {
-        within = omega (arith, memory.within, c.push_reserved.ensures.len, c.requires.reserved, reserved);
+        within = omega (arith, memory.within, ap length grown, c.requires.reserved, reserved);
         countable = memory.countable;
-        for_entries = omega (arith, memory.for_entries, c.push_reserved.ensures.len, c.push_reserved.ensures.capacity);
+        for_entries = omega (arith, memory.for_entries, c.push_reserved.ensures.room);
         for_places = omega (arith, memory.for_places);
         for_counts = omega (arith, memory.for_counts);
       },
       rw grown (locks_other e past c.self.inside.locks refl c.self.invariant.2),
+      λ few. c.push_reserved.ensures.kind ∙ c.self.invariant.3 few,
     )

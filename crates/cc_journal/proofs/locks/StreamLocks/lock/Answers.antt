@@ -2,7 +2,7 @@
 use Rattle.std.proofs.Common.{◌≡◌, ◌<◌, List, sym, subst, ◌∙◌, arith}
 use Rattle.std.specs.Prelude.{IfErr, IfOk, slice_set}
 use Rattle.cc_entry.specs.declared.entry.Entry.{Entry}
-use Rattle.cc_locks.specs.Locks.{Held}
+use Rattle.cc_locks.specs.Locks.{HeldLocks}
 use Rattle.cc_journal.specs.Locks.{LocksStand, Granted, Refused}
 use Rattle.cc_journal.proofs.LockSteps.{stream_there, locked_numbered, locked_granted, locked_refused}
 use Rattle.cc_journal.proofs.locks.StreamLocks.lock.Goals as goal
@@ -28,7 +28,7 @@ returns-clause-granted c =
     let here : c.from.result ≡ c.args.file.stream = c.from.ensures ∙ (c.number.ensures.same ∙ c.stream.ensures) in
     let below : c.from.result < 16 = omega (arith, c.from.ensures, c.number.ensures.in_range) in
     let new = slice_set c.self.inside.each.items c.from.result c.lock.new.self in
-    subst (λ (locks : List Held). IfOk c.lock.result (λ id. (past : List Entry) → LocksStand past locks → Granted past new c.args.file c.args.span c.args.exclusive id)) c.self.view_is
+    subst (λ (locks : List HeldLocks). IfOk c.lock.result (λ id. (past : List Entry) → LocksStand past locks → Granted past new c.args.file c.args.span c.args.exclusive id)) c.self.view_is
     (locked_granted c.self.inside.each.items c.from.result c.index_mut.result.now c.lock.new.self c.args.file here below c.self.invariant c.index_mut.ensures.value
     c.args.span c.args.exclusive c.lock.result c.lock.ensures.granted c.lock.ensures.refused)
 
@@ -37,6 +37,6 @@ returns-clause-refused c =
     let here : c.from.result ≡ c.args.file.stream = c.from.ensures ∙ (c.number.ensures.same ∙ c.stream.ensures) in
     let below : c.from.result < 16 = omega (arith, c.from.ensures, c.number.ensures.in_range) in
     let new = slice_set c.self.inside.each.items c.from.result c.lock.new.self in
-    subst (λ (locks : List Held). IfErr c.lock.result (λ e. (past : List Entry) → LocksStand past locks → Refused past locks new c.args.file c.args.span c.args.exclusive e)) c.self.view_is
+    subst (λ (locks : List HeldLocks). IfErr c.lock.result (λ e. (past : List Entry) → LocksStand past locks → Refused past locks new c.args.file c.args.span c.args.exclusive e)) c.self.view_is
     (locked_refused c.self.inside.each.items c.from.result c.index_mut.result.now c.lock.new.self c.args.file here below c.self.invariant c.index_mut.ensures.value
     c.args.span c.args.exclusive c.lock.result c.lock.ensures.granted c.lock.ensures.refused)

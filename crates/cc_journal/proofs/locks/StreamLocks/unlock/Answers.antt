@@ -3,8 +3,8 @@ use Rattle.std.proofs.Common.{◌≡◌, ◌<◌, List, sym, subst, ◌∙◌, a
 use Rattle.std.specs.Prelude.{slice_set}
 use Rattle.std.proofs.lemmas.Result.{IfOk-at_ok}
 use Rattle.cc_entry.specs.declared.entry.Entry.{Entry}
-use Rattle.cc_locks.specs.Locks.{Held}
-use Rattle.cc_journal.specs.Locks.{LocksStand, Ended}
+use Rattle.cc_locks.specs.Locks.{HeldLocks}
+use Rattle.cc_journal.specs.Locks.{LocksStand, LockEnded}
 use Rattle.cc_journal.proofs.LockSteps.{stream_there, unlocked_numbered, unlocked_ended}
 use Rattle.cc_journal.proofs.locks.StreamLocks.unlock.Goals as goal
 
@@ -31,8 +31,8 @@ returns c =
     let old = c.self.inside.each.items in
     let new = slice_set old c.from.result c.unlock.new.self in
     record {
-      ended = subst (λ (locks : List Held). (past : List Entry) → LocksStand past locks → Ended past new c.args.file c.args.id c.unwrap.result) c.self.view_is
-          (IfOk-at_ok (λ gone. (past : List Entry) → LocksStand past old → Ended past new c.args.file c.args.id gone) c.unwrap.ensures
+      ended = subst (λ (locks : List HeldLocks). (past : List Entry) → LocksStand past locks → LockEnded past new c.args.file c.args.id c.unwrap.result) c.self.view_is
+          (IfOk-at_ok (λ gone. (past : List Entry) → LocksStand past old → LockEnded past new c.args.file c.args.id gone) c.unwrap.ensures
           (unlocked_ended old c.from.result c.index_mut.result.now c.unlock.new.self c.args.file here below c.self.invariant c.index_mut.ensures.value
           c.args.id c.unlock.result c.unlock.ensures.sure c.unlock.ensures.owned c.unlock.ensures.rest));
     }

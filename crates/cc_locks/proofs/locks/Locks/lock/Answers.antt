@@ -5,7 +5,7 @@ use Rattle.cc_entry.specs.Locks.{lock_conflict}
 use Rattle.cc_entry.specs.declared.lock.Lock.{Lock}
 use Rattle.cc_entry.specs.declared.lock.LockCall.{LockCall}
 use Rattle.cc_entry.specs.declared.lock.LockCall.TheVariants as call
-use Rattle.cc_locks.specs.Locks.{held, IsReplayed}
+use Rattle.cc_locks.specs.Locks.{held_locks, IsReplayed}
 use Rattle.cc_locks.proofs.Replay.{IsReplayed-granted, IsReplayed-refused}
 use Rattle.cc_locks.proofs.locks.Locks.lock.Goals as goal
 
@@ -21,10 +21,10 @@ pub invariant_of-self : goal.invariant_of-self
 invariant_of-self c =
     let i = c.self.inside in
     let conflict : lock_conflict i.index c.args.span c.args.exclusive ≡ Some c.in-Some.id = sym c.least.ensures ∙ c.in-Some.is in
-    let noted : c.and-self-inside.result.noted ≡ call.Lock c.args.file c.args.span c.args.exclusive false c.in-Some.id ∷ i.past.noted =
-    c.and-self-inside.ensures ∙ ap (λ (k : LockCall). k ∷ i.past.noted) c.lock_call.ensures in
-    subst (λ (p : List LockCall). IsReplayed (held i.stream i.granted i.index p)) (sym noted)
-    (IsReplayed-refused (held i.stream i.granted i.index i.past.noted) c.args.file c.args.span c.args.exclusive c.in-Some.id c.self.invariant conflict)
+    let noted : c.grow.new.self.noted ≡ call.Lock c.args.file c.args.span c.args.exclusive false c.in-Some.id ∷ i.past.noted =
+    c.grow.ensures ∙ ap (λ (k : LockCall). k ∷ i.past.noted) c.lock_call.ensures in
+    subst (λ (p : List LockCall). IsReplayed (held_locks i.stream i.granted i.index p)) (sym noted)
+    (IsReplayed-refused (held_locks i.stream i.granted i.index i.past.noted) c.args.file c.args.span c.args.exclusive c.in-Some.id c.self.invariant conflict)
 
 pub invariant_of-self-2 : goal.invariant_of-self-2
 invariant_of-self-2 c =
@@ -36,8 +36,8 @@ invariant_of-self-2 c =
     let next : id ≡ i.granted + 1 = grind arith in
     let added : c.insert.new.self ≡ i.index ++ lock id ∷ [] =
     ok-of c.insert.result (c.insert.new.self ≡ i.index ++ lock id ∷ []) (sym c.is_err.ensures.value ∙ c.if-is_err.false) c.insert.ensures.ok in
-    let noted : c.and-self-inside-2.result.noted ≡ call_of id ∷ i.past.noted = c.and-self-inside-2.ensures ∙ ap (λ (k : LockCall). k ∷ i.past.noted) c.lock_call-2.ensures in
-    subst (λ (p : List LockCall). IsReplayed (held i.stream id c.insert.new.self p)) (sym noted)
-    (subst (λ (ls : List Lock). IsReplayed (held i.stream id ls (call_of id ∷ i.past.noted))) (sym added)
-    (subst (λ k. IsReplayed (held i.stream k (i.index ++ lock k ∷ []) (call_of k ∷ i.past.noted))) (sym next)
-    (IsReplayed-granted (held i.stream i.granted i.index i.past.noted) c.args.file c.args.span c.args.exclusive c.self.invariant free)))
+    let noted : c.grow-2.new.self.noted ≡ call_of id ∷ i.past.noted = c.grow-2.ensures ∙ ap (λ (k : LockCall). k ∷ i.past.noted) c.lock_call-2.ensures in
+    subst (λ (p : List LockCall). IsReplayed (held_locks i.stream id c.insert.new.self p)) (sym noted)
+    (subst (λ (ls : List Lock). IsReplayed (held_locks i.stream id ls (call_of id ∷ i.past.noted))) (sym added)
+    (subst (λ k. IsReplayed (held_locks i.stream k (i.index ++ lock k ∷ []) (call_of k ∷ i.past.noted))) (sym next)
+    (IsReplayed-granted (held_locks i.stream i.granted i.index i.past.noted) c.args.file c.args.span c.args.exclusive c.self.invariant free)))

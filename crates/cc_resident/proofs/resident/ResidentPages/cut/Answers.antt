@@ -1,5 +1,5 @@
 use Rattle.std.proofs.Common.{◌+◌, ◌*◌, ◌/◌, ◌%◌}
-use Rattle.cc_resident.specs.Changes.{is_between}
+use Rattle.cc_resident.specs.Changes.{is_number_between}
 use Rattle.cc_resident.proofs.Cuts.{Cuts-zeroed, blocks-zeroed}
 use Rattle.cc_resident.proofs.Shares.{owned_after_cut}
 use Rattle.cc_resident.proofs.resident.ResidentPages.cut.Goals as goal
@@ -13,4 +13,4 @@ returns-clause-pages c = Cuts-zeroed c.args.self.now c.cut_pages.new.self c.zero
 pub returns-clause-blocks : goal.returns-clause-blocks
 returns-clause-blocks c =
     let start = 4096 * (c.args.size / 4096) in
-    blocks-zeroed c.args.self.now c.cut_pages.new.self c.zero_part.new.self (is_between (start + c.args.size % 4096) (start + 4096)) c.in_ok-cut_pages.ensures.blocks c.zero_part.ensures.bytes c.zero_part.ensures.blocks
+    blocks-zeroed c.args.self.now c.cut_pages.new.self c.zero_part.new.self (is_number_between (start + c.args.size % 4096) (start + 4096)) c.in_ok-cut_pages.ensures.blocks c.zero_part.ensures.bytes c.zero_part.ensures.blocks

@@ -1,13 +1,13 @@
 use Rattle.std.proofs.Common.{◌≡◌, ◌≤◌, ◌-◌, length, slice_index}
 use Rattle.cc_entry.specs.Pages.{whole_range}
 use Rattle.cc_resident.specs.Residents.{blocks}
-use Rattle.cc_resident.specs.Changes.{Covers}
+use Rattle.cc_resident.specs.Changes.{CoversRange}
 use Rattle.cc_resident.proofs.resident.ResidentPages.write.Given as goal
 
 abbrev pub invariant-loop-done : goal.invariant-loop-done
 invariant-loop-done l =
     record {
-      covers : Covers l.initial.self l.self (whole_range l.at l.done) (λ i. slice_index l.bytes (i - l.at));
+      covers : CoversRange l.initial.self l.self (whole_range l.at l.done) (λ i. slice_index l.bytes (i - l.at));
       within : l.done ≤ length l.bytes;
       blocks : blocks l.self ≡ blocks l.initial.self;
       quota : l.self.quota ≡ l.initial.self.quota;

@@ -2,15 +2,15 @@
 use Rattle.std.proofs.Common.{◌≡◌, ◌≤◌, ◌+◌, ◌/◌, ◌&&◌, ◌==◌, Some, length, slice_get, ap, subst, sym, ◌∙◌, arith}
 use Rattle.std.proofs.lemmas.Map.Entries.{length-keys_of}
 use Rattle.cc_entry.specs.Pages.{block_of}
-use Rattle.cc_views.specs.Views.{IsSound}
+use Rattle.cc_views.specs.Views.{ViewsAreSound}
 use Rattle.cc_resident.specs.Residents.{blocks}
-use Rattle.cc_resident.specs.Changes.{is_between}
+use Rattle.cc_resident.specs.Changes.{is_number_between}
 use Rattle.cc_resident.proofs.Spans.{in_front, in_front-more, front-more, small_block, Zeroes-then, Covers-all}
 use Rattle.cc_resident.proofs.resident.ResidentPages.zero.Goals as goal
 
 pub zero_in_block-requires-clause-number : goal.zero_in_block-requires-clause-number
 zero_in_block-requires-clause-number c =
-    small_block c.args.self.now (blocks c.loop-place.self) c.loop-place.place c.block_at-block.result c.size-size.result (subst IsSound c.self.view_is c.len-place-end.ensures.sound) c.loop-place.invariant.blocks
+    small_block c.args.self.now (blocks c.loop-place.self) c.loop-place.place c.block_at-block.result c.size-size.result (subst ViewsAreSound c.self.view_is c.len-place-end.ensures.sound) c.loop-place.invariant.blocks
     (ap (λ m. slice_get (blocks m) c.loop-place.place) (sym c.self-in-loop-place.view_is) ∙ c.block_at-block.ensures) (c.size-size.ensures ∙ ap (λ m. m.size) c.self.view_is) (omega arith)
 
 pub zero_in_block-requires-clause-owned : goal.zero_in_block-requires-clause-owned
@@ -21,7 +21,7 @@ loop-place-preserved c =
     let old = c.args.self.now in
     let place = c.loop-place.place in
     let block = c.block_at-block.result in
-    let span = is_between c.args.from c.args.to in
+    let span = is_number_between c.args.from c.args.to in
     let at : slice_get (blocks old) place ≡ Some block = ap (λ l. slice_get l place) (sym c.loop-place.invariant.blocks) ∙ ap (λ m. slice_get (blocks m) place) (sym c.self-in-loop-place.view_is) ∙ c.block_at-block.ensures in
     record {
       bytes = Zeroes-then old c.loop-place.self c.zero_in_block.new.self (λ i. in_front place (blocks old) (block_of (i / 4096)) && span i) (λ i. (block_of (i / 4096) == block) && span i) (λ i. in_front (place + 1) (blocks old) (block_of (i / 4096)) && span i)

@@ -1,7 +1,7 @@
 use Rattle.std.proofs.Common.{◌≡◌, None, is_some, ap, sym, ◌∙◌}
 use Rattle.cc_resident.proofs.Frames.{some_map, none_from}
 use Rattle.cc_resident.proofs.Spans.{Zeroes-written, Zeroes-absent}
-use Rattle.cc_resident.specs.Residents.{page_at}
+use Rattle.cc_resident.specs.Residents.{page_bytes_at}
 use Rattle.cc_resident.proofs.resident.ResidentPages.zero_part.Goals as goal
 
 pub write_in_page-requires-clause-resident : goal.write_in_page-requires-clause-resident
@@ -12,5 +12,5 @@ returns-then-is_some-clause-bytes c = Zeroes-written c.args.self.now c.write_in_
 
 pub returns-else-is_some-clause-bytes : goal.returns-else-is_some-clause-bytes
 returns-else-is_some-clause-bytes c =
-    let none : page_at c.args.self.now c.args.page ≡ None = none_from (page_at c.args.self.now c.args.page) (ap is_some (sym c.get.ensures.page) ∙ some_map (λ x. x.now) c.get.result ∙ sym c.is_some.ensures ∙ c.if-is_some.false) in
+    let none : page_bytes_at c.args.self.now c.args.page ≡ None = none_from (page_bytes_at c.args.self.now c.args.page) (ap is_some (sym c.get.ensures.page) ∙ some_map (λ x. x.now) c.get.result ∙ sym c.is_some.ensures ∙ c.if-is_some.false) in
     Zeroes-absent c.args.self.now c.args.page c.args.from c.args.to none c.requires.within

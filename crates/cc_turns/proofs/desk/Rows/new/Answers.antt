@@ -14,5 +14,5 @@ returns g c =
       disks = record { empty = c.in_ok-with_capacity-2.ensures.items; room = omega (arith, c.in_ok-with_capacity-2.ensures.capacity, streams) };
       books = λ opening. subst (λ n. AreHome n None (BookIsHome opening []) c.in_ok-of_books.field-0.items) streams (c.in_ok-of_books.ensures opening);
       logs = record { empty = c.in_ok-with_capacity.ensures.items; room = omega (arith, c.in_ok-with_capacity.ensures.capacity, logs) };
-      journal = record { limits = (limits.0, limits.1, limits.2 ∙ logs); empty = (empty.0, empty.1, empty.3) };
+      journal = record { limits = (limits.0 ∙ c.capacity.ensures, limits.1, limits.2 ∙ logs); empty = (empty.0, empty.1, empty.3) };
     }

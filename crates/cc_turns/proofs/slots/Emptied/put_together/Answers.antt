@@ -1,7 +1,7 @@
 -- By the kind of the slot taken: it goes into its row, the others stay; turned round, the rows are those of a desk.
 use Rattle.std.proofs.Common.{◌≡◌, ◌<◌, false, None, Some, [], ◌∷◌, length, refl, sym, ap, ◌∙◌, arith, rules}
 use Rattle.std.specs.Prelude.{is_some, vec_capacity}
-use Rattle.cc_turns.specs.Desk.{state_of}
+use Rattle.cc_turns.specs.Desk.{desk_state}
 use Rattle.cc_turns.proofs.RowSteps.{at_last, at_rest, no_items}
 use Rattle.cc_turns.proofs.SlotSteps.{picked, device_of, book_of, log_of, journal_of, sorted, returns_begun, returns_own, returns_room, returns_other, returns_ended, one_begun, one_own, one_other, one_ended, one_came, put_together, is_put_together}
 use Rattle.cc_turns.proofs.slots.Emptied.put_together.Given.{Over}
@@ -115,7 +115,7 @@ pub invariant_of-result : goal.invariant_of-result
 invariant_of-result g c =
     let none : c.loop-slot.slots.len ≡ 0 = search rules in
     let empty : c.loop-slot.slots.items ≡ [] = no_items _ c.loop-slot.slots.len c.loop-slot.slots.ok.0 none in (
-      put_together _ (state_of c.self.inside.begun.value c.reverse.new.self.items c.reverse-3.new.self.items c.of-last.result.value c.of-since.result.value.value.entries 0 (record { device = None; book = None; log = None; journal = false }) c.self.inside.device_turns) c.args.self c.requires.slots.0 c.requires.slots.1.0 c.args.slots.items c.reverse.new.self.items c.reverse-2.new.self.items c.reverse-3.new.self.items
+      put_together _ (desk_state c.self.inside.begun.value c.reverse.new.self.items c.reverse-3.new.self.items c.of-last.result.value c.of-since.result.value.value.entries 0 (record { device = None; book = None; log = None; journal = false }) c.self.inside.device_turns) c.args.self c.requires.slots.0 c.requires.slots.1.0 c.args.slots.items c.reverse.new.self.items c.reverse-2.new.self.items c.reverse-3.new.self.items
           c.unwrap-journal.result c.requires.slots.1.1 (sorted _ _ c.requires.slots.0 c.requires.slots.1.0 c.args.slots.items c.requires.slots.1.1)
           c.self.view_is c.of-last.ensures (ap (λ s. s.value.entries) c.of-since.ensures ∙ ap (λ j. j.entries) c.of-last.ensures) refl
           (c.reverse.ensures.items ∙ returns_ended device_of c.args.slots.items _ c.loop-slot.disks.items _ empty c.loop-slot.invariant.disks)

@@ -1,5 +1,5 @@
 use Rattle.std.proofs.Common.{◌≡◌, ◌+◌, ap, arith, subst, if◌then◌else◌, is_some}
-use Rattle.cc_vacb.specs.Index.{Index, StartsBelow, entry_count, entry_at, count_in}
+use Rattle.cc_vacb.specs.Index.{Index, StartsBelow, entry_count, entry_at, entry_count_in}
 use Rattle.cc_vacb.proofs.Kept.{covered_at, root_at, put_count}
 use Rattle.cc_vacb.proofs.index.ViewIndex.put.Goals as goal
 
@@ -15,4 +15,4 @@ put_view-requires-clause-root_in c = λ _.
 
 pub returns-clause-count : goal.returns-clause-count
 returns-clause-count c =
-    subst (λ (x : Index). count_in c.put_view.new.blocks.items ≡ entry_count x + (if is_some (entry_at x c.args.block) then 0 else 1)) c.self.view_is (put_count c.self.inside.size c.top_for-top.result c.args.block c.args.view _ _ c.top_for-top.ensures.levels c.in_ok-put_view.ensures.ok)
+    subst (λ (x : Index). entry_count_in c.put_view.new.blocks.items ≡ entry_count x + (if is_some (entry_at x c.args.block) then 0 else 1)) c.self.view_is (put_count c.self.inside.size c.top_for-top.result c.args.block c.args.view _ _ c.top_for-top.ensures.levels c.in_ok-put_view.ensures.ok)

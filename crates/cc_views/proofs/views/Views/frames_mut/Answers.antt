@@ -3,7 +3,7 @@ use Rattle.std.proofs.Common.{refl, sym, ◌∙◌, nat_eq}
 use Rattle.std.specs.Option.{ghost_name_of}
 use borrow.Follows.Closed.{read_of}
 use Rattle.indexmap.proofs.MapLemmas.{Found-position, Missing-position}
-use Rattle.cc_views.specs.Views.{Pages, Mapped}
+use Rattle.cc_views.specs.Views.{ViewFrames, MappedViews}
 use Rattle.cc_views.proofs.Orders.{put_views, IsIndexed-set, set_value-at}
 use Rattle.cc_views.proofs.views.Views.frames_mut.Goals as goal
 
@@ -13,10 +13,10 @@ invariant_of-self-lent c = λ _. (λ w. IsIndexed-set c.self.inside.order.entrie
 pub returns-in-Some : goal.returns-in-Some
 returns-in-Some c =
     let es = c.self.inside.order.entries in
-    let m : Mapped = record { views = es; quota = c.self.inside.quota; size = c.self.inside.size } in
+    let m : MappedViews = record { views = es; quota = c.self.inside.quota; size = c.self.inside.size } in
     let at = sym c.place_of.ensures ∙ c.in-Some.is in
     rw (← c.self.view_is) (
-      λ j. read_of (ghost_name_of c.get_index_mut.result) (λ (w : Pages). put_views m (set_value-at es c.args.block c.in-Some.place w at j)) m,
+      λ j. read_of (ghost_name_of c.get_index_mut.result) (λ (w : ViewFrames). put_views m (set_value-at es c.args.block c.in-Some.place w at j)) m,
       record { writes_back = tt; frames = c.get_index_mut.ensures.value ∙ sym (Found-position (nat_eq c.args.block) es c.in-Some.place at).value },
     )
 

@@ -13,5 +13,5 @@ returns g c =
       rows = record { empty = c.in_ok-with_capacity-2.ensures.items; room = omega (arith, c.in_ok-with_capacity-2.ensures.capacity, streams) };
       books = subst (λ n. AreAt n IsNewBook c.in_ok-books_of.field-0.items) streams c.in_ok-books_of.ensures;
       logs = record { empty = c.in_ok-with_capacity.ensures.items; room = omega (arith, c.in_ok-with_capacity.ensures.capacity, logs) };
-      journal = record { limits = (limits.0, limits.1, limits.2 ∙ logs); empty = (empty.0, empty.1, empty.3) };
+      journal = record { limits = (limits.0 ∙ c.capacity.ensures, limits.1, limits.2 ∙ logs); empty = (empty.0, empty.1, empty.3) };
     }

@@ -2,7 +2,7 @@
 use Rattle.std.specs.Prelude.{◌<◌, length, refl}
 use Rattle.std.proofs.Common.{sym, subst, ◌∙◌, arith}
 use Rattle.cc_turns.specs.Desk.{tells_of}
-use Rattle.cc_world.specs.World.{Stepped, world_of}
+use Rattle.cc_world.specs.World.{WorldEventLeft, world_of}
 use Rattle.cc_effects.specs.declared.events.Event.TheVariants as event
 use Rattle.cc_world.proofs.JournalSteps.{are-books, journal-stands, journal-stepped}
 use Rattle.cc_world.proofs.Steps.{read-there, row-stream}
@@ -33,5 +33,5 @@ pub returns : goal.returns
 returns g c =
     let both = journal-stepped _ _ c.self.invariant.0 (event.Defer c.args.pass c.args.file c.args.bytes c.args.retrying c.args.routine) c.defer-reply.result c.defer-reply.new.journal c.note_capacity.ensures refl
     (c.defer-reply.ensures _ (journal-stands _ _ c.self.invariant.0)) in
-    subst (λ w. Stepped (tells_of g.D.Told.told g.D.Told.faults g.L.LogFile.told g.L.LogFile.faults g.Q.PostRoutine.posted) (event.Defer c.args.pass c.args.file c.args.bytes c.args.retrying c.args.routine) c.defer-reply.result w
+    subst (λ w. WorldEventLeft (tells_of g.D.Told.told g.D.Told.faults g.L.LogFile.told g.L.LogFile.faults g.Q.PostRoutine.posted) (event.Defer c.args.pass c.args.file c.args.bytes c.args.retrying c.args.routine) c.defer-reply.result w
     (world_of c.self.inside.begun.value c.self.inside.rows.items c.self.inside.logs.items c.defer-reply.new.journal)) c.self.view_is both.1

@@ -1,16 +1,17 @@
 -- By where the call is filed: it tells its fault on the row of its stream, or to the journal alone; one that names a hold
 -- that is open nowhere tells none.
-use Rattle.std.specs.Prelude.{ℕ, ◌<◌, Some, length, slice_set, refl}
+use Rattle.std.specs.Prelude.{ℕ, ◌<◌, ◌^◌, Some, length, slice_set, refl}
 use Rattle.std.proofs.Common.{ap, sym, subst, ◌∙◌, arith}
 use Rattle.cc_model.specs.Acts.{file_of}
 use Rattle.cc_turns.specs.Desk.{tells_of}
 use Rattle.cc_effects.specs.Events.{MayHappen, NamesOf}
-use Rattle.cc_world.specs.World.{Stepped, setup_of, world_of}
+use Rattle.cc_world.specs.World.{WorldEventLeft, world_of}
 use Rattle.cc_effects.specs.declared.events.Event.TheVariants as event
 use Rattle.cc_world.proofs.FiledUnder.{books-there, not-failed, on-journal, on-stream, row-there}
 use Rattle.cc_world.proofs.JournalSteps.{journal-stands, journal-stepped}
 use Rattle.cc_world.proofs.Steps.{read-there, row-stands, row-stream, stepped}
 use Rattle.cc_world.proofs.world.World.fail_call.Goals as goal
+use Rattle.cc_turns.specs.Slots.{setup_in}
 
 pub index_mut-row-requires : goal.index_mut-row-requires
 index_mut-row-requires g c =
@@ -39,6 +40,14 @@ fail_call-reply-requires-clause-standing g c =
     let within : c.from.result < length c.self.inside.rows.items = omega (arith, c.from.ensures, c.number.ensures.same, known) in
     let there = read-there c.self.inside.rows.items c.from.result c.index_mut-row.result.now within c.index_mut-row.ensures.value in
     (_, _, row-stands _ _ inv c.from.result c.index_mut-row.result.now there)
+
+pub fail_call-reply-requires-clause-recorded : goal.fail_call-reply-requires-clause-recorded
+fail_call-reply-requires-clause-recorded g c =
+    subst (λ n. n < 2 ^ 32) (sym c.self.invariant.0.journal.limits.0) c.self.invariant.0.few.2
+
+pub fail_unfiled-reply-requires-clause-recorded : goal.fail_unfiled-reply-requires-clause-recorded
+fail_unfiled-reply-requires-clause-recorded g c =
+    subst (λ n. n < 2 ^ 32) (sym c.self.invariant.0.journal.limits.0) c.self.invariant.0.few.2
 
 pub invariant_of-self : goal.invariant_of-self
 invariant_of-self g c =
@@ -77,7 +86,7 @@ returns-in-Stream g c =
     let at = on-stream c.self.inside.journal.entries c.args.call c.in-Stream.stream c.from.result under.0 (sym (c.from.ensures ∙ c.number.ensures.same)) in
     let both = stepped _ _ inv c.from.result c.index_mut-row.result.now there (event.Fail c.args.pass c.args.call) c.fail_call-reply.result c.fail_call-reply.new.self c.fail_call-reply.new.journal c.note_capacity.ensures at
     (c.fail_call-reply.ensures _ _ (row-stands _ _ inv c.from.result c.index_mut-row.result.now there)) in
-    subst (λ w. Stepped (tells_of g.D.Told.told g.D.Told.faults g.L.LogFile.told g.L.LogFile.faults g.Q.PostRoutine.posted) (event.Fail c.args.pass c.args.call) c.fail_call-reply.result w
+    subst (λ w. WorldEventLeft (tells_of g.D.Told.told g.D.Told.faults g.L.LogFile.told g.L.LogFile.faults g.Q.PostRoutine.posted) (event.Fail c.args.pass c.args.call) c.fail_call-reply.result w
     (world_of c.self.inside.begun.value (slice_set c.self.inside.rows.items c.from.result c.fail_call-reply.new.self) c.self.inside.logs.items c.fail_call-reply.new.journal)) c.self.view_is both.1
 
 pub returns-in-Journal : goal.returns-in-Journal
@@ -86,7 +95,7 @@ returns-in-Journal g c =
     let under = c.in-Journal.ensures c.self.inside.journal.entries (books-there _ _ inv c.deref.result.now c.deref.ensures.value) in
     let both = journal-stepped _ _ inv (event.Fail c.args.pass c.args.call) c.fail_unfiled-reply.result c.fail_unfiled-reply.new.journal c.note_capacity-in-Journal.ensures (on-journal c.self.inside.journal.entries c.args.call under.0)
     (c.fail_unfiled-reply.ensures _ (journal-stands _ _ inv)) in
-    subst (λ w. Stepped (tells_of g.D.Told.told g.D.Told.faults g.L.LogFile.told g.L.LogFile.faults g.Q.PostRoutine.posted) (event.Fail c.args.pass c.args.call) c.fail_unfiled-reply.result w
+    subst (λ w. WorldEventLeft (tells_of g.D.Told.told g.D.Told.faults g.L.LogFile.told g.L.LogFile.faults g.Q.PostRoutine.posted) (event.Fail c.args.pass c.args.call) c.fail_unfiled-reply.result w
     (world_of c.self.inside.begun.value c.self.inside.rows.items c.self.inside.logs.items c.fail_unfiled-reply.new.journal)) c.self.view_is both.1
 
 pub returns-in-NoHold : goal.returns-in-NoHold
@@ -94,7 +103,7 @@ returns-in-NoHold g c =
     let under = c.in-NoHold.ensures c.self.inside.journal.entries (books-there _ _ c.self.invariant.0 c.deref.result.now c.deref.ensures.value) in
     let tells = tells_of g.D.Told.told g.D.Told.faults g.L.LogFile.told g.L.LogFile.faults g.Q.PostRoutine.posted in (
       (
-        subst (λ w. MayHappen {Q = g.row.Q.Denot} (setup_of tells w.begun) w.journal.entries (event.Fail c.args.pass c.args.call) → ⊥) c.self.view_is
+        subst (λ w. MayHappen {Q = g.row.Q.Denot} (setup_in tells w.begun) w.journal.entries (event.Fail c.args.pass c.args.call) → ⊥) c.self.view_is
             (not-failed g.row.Q.Denot _ c.self.inside.journal.entries c.args.pass c.args.call under.0 under.1),
         refl,
       ),

@@ -3,7 +3,7 @@ use Rattle.std.proofs.Common.{◌<◌, ℕ, ap, length, sym, ◌∙◌, subst, a
 use Rattle.cc_turns.specs.Desk.{tells_of}
 use Rattle.std.specs.Prelude.{slice_set}
 use Rattle.cc_effects.specs.Events.{OnStream}
-use Rattle.cc_world.specs.World.{Stepped, world_of}
+use Rattle.cc_world.specs.World.{WorldEventLeft, world_of}
 use Rattle.cc_effects.specs.declared.events.Event.TheVariants as event
 use Rattle.cc_world.proofs.Steps.{read-there, row-stands, row-stream, stepped}
 use Rattle.cc_world.proofs.world.World.fill.Goals as goal
@@ -43,5 +43,5 @@ returns g c =
     let there = read-there c.self.inside.rows.items c.from.result c.index_mut-row.result.now within c.index_mut-row.ensures.value in
     let both = stepped _ _ c.self.invariant.0 c.from.result c.index_mut-row.result.now there (event.Fill c.args.pass c.args.page) c.fill-reply.result c.fill-reply.new.self c.fill-reply.new.journal c.note_capacity.ensures (ap (λ (n : ℕ). OnStream n) (sym (c.from.ensures ∙ (c.number.ensures.same ∙ c.stream.ensures))))
     (c.fill-reply.ensures.left _ _ (row-stands _ _ c.self.invariant.0 c.from.result c.index_mut-row.result.now there)) in
-    subst (λ w. Stepped (tells_of g.D.Told.told g.D.Told.faults g.L.LogFile.told g.L.LogFile.faults g.Q.PostRoutine.posted) (event.Fill c.args.pass c.args.page) c.fill-reply.result w
+    subst (λ w. WorldEventLeft (tells_of g.D.Told.told g.D.Told.faults g.L.LogFile.told g.L.LogFile.faults g.Q.PostRoutine.posted) (event.Fill c.args.pass c.args.page) c.fill-reply.result w
     (world_of c.self.inside.begun.value (slice_set c.self.inside.rows.items c.from.result c.fill-reply.new.self) c.self.inside.logs.items c.fill-reply.new.journal)) c.self.view_is both.1

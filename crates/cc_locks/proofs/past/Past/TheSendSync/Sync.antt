@@ -1,9 +1,0 @@
--- It owns nothing.
-use denote.RattleType.{RattleType}
-use denote.Param.Send.{IsSync, cell_keyless}
-use denote.Memory.{part_of, raw_all}
-use Rattle.cc_locks.specs.contracts.past.Past.{the_row}
-
-pub sync : (T : RattleType) → IsSync (the_row T)
-unfolding part_of
-sync T = record { shared = λ d b o κ. λ q vs. (cell_keyless q (raw_all (the_row T).mir) vs b o, ((λ _. (tt, ((λ _. (tt, tt)), tt))), tt)) }

@@ -1,0 +1,254 @@
+-- One visit: the flush may go on from the journal that was taken, and what it placed is good and is given with it.
+use Rattle.std.specs.Prelude.{ℕ}
+use Rattle.std.proofs.Common.{sym, subst}
+use Rattle.cc_turns.specs.Standing.{Standing}
+use Rattle.cc_turns.specs.Takes.{without_journal}
+use Rattle.cc_effects.specs.Begins.{BeginsNone}
+use Rattle.cc_writes.specs.Hands.{HasBook, IsAtRest, SameDisk}
+use Rattle.cc_writes.proofs.Resting.{rest-went}
+use Rattle.cc_writes.proofs.Visiting.{few-left, visiting}
+use Rattle.cc_ranges.specs.Flush.{FlushStepLeft, FlushStepWent, IsFullFlushStep, FlushStepAscends, flush_step_of}
+use Rattle.cc_ranges.specs.declared.flush_visits.FlushStep.{FlushStep}
+use Rattle.cc_ranges.proofs.FlushNexting.{may-next, gone-on, flight_after, few-after, visited-next, disk-next, begun-next, went-next, left-next, ascending, full-next}
+use Rattle.cc_ranges.proofs.flush_visits.next_flush_step.Goals as goal
+
+pub next_step-went-requires : goal.next_step-went-requires
+next_step-went-requires g c =
+    let w = g.T.Turns.standing c.args.turns.now in
+    let v = g.T.Turns.standing c.take_journal-journal.new.self in
+    let posted = g.T.Post.PostRoutine.posted in
+    let file = c.args.file in
+    let span = c.args.span.now in
+    let b = c.args.book.now in
+    let j = c.take_journal-journal.result in
+    let here = c.requires.book.stream in
+    let has = subst (λ (n : ℕ). HasBook w n b) (sym here) c.requires.book in
+    let rest = subst (λ (n : ℕ). IsAtRest w n) (sym here) c.requires.rest in
+    let vis = visiting posted w v b.stream b j has c.take_journal-journal.ensures.took c.take_journal-journal.ensures.stands in
+    record { may = (w.setup, may-next posted w v file span c.args.from b b j j has vis here rest c.me-pass.result c.me-pass.ensures) }
+
+pub give_journal-requires-clause-adds : goal.give_journal-requires-clause-adds
+give_journal-requires-clause-adds g c =
+    let w = g.T.Turns.standing c.args.turns.now in
+    let v = g.T.Turns.standing c.take_journal-journal.new.self in
+    let posted = g.T.Post.PostRoutine.posted in
+    let file = c.args.file in
+    let span = c.args.span.now in
+    let b = c.args.book.now in
+    let j = c.take_journal-journal.result in
+    let here = c.requires.book.stream in
+    let has = subst (λ (n : ℕ). HasBook w n b) (sym here) c.requires.book in
+    let rest = subst (λ (n : ℕ). IsAtRest w n) (sym here) c.requires.rest in
+    let vis = visiting posted w v b.stream b j has c.take_journal-journal.ensures.took c.take_journal-journal.ensures.stands in
+    let n = c.next_step-went.new.book in
+    let k = c.next_step-went.new.journal in
+    let ended = c.next_step-went.result in
+    let left = gone-on posted w v file span c.args.from b n j k has vis here rest c.me-pass.result ended c.me-pass.ensures c.next_step-went.ensures.left in
+    let given = visited-next posted w v file span c.args.from b n j k has vis here rest ended left in
+    given.adds
+
+pub give_journal-requires-clause-stands : goal.give_journal-requires-clause-stands
+give_journal-requires-clause-stands g c =
+    let w = g.T.Turns.standing c.args.turns.now in
+    let v = g.T.Turns.standing c.take_journal-journal.new.self in
+    let posted = g.T.Post.PostRoutine.posted in
+    let file = c.args.file in
+    let span = c.args.span.now in
+    let b = c.args.book.now in
+    let j = c.take_journal-journal.result in
+    let here = c.requires.book.stream in
+    let has = subst (λ (n : ℕ). HasBook w n b) (sym here) c.requires.book in
+    let rest = subst (λ (n : ℕ). IsAtRest w n) (sym here) c.requires.rest in
+    let vis = visiting posted w v b.stream b j has c.take_journal-journal.ensures.took c.take_journal-journal.ensures.stands in
+    let n = c.next_step-went.new.book in
+    let k = c.next_step-went.new.journal in
+    let ended = c.next_step-went.result in
+    let left = gone-on posted w v file span c.args.from b n j k has vis here rest c.me-pass.result ended c.me-pass.ensures c.next_step-went.ensures.left in
+    let given = visited-next posted w v file span c.args.from b n j k has vis here rest ended left in
+    given.journal
+
+pub give_journal-requires-clause-few : goal.give_journal-requires-clause-few
+give_journal-requires-clause-few g c =
+    let w = g.T.Turns.standing c.args.turns.now in
+    let v = g.T.Turns.standing c.take_journal-journal.new.self in
+    let posted = g.T.Post.PostRoutine.posted in
+    let file = c.args.file in
+    let span = c.args.span.now in
+    let b = c.args.book.now in
+    let j = c.take_journal-journal.result in
+    let here = c.requires.book.stream in
+    let has = subst (λ (n : ℕ). HasBook w n b) (sym here) c.requires.book in
+    let rest = subst (λ (n : ℕ). IsAtRest w n) (sym here) c.requires.rest in
+    let vis = visiting posted w v b.stream b j has c.take_journal-journal.ensures.took c.take_journal-journal.ensures.stands in
+    let n = c.next_step-went.new.book in
+    let k = c.next_step-went.new.journal in
+    let ended = c.next_step-went.result in
+    let left = gone-on posted w v file span c.args.from b n j k has vis here rest c.me-pass.result ended c.me-pass.ensures c.next_step-went.ensures.left in
+    let given = visited-next posted w v file span c.args.from b n j k has vis here rest ended left in
+    few-left (flight_after posted w v file span c.args.from b n j k has vis here rest ended) given.went
+    (few-after posted w v file span c.args.from b n j k has vis here rest c.requires.none ended)
+
+pub returns-clause-book : goal.returns-clause-book
+returns-clause-book g c =
+    let w = g.T.Turns.standing c.args.turns.now in
+    let v = g.T.Turns.standing c.take_journal-journal.new.self in
+    let posted = g.T.Post.PostRoutine.posted in
+    let file = c.args.file in
+    let span = c.args.span.now in
+    let b = c.args.book.now in
+    let j = c.take_journal-journal.result in
+    let here = c.requires.book.stream in
+    let has = subst (λ (n : ℕ). HasBook w n b) (sym here) c.requires.book in
+    let rest = subst (λ (n : ℕ). IsAtRest w n) (sym here) c.requires.rest in
+    let vis = visiting posted w v b.stream b j has c.take_journal-journal.ensures.took c.take_journal-journal.ensures.stands in
+    let n = c.next_step-went.new.book in
+    let k = c.next_step-went.new.journal in
+    let ended = c.next_step-went.result in
+    let left = gone-on posted w v file span c.args.from b n j k has vis here rest c.me-pass.result ended c.me-pass.ensures c.next_step-went.ensures.left in
+    let given = visited-next posted w v file span c.args.from b n j k has vis here rest ended left in
+    subst (λ (x : Standing). HasBook x file.stream n) (sym c.give_journal.ensures) (subst (λ (m : ℕ). HasBook (without_journal k v) m n) here given.book)
+
+pub returns-clause-rest : goal.returns-clause-rest
+returns-clause-rest g c =
+    let w = g.T.Turns.standing c.args.turns.now in
+    let v = g.T.Turns.standing c.take_journal-journal.new.self in
+    let posted = g.T.Post.PostRoutine.posted in
+    let file = c.args.file in
+    let span = c.args.span.now in
+    let b = c.args.book.now in
+    let j = c.take_journal-journal.result in
+    let here = c.requires.book.stream in
+    let has = subst (λ (n : ℕ). HasBook w n b) (sym here) c.requires.book in
+    let rest = subst (λ (n : ℕ). IsAtRest w n) (sym here) c.requires.rest in
+    let vis = visiting posted w v b.stream b j has c.take_journal-journal.ensures.took c.take_journal-journal.ensures.stands in
+    let n = c.next_step-went.new.book in
+    let k = c.next_step-went.new.journal in
+    let ended = c.next_step-went.result in
+    let left = gone-on posted w v file span c.args.from b n j k has vis here rest c.me-pass.result ended c.me-pass.ensures c.next_step-went.ensures.left in
+    let given = visited-next posted w v file span c.args.from b n j k has vis here rest ended left in
+    subst (λ (x : Standing). IsAtRest x file.stream) (sym c.give_journal.ensures)
+    (subst (λ (m : ℕ). IsAtRest (without_journal k v) m) here
+    (rest-went (flight_after posted w v file span c.args.from b n j k has vis here rest ended) b.stream w (without_journal k v) rest given.went
+    (disk-next posted w v file span c.args.from b n j k has vis here rest ended left)))
+
+pub returns-clause-went : goal.returns-clause-went
+returns-clause-went g c =
+    let w = g.T.Turns.standing c.args.turns.now in
+    let v = g.T.Turns.standing c.take_journal-journal.new.self in
+    let posted = g.T.Post.PostRoutine.posted in
+    let file = c.args.file in
+    let span = c.args.span.now in
+    let b = c.args.book.now in
+    let j = c.take_journal-journal.result in
+    let here = c.requires.book.stream in
+    let has = subst (λ (n : ℕ). HasBook w n b) (sym here) c.requires.book in
+    let rest = subst (λ (n : ℕ). IsAtRest w n) (sym here) c.requires.rest in
+    let vis = visiting posted w v b.stream b j has c.take_journal-journal.ensures.took c.take_journal-journal.ensures.stands in
+    let n = c.next_step-went.new.book in
+    let k = c.next_step-went.new.journal in
+    let ended = c.next_step-went.result in
+    let left = gone-on posted w v file span c.args.from b n j k has vis here rest c.me-pass.result ended c.me-pass.ensures c.next_step-went.ensures.left in
+    subst (λ (r : FlushStep). FlushStepWent r w (g.T.Turns.standing c.give_journal.new.self)) (sym c.step_of.ensures)
+    (subst (λ (x : Standing). FlushStepWent (flush_step_of ended) w x) (sym c.give_journal.ensures)
+    (went-next posted w v file span c.args.from b n j k has vis here rest c.requires.none ended left))
+
+pub returns-clause-disk : goal.returns-clause-disk
+returns-clause-disk g c =
+    let w = g.T.Turns.standing c.args.turns.now in
+    let v = g.T.Turns.standing c.take_journal-journal.new.self in
+    let posted = g.T.Post.PostRoutine.posted in
+    let file = c.args.file in
+    let span = c.args.span.now in
+    let b = c.args.book.now in
+    let j = c.take_journal-journal.result in
+    let here = c.requires.book.stream in
+    let has = subst (λ (n : ℕ). HasBook w n b) (sym here) c.requires.book in
+    let rest = subst (λ (n : ℕ). IsAtRest w n) (sym here) c.requires.rest in
+    let vis = visiting posted w v b.stream b j has c.take_journal-journal.ensures.took c.take_journal-journal.ensures.stands in
+    let n = c.next_step-went.new.book in
+    let k = c.next_step-went.new.journal in
+    let ended = c.next_step-went.result in
+    let left = gone-on posted w v file span c.args.from b n j k has vis here rest c.me-pass.result ended c.me-pass.ensures c.next_step-went.ensures.left in
+    subst (λ (x : Standing). SameDisk w.seen x.seen file.stream) (sym c.give_journal.ensures)
+    (subst (λ (m : ℕ). SameDisk w.seen k.entries m) here (disk-next posted w v file span c.args.from b n j k has vis here rest ended left))
+
+pub returns-clause-begun : goal.returns-clause-begun
+returns-clause-begun g c =
+    let w = g.T.Turns.standing c.args.turns.now in
+    let v = g.T.Turns.standing c.take_journal-journal.new.self in
+    let posted = g.T.Post.PostRoutine.posted in
+    let file = c.args.file in
+    let span = c.args.span.now in
+    let b = c.args.book.now in
+    let j = c.take_journal-journal.result in
+    let here = c.requires.book.stream in
+    let has = subst (λ (n : ℕ). HasBook w n b) (sym here) c.requires.book in
+    let rest = subst (λ (n : ℕ). IsAtRest w n) (sym here) c.requires.rest in
+    let vis = visiting posted w v b.stream b j has c.take_journal-journal.ensures.took c.take_journal-journal.ensures.stands in
+    let n = c.next_step-went.new.book in
+    let k = c.next_step-went.new.journal in
+    let ended = c.next_step-went.result in
+    let left = gone-on posted w v file span c.args.from b n j k has vis here rest c.me-pass.result ended c.me-pass.ensures c.next_step-went.ensures.left in
+    subst (λ (x : Standing). BeginsNone w.number w.seen x.seen) (sym c.give_journal.ensures) (begun-next posted w v file span c.args.from b n j k has vis here rest ended left)
+
+pub returns-clause-left : goal.returns-clause-left
+returns-clause-left g c begun is =
+    let w = g.T.Turns.standing c.args.turns.now in
+    let v = g.T.Turns.standing c.take_journal-journal.new.self in
+    let posted = g.T.Post.PostRoutine.posted in
+    let file = c.args.file in
+    let span = c.args.span.now in
+    let b = c.args.book.now in
+    let j = c.take_journal-journal.result in
+    let here = c.requires.book.stream in
+    let has = subst (λ (n : ℕ). HasBook w n b) (sym here) c.requires.book in
+    let rest = subst (λ (n : ℕ). IsAtRest w n) (sym here) c.requires.rest in
+    let vis = visiting posted w v b.stream b j has c.take_journal-journal.ensures.took c.take_journal-journal.ensures.stands in
+    let n = c.next_step-went.new.book in
+    let k = c.next_step-went.new.journal in
+    let ended = c.next_step-went.result in
+    let left = gone-on posted w v file span c.args.from b n j k has vis here rest c.me-pass.result ended c.me-pass.ensures c.next_step-went.ensures.left in
+    subst (λ (r : FlushStep). FlushStepLeft w.setup w.number file span r begun (g.T.Turns.standing c.give_journal.new.self).seen) (sym c.step_of.ensures)
+    (subst (λ (x : Standing). FlushStepLeft w.setup w.number file span (flush_step_of ended) begun x.seen) (sym c.give_journal.ensures)
+    (left-next posted w v file span c.args.from b n j k has vis here rest begun is ended left))
+
+pub returns-clause-ascending : goal.returns-clause-ascending
+returns-clause-ascending g c =
+    let w = g.T.Turns.standing c.args.turns.now in
+    let v = g.T.Turns.standing c.take_journal-journal.new.self in
+    let posted = g.T.Post.PostRoutine.posted in
+    let file = c.args.file in
+    let span = c.args.span.now in
+    let b = c.args.book.now in
+    let j = c.take_journal-journal.result in
+    let here = c.requires.book.stream in
+    let has = subst (λ (n : ℕ). HasBook w n b) (sym here) c.requires.book in
+    let rest = subst (λ (n : ℕ). IsAtRest w n) (sym here) c.requires.rest in
+    let vis = visiting posted w v b.stream b j has c.take_journal-journal.ensures.took c.take_journal-journal.ensures.stands in
+    let n = c.next_step-went.new.book in
+    let k = c.next_step-went.new.journal in
+    let ended = c.next_step-went.result in
+    let left = gone-on posted w v file span c.args.from b n j k has vis here rest c.me-pass.result ended c.me-pass.ensures c.next_step-went.ensures.left in
+    subst (λ (r : FlushStep). FlushStepAscends r c.args.from) (sym c.step_of.ensures)
+    (ascending posted w v file span c.args.from b n j k has vis here rest ended c.next_step-went.ensures.numbered left)
+
+pub returns-clause-full : goal.returns-clause-full
+returns-clause-full g c =
+    let w = g.T.Turns.standing c.args.turns.now in
+    let v = g.T.Turns.standing c.take_journal-journal.new.self in
+    let posted = g.T.Post.PostRoutine.posted in
+    let file = c.args.file in
+    let span = c.args.span.now in
+    let b = c.args.book.now in
+    let j = c.take_journal-journal.result in
+    let here = c.requires.book.stream in
+    let has = subst (λ (n : ℕ). HasBook w n b) (sym here) c.requires.book in
+    let rest = subst (λ (n : ℕ). IsAtRest w n) (sym here) c.requires.rest in
+    let vis = visiting posted w v b.stream b j has c.take_journal-journal.ensures.took c.take_journal-journal.ensures.stands in
+    let n = c.next_step-went.new.book in
+    let k = c.next_step-went.new.journal in
+    let ended = c.next_step-went.result in
+    let left = gone-on posted w v file span c.args.from b n j k has vis here rest c.me-pass.result ended c.me-pass.ensures c.next_step-went.ensures.left in
+    subst (λ (r : FlushStep). IsFullFlushStep (g.T.Turns.standing c.give_journal.new.self) r) (sym c.step_of.ensures)
+    (subst (λ (x : Standing). IsFullFlushStep x (flush_step_of ended)) (sym c.give_journal.ensures)
+    (full-next posted w v file span c.args.from b n j k has vis here rest ended left))

@@ -1,0 +1,16 @@
+use Rattle.std.proofs.Common.{subst, sym}
+use Rattle.std.specs.Prelude.{Result}
+use Rattle.cc_entry.specs.declared.call.Call.{Call}
+use Rattle.cc_entry.specs.declared.error.CcError.{CcError}
+use Rattle.cc_step.proofs.Failing.{stepped-answered}
+use Rattle.cc_writes.proofs.Refusals.{brings-free}
+use Rattle.cc_writes.specs.Calls.{PageStepLeft}
+use Rattle.cc_writes.proofs.Halting.{no-memory}
+use Rattle.cc_writes.proofs.pages.land_for_call.Goals as goal
+
+pub returns-in-Err-clause-left : goal.returns-in-Err-clause-left
+returns-in-Err-clause-left g c begun way =
+    let w = g.T.Turns.standing c.args.turns.now in
+    let v = g.T.Turns.standing c.land_at.new.turns in
+    subst (λ (r : Result Call CcError). PageStepLeft w.setup w.number c.args.call r begun v.seen) (sym c.given_up.ensures)
+    (no-memory w.number c.args.call begun v.seen (stepped-answered c.args.call c.requires.stepped) (brings-free c.args.call c.requires.brings) (c.land_at.ensures.left begun way))
