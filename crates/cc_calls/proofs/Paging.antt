@@ -23,8 +23,8 @@ use Rattle.cc_step.specs.Step.{most_asked}
 use Rattle.cc_turns.specs.Standing.{Standing}
 use Rattle.cc_writes.specs.Hands.{Went}
 use Rattle.cc_writes.specs.Visits.{CallIsOfStream, IsWaitedFor, TriedLeft}
-use Rattle.cc_writes.specs.declared.visits.Tried.{Tried}
-use Rattle.cc_writes.specs.declared.visits.Tried.TheVariants as tried
+use Rattle.cc_writes.specs.declared.course.Course.{Course}
+use Rattle.cc_writes.specs.declared.course.Course.TheVariants as course
 use Rattle.cc_writes.specs.declared.tell.Returned.{Returned}
 use Rattle.cc_writes.specs.Ways.{EndedSo, IsFull, IsFullCall}
 use Rattle.cc_writes.specs.Calls.{IsFullWriting}
@@ -103,7 +103,7 @@ pub record HasWaited (w v : Standing) (s page : ℕ) (it again : Call) (was now 
   pub waits : IsWaitedFor w.setup s it page v.seen
   pub same : now ≡ was
 
-pub has-waited : (w v : Standing) (s page : ℕ) (it again : Call) (was now : List ℕ) (ended : Tried) → ended ≡ tried.Waits page again → ((begun : List Entry) → IsUnderWay w.number it begun w.seen → TriedLeft w.setup w.number s it ended begun v.seen was now) → HasWaited w v s page it again was now
+pub has-waited : (w v : Standing) (s page : ℕ) (it again : Call) (was now : List ℕ) (ended : Course (ℕ × Call)) → ended ≡ course.GoesOn (page, again) → ((begun : List Entry) → IsUnderWay w.number it begun w.seen → TriedLeft w.setup w.number s it ended begun v.seen was now) → HasWaited w v s page it again was now
 has-waited w v s page it again was now ended is left =
     let k = rw is at (left w.seen (begins w.number it w.seen)) in
     record { call_is = k.0; way = k.1; waits = k.2; same = k.3 }

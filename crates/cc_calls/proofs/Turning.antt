@@ -27,8 +27,8 @@ use Rattle.cc_turns.specs.Takes.{Takes, with_book, without_book}
 use Rattle.cc_writes.specs.Hands.{HasBook, Went}
 use Rattle.cc_writes.specs.Visits.{IsFiledNow, IsFullTried, TriedLeft}
 use Rattle.cc_writes.specs.declared.tell.Returned.{Returned}
-use Rattle.cc_writes.specs.declared.visits.Tried.{Tried}
-use Rattle.cc_writes.specs.declared.visits.Tried.TheVariants as tried
+use Rattle.cc_writes.specs.declared.course.Course.{Course}
+use Rattle.cc_writes.specs.declared.course.Course.TheVariants as course
 use Rattle.cc_writes.specs.Fetch.{CanCall}
 use Rattle.cc_writes.proofs.Fullness.{full-answer}
 use Rattle.cc_calls.specs.Answers.{CallEnds}
@@ -66,7 +66,7 @@ module _ (w v : Standing) (s : ℕ) (b : BookState) (took : Takes (with_book s) 
       sound = subst (λ (past : List Entry). IsGoodSoFar v.setup past) took.grows.grew (so-far v.setup v.seen took.good)
 
   -- what an attempt with it leaves, the turn leaves
-  pub turn-left : (x y : Standing) (it : Call) (ended : Tried) (begun : List Entry) (was now : List ℕ) → y ≡ without_book x → (IsUnderWay v.number it begun v.seen → TriedLeft v.setup v.number b.stream it ended begun x.seen was now) → IsUnderWay w.number it begun w.seen → TriedLeft w.setup w.number s it ended begun y.seen was now
+  pub turn-left : (x y : Standing) (it : Call) (ended : Course (ℕ × Call)) (begun : List Entry) (was now : List ℕ) → y ≡ without_book x → (IsUnderWay v.number it begun v.seen → TriedLeft v.setup v.number b.stream it ended begun x.seen was now) → IsUnderWay w.number it begun w.seen → TriedLeft w.setup w.number s it ended begun y.seen was now
   turn-left x y it ended begun was now gave left way =
       let number : v.number ≡ w.number = ap (λ x. x.number) took.same in
       let idle : IsIdle w.number w.seen v.seen = record { during = took.grows.later; grew = took.grows.grew; others = took.grows.others } in
@@ -74,21 +74,21 @@ module _ (w v : Standing) (s : ℕ) (b : BookState) (took : Takes (with_book s) 
       rw (ap (λ x. x.seen) gave) (rw (ap (λ x. x.setup) took.same, number, b_is) at (left on))
 
   -- and where it found the journal full, the turn did
-  pub turn-full : (x y : Standing) (it : Call) (ended : Tried) → y ≡ without_book x → IsFullTried x b.stream it ended → IsFullTried y s it ended
+  pub turn-full : (x y : Standing) (it : Call) (ended : Course (ℕ × Call)) → y ≡ without_book x → IsFullTried x b.stream it ended → IsFullTried y s it ended
   turn-full x y it ended gave full = rw gave (given ended (subst (λ (n : ℕ). IsFullTried x n it ended) b_is full))
     where
-      given : (ended : Tried) → IsFullTried x s it ended → IsFullTried (without_book x) s it ended
-      given (tried.Ended (Ok told)) full = full
-      given (tried.Ended (Err (error.JournalFull entries))) full = full
-      given (tried.Ended (Err other)) full = full
-      given (tried.Waits page again) full = full
+      given : (ended : Course (ℕ × Call)) → IsFullTried x s it ended → IsFullTried (without_book x) s it ended
+      given (course.Ended (Ok told)) full = full
+      given (course.Ended (Err (error.JournalFull entries))) full = full
+      given (course.Ended (Err other)) full = full
+      given (course.GoesOn (page, again)) full = full
 
 -- a call that ended in it
-pub at-once : (w v : Standing) (s : ℕ) (it : Call) (ended : Tried) (answer : Result Returned CcError) (was now : List ℕ) → ended ≡ tried.Ended answer → Went w v → IsGood w.setup v.seen → IsFullTried v s it ended → TriedLeft w.setup w.number s it ended w.seen v.seen was now → CalledAtOnce w v it answer was now
+pub at-once : (w v : Standing) (s : ℕ) (it : Call) (ended : Course (ℕ × Call)) (answer : Result Returned CcError) (was now : List ℕ) → ended ≡ course.Ended answer → Went w v → IsGood w.setup v.seen → IsFullTried v s it ended → TriedLeft w.setup w.number s it ended w.seen v.seen was now → CalledAtOnce w v it answer was now
 at-once w v s it ended answer was now is went good full left = record {
-  left = subst (λ (t : Tried). TriedLeft w.setup w.number s it t w.seen v.seen was now) is left;
+  left = subst (λ (t : Course (ℕ × Call)). TriedLeft w.setup w.number s it t w.seen v.seen was now) is left;
   full = full-answer (asked_now v.seen s it) (most_asked it) v answer (most (holds_of (history v.seen s)) it)
-      (subst (λ (t : Tried). IsFullTried v s it t) is full).0;
+      (subst (λ (t : Course (ℕ × Call)). IsFullTried v s it t) is full).0;
   goes_on = went;
   good = good;
 }

@@ -14,7 +14,7 @@ ghost use Rattle.cc_calls.specs.Paged.{CalledAtOnce, Paged, is_paged};
 
 use cc_entry::{Call, CcError, StreamId};
 use cc_turns::Turns;
-use cc_writes::{Returned, Tried, attempt_at, fetch};
+use cc_writes::{Course, Returned, attempt_at, fetch};
 use std::alloc::Global;
 
 /// Makes a call that needs no page, in one turn of its stream's book, and answers what it returns to its caller.
@@ -34,8 +34,8 @@ pub fn call_at_once<T: Turns>(
     ensures full { IsFullOn stream call (T.standing turns.new) result }
 {
     match turned(alloc, turns, stream, call, out) {
-        Tried::Ended(answer) => answer,
-        Tried::Waits(..) => unreachable!(),
+        Course::Ended(answer) => answer,
+        Course::GoesOn(_) => unreachable!(),
     }
 }
 
@@ -55,8 +55,8 @@ pub fn call_paged<T: Turns>(
     ensures { Paged (T.standing turns.old) (T.standing turns.new) call result out.old out.new }
 {
     match turned(alloc, turns, stream, call, out) {
-        Tried::Ended(answer) => answer,
-        Tried::Waits(_, call) => fetch(alloc, turns, stream, call, out),
+        Course::Ended(answer) => answer,
+        Course::GoesOn((_, call)) => fetch(alloc, turns, stream, call, out),
     }
 }
 
@@ -67,7 +67,7 @@ fn turned<T: Turns>(
     stream: StreamId,
     call: Call,
     out: &mut [u8],
-) -> Tried
+) -> Course<(u64, Call)>
     requires can { CanCall (T.standing turns.old) stream }
     requires stepped { is_stepped call ≡ true }
     requires filed { IsFiledNow (T.standing turns.old) stream call }
@@ -81,7 +81,7 @@ fn turned<T: Turns>(
     ensures full { IsFullTried (T.standing turns.new) stream call result }
 {
     let mut book = turns.take_book(stream);
-    let tried = attempt_at(alloc, turns, &mut book, call, out);
+    let course = attempt_at(alloc, turns, &mut book, call, out);
     turns.give_book(stream, book);
-    tried
+    course
 }

@@ -1,5 +1,5 @@
 -- The steps of the write of a page on its book, until the page is ready to be stored.
-use Rattle.std.specs.Prelude.{◌≡◌, ℕ, ◌+◌, ◌-◌, ◌*◌, ◌/◌, ◌<◌, ◌≤◌, Bool, true, false, not, ◌==◌, min, List, [], ◌∷◌, Some, refl}
+use Rattle.std.specs.Prelude.{◌≡◌, ℕ, ◌+◌, ◌-◌, ◌*◌, ◌/◌, ◌<◌, ◌≤◌, Bool, true, false, not, ◌==◌, min, List, [], ◌∷◌, Some, Result, Ok, Err, refl}
 use Rattle.std.specs.List.{find, range_with_len}
 use Rattle.std.proofs.Common.{ap, ◌∙◌, arith}
 use Rattle.std.proofs.lemmas.Bool.{eq-eqb, lt-ltb}
@@ -7,12 +7,12 @@ use Rattle.cc_entry.specs.Pages.{block_of, pages_of}
 use Rattle.cc_entry.specs.Place.{File}
 use Rattle.cc_entry.specs.declared.call.Call.{Call}
 use Rattle.cc_entry.specs.declared.call.Call.TheVariants as call
+use Rattle.cc_entry.specs.declared.error.CcError.{CcError}
 use Rattle.cc_book.specs.Book.{BookState}
-use Rattle.cc_step.specs.Fill.{MakesWay}
-use Rattle.cc_step.specs.Fill.{NextLeft as WayLeft}
+use Rattle.cc_step.specs.Fill.{MakeRoomLeft, MakesWay}
 use Rattle.cc_step.specs.Room.{IsCrowded, has_room}
-use Rattle.cc_step.specs.declared.ways.Next.{Next as Way}
-use Rattle.cc_step.specs.declared.ways.Next.TheVariants as way
+use Rattle.cc_step.specs.declared.ways.Way.{Way}
+use Rattle.cc_step.specs.declared.ways.Way.TheVariants as way
 use Rattle.cc_step.proofs.Rooms.{full, room-within}
 use Rattle.cc_journal.specs.Journal.{JournalState}
 use Rattle.cc_laws.proofs.Lists1.{among-any}
@@ -85,10 +85,8 @@ module _ {Q : Type 0} (u : Setup) (pass : ℕ) (file : File) (page : ℕ) (b : B
       least = first (pages_of (stored_range page (size_of h))) (pages-stored page (size_of h) (below-size u j.entries h file page may.admitted))
 
   -- the step that makes room
-  pub made-room : (way : Way) (c : BookState) (k : JournalState Q) → MakesWay way → WayLeft u pass it way b c j k → WriteNextLeft u pass file page (next_of way) b c j k
-  made-room way.Done c k makes left = absurd makes
-  made-room (way.Refused e) c k makes left = absurd makes
-  made-room (way.WentOut again) c k makes left = (again, left)
-  made-room (way.Writes dirty again) c k makes left = (again, left)
-  made-room (way.Reads dirty again) c k makes left = absurd makes
-  made-room (way.Stopped e) c k makes left = (left.0, left.1)
+  pub made-room : (made : Result Way CcError) (c : BookState) (k : JournalState Q) → MakesWay made → MakeRoomLeft u pass it made b c j k → WriteNextLeft u pass file page (next_of made) b c j k
+  made-room (Ok (way.WentOut again)) c k makes left = (again, left)
+  made-room (Ok (way.Writes dirty again)) c k makes left = (again, left)
+  made-room (Ok (way.Reads dirty again)) c k makes left = absurd makes
+  made-room (Err e) c k makes left = (left.0, left.1)

@@ -1,14 +1,15 @@
 -- The steps of the write of a page on its book, until the page is ready to be stored.
-use Rattle.std.specs.Prelude.{◌≡◌, ℕ, ◌-◌}
+use Rattle.std.specs.Prelude.{◌≡◌, ℕ, ◌-◌, Result, Ok, Err}
 use Rattle.std.specs.declared.option.Option.TheVariants.{None}
 use Rattle.cc_entry.specs.Place.{File}
 use Rattle.cc_entry.specs.declared.call.Call.{Call}
 use Rattle.cc_entry.specs.declared.call.Call.TheVariants as call
+use Rattle.cc_entry.specs.declared.error.CcError.{CcError}
 use Rattle.cc_entry.specs.declared.error.CcError.TheVariants as error
 use Rattle.cc_book.specs.Book.{BookState}
 use Rattle.cc_step.specs.Fill.{HasToWrite, MadeWay, MayFill, book_page}
-use Rattle.cc_step.specs.declared.ways.Next.{Next as Way}
-use Rattle.cc_step.specs.declared.ways.Next.TheVariants as way
+use Rattle.cc_step.specs.declared.ways.Way.{Way}
+use Rattle.cc_step.specs.declared.ways.Way.TheVariants as way
 use Rattle.cc_journal.specs.Journal.{JournalState}
 use Rattle.cc_model.specs.History.{history}
 use Rattle.cc_model.specs.Refusals.{refusal}
@@ -41,8 +42,8 @@ pub record MayMakeRoom {Q : Type 0} (u : Setup) (pass : ℕ) (file : File) (page
   pub admitted : refusal u j.entries (history j.entries b.stream) (call.NcWrite file page) ≡ None
 
 -- the step that makes room
-abbrev pub next_of : Way → WriteNext
-next_of (way.WentOut again) = next.WentOut
-next_of (way.Writes dirty again) = next.Writes dirty
-next_of (way.Stopped e) = next.Stopped e
-next_of other = next.Stopped error.NoMemory
+abbrev pub next_of : Result Way CcError → WriteNext
+next_of (Ok (way.WentOut again)) = next.WentOut
+next_of (Ok (way.Writes dirty again)) = next.Writes dirty
+next_of (Ok (way.Reads page again)) = next.Stopped error.NoMemory
+next_of (Err e) = next.Stopped e

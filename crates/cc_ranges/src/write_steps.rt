@@ -12,7 +12,7 @@ ghost use Rattle.cc_ranges.specs.FlushSteps.{without_one};
 use cc_book::Book;
 use cc_entry::{Call, CcError, FileId, NoMemory};
 use cc_journal::Journal;
-use cc_step::{Next as Way, has_room, make_room};
+use cc_step::{Way, has_room, make_room};
 use std::alloc::Global;
 
 /// What the write of a page does next on its book.
@@ -103,14 +103,14 @@ fn admitted<Q>(
 }
 
 // The step that makes room.
-fn next_of(way: Way) -> WriteNext
-    requires { MakesWay way }
-    ensures { result ≡ next_of way }
+fn next_of(made: Result<Way, CcError>) -> WriteNext
+    requires { MakesWay made }
+    ensures { result ≡ next_of made }
 {
-    match way {
-        Way::WentOut(_call) => WriteNext::WentOut,
-        Way::Writes(page, _call) => WriteNext::Writes(page),
-        Way::Stopped(error) => WriteNext::Stopped(error),
-        _ => unreachable!(),
+    match made {
+        Ok(Way::WentOut(_call)) => WriteNext::WentOut,
+        Ok(Way::Writes(page, _call)) => WriteNext::Writes(page),
+        Ok(Way::Reads(..)) => unreachable!(),
+        Err(error) => WriteNext::Stopped(error),
     }
 }

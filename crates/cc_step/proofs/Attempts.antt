@@ -19,8 +19,8 @@ use Rattle.cc_step.proofs.Finishing.{may-more}
 use Rattle.cc_step.proofs.Placed.{so-far}
 use Rattle.cc_step.proofs.Reserved.{owed-least, reserved-failed}
 use Rattle.cc_step.specs.Step.{is_answered, is_stepped, StandUnder, asked_now, places_spared, MayStep, StepLeft, AttemptLeft, Adds, AddsOwing, GainsWith, IsStop, IsWantOf, has_placed}
-use Rattle.cc_step.specs.declared.steps.Stepped.{Stepped}
-use Rattle.cc_step.specs.declared.steps.Stepped.TheVariants as stepped
+use Rattle.cc_step.specs.declared.ways.Attempt.{Attempt}
+use Rattle.cc_step.specs.declared.ways.Attempt.TheVariants as attempt
 
 -- a journal with one place more reserved, and with one less
 abbrev pub reserving : {Q : Type 0} → JournalState Q → JournalState Q
@@ -78,8 +78,8 @@ forgone-within pass j within = most _ _ _ (owed-least j.entries pass) within
 pub stand-forgoing : {Q : Type 0} (u : Setup) (pass : ℕ) (c : BookState) (j k : JournalState Q) → StandUnder u c k → StandUnder u c (forgoing j pass k)
 stand-forgoing u pass c j k stand = record { good = stand.good; stands = stand.stands; logs_are = stand.logs_are; threshold_is = stand.threshold_is }
 
-pub placed-attempt : {Q : Type 0} (u : Setup) (pass more : ℕ) (it : Call) (ended : Stepped) (b c : BookState) (j k : JournalState Q) → b.stream < 16 → is_stepped it ≡ true → MayStep u pass it b j → asked_now j.entries b.stream it ≡ suc more → has_placed ended ≡ true → StepLeft u pass more it ended b c (reserving j) k → AttemptLeft u pass it ended b c j (forgoing j pass k)
-placed-attempt u pass more it stepped.Done b c j k below here may asks placed left = (
+pub placed-attempt : {Q : Type 0} (u : Setup) (pass more : ℕ) (it : Call) (ended : Attempt (ℕ × Call)) (b c : BookState) (j k : JournalState Q) → b.stream < 16 → is_stepped it ≡ true → MayStep u pass it b j → asked_now j.entries b.stream it ≡ suc more → has_placed ended ≡ true → StepLeft u pass more it ended b c (reserving j) k → AttemptLeft u pass it ended b c j (forgoing j pass k)
+placed-attempt u pass more it attempt.Done b c j k below here may asks placed left = (
   left.0,
   record {
     placed = adds-owing u pass more it left.0 b j k below here may asks left.1.placed;
@@ -87,29 +87,29 @@ placed-attempt u pass more it stepped.Done b c j k below here may asks placed le
     stream = left.1.stream;
   },
 )
-placed-attempt u pass more it (stepped.Refused e) b c j k below here may asks placed left = record {
+placed-attempt u pass more it (attempt.Refused e) b c j k below here may asks placed left = record {
   reason = left.reason;
   placed = failed-owing pass it e b j k (stepped-answered it here) may.owed (adds-reserving (failed pass j.entries b.stream it e) j k left.placed);
   stand = stand-forgoing u pass c j k left.stand;
   same = left.same;
 }
-placed-attempt u pass more it (stepped.Waits page again) b c j k below here may asks placed left = absurd (cc)
-placed-attempt u pass more it (stepped.Stopped e) b c j k below here may asks placed left = absurd (cc)
+placed-attempt u pass more it (attempt.GoesOn (page, again)) b c j k below here may asks placed left = absurd (cc)
+placed-attempt u pass more it (attempt.Stopped e) b c j k below here may asks placed left = absurd (cc)
 
 -- what the pass owed is still reserved once the entry is placed
-pub forgone-placed : {Q : Type 0} (u : Setup) (pass more : ℕ) (it : Call) (ended : Stepped) (b c : BookState) (j k : JournalState Q) → b.stream < 16 → is_stepped it ≡ true → MayStep u pass it b j → asked_now j.entries b.stream it ≡ suc more → has_placed ended ≡ true → StepLeft u pass more it ended b c (reserving j) k → owed_end j.entries pass ≤ k.reserved
-forgone-placed {Q} u pass more it stepped.Done b c j k below here may asks placed left =
+pub forgone-placed : {Q : Type 0} (u : Setup) (pass more : ℕ) (it : Call) (ended : Attempt (ℕ × Call)) (b c : BookState) (j k : JournalState Q) → b.stream < 16 → is_stepped it ≡ true → MayStep u pass it b j → asked_now j.entries b.stream it ≡ suc more → has_placed ended ≡ true → StepLeft u pass more it ended b c (reserving j) k → owed_end j.entries pass ≤ k.reserved
+forgone-placed {Q} u pass more it attempt.Done b c j k below here may asks placed left =
     within _ _ _ (forgone-within pass j may.owed) (ap (λ (x : JournalState Q). x.reserved) left.1.placed)
   where
     within : (owed reserved now : ℕ) → owed ≤ reserved → now ≡ ((reserved + 1) - 1) + more → owed ≤ now
     within owed reserved now most is = omega (arith, most, is)
-forgone-placed {Q} u pass more it (stepped.Refused e) b c j k below here may asks placed left =
+forgone-placed {Q} u pass more it (attempt.Refused e) b c j k below here may asks placed left =
     within _ _ _ (forgone-within pass j may.owed) (ap (λ (x : JournalState Q). x.reserved) left.placed)
   where
     within : (owed reserved now : ℕ) → owed ≤ reserved → now ≡ (reserved + 1) - 1 → owed ≤ now
     within owed reserved now most is = omega (arith, most, is)
-forgone-placed u pass more it (stepped.Waits page again) b c j k below here may asks placed left = absurd (cc)
-forgone-placed u pass more it (stepped.Stopped e) b c j k below here may asks placed left = absurd (cc)
+forgone-placed u pass more it (attempt.GoesOn (page, again)) b c j k below here may asks placed left = absurd (cc)
+forgone-placed u pass more it (attempt.Stopped e) b c j k below here may asks placed left = absurd (cc)
 
 -- a step that stopped for want of so many more places is an attempt that stopped for want of all that it asks
 stop : {Q : Type 0} (more asked : ℕ) (e : CcError) (j : JournalState Q) → asked ≡ suc more → IsWantOf more e (reserving j) → IsStop asked e j
@@ -122,17 +122,17 @@ stop more asked e j asks (inr none) = inr (none, some)
     some : 0 < asked
     some = omega (arith, asks)
 
-pub left-attempt : {Q : Type 0} (u : Setup) (pass more : ℕ) (it : Call) (ended : Stepped) (b c : BookState) (j k : JournalState Q) → asked_now j.entries b.stream it ≡ suc more → has_placed ended ≡ false → StepLeft u pass more it ended b c (reserving j) k → AttemptLeft u pass it ended b c j (releasing k)
-left-attempt u pass more it stepped.Done b c j k asks placed left = absurd (cc)
-left-attempt u pass more it (stepped.Refused e) b c j k asks placed left = absurd (cc)
-left-attempt u pass more it (stepped.Waits page again) b c j k asks placed left = record {
+pub left-attempt : {Q : Type 0} (u : Setup) (pass more : ℕ) (it : Call) (ended : Attempt (ℕ × Call)) (b c : BookState) (j k : JournalState Q) → asked_now j.entries b.stream it ≡ suc more → has_placed ended ≡ false → StepLeft u pass more it ended b c (reserving j) k → AttemptLeft u pass it ended b c j (releasing k)
+left-attempt u pass more it attempt.Done b c j k asks placed left = absurd (cc)
+left-attempt u pass more it (attempt.Refused e) b c j k asks placed left = absurd (cc)
+left-attempt u pass more it (attempt.GoesOn (page, again)) b c j k asks placed left = record {
   admitted = left.admitted;
   least = left.least;
   call_is = left.call_is;
   same_book = left.same_book;
   same_journal = ap releasing left.same_journal ∙ ap (λ (n : ℕ). record j { reserved = n }) (back j.reserved);
 }
-left-attempt u pass more it (stepped.Stopped e) b c j k asks placed left = (
+left-attempt u pass more it (attempt.Stopped e) b c j k asks placed left = (
   stop more (asked_now j.entries b.stream it) e j asks left.0,
   record {
     same_journal = ap releasing left.1.same_journal ∙ ap (λ (n : ℕ). record j { reserved = n }) (back j.reserved);
@@ -142,8 +142,8 @@ left-attempt u pass more it (stepped.Stopped e) b c j k asks placed left = (
   inr left.2,
 )
 
-pub one-reserved : {Q : Type 0} (u : Setup) (pass more : ℕ) (it : Call) (ended : Stepped) (b c : BookState) (j k : JournalState Q) → has_placed ended ≡ false → StepLeft u pass more it ended b c (reserving j) k → k.reserved ≡ j.reserved + 1
-one-reserved u pass more it stepped.Done b c j k placed left = absurd (cc)
-one-reserved u pass more it (stepped.Refused e) b c j k placed left = absurd (cc)
-one-reserved u pass more it (stepped.Waits page again) b c j k placed left = ap (λ x. x.reserved) left.same_journal
-one-reserved u pass more it (stepped.Stopped e) b c j k placed left = ap (λ x. x.reserved) left.1.same_journal
+pub one-reserved : {Q : Type 0} (u : Setup) (pass more : ℕ) (it : Call) (ended : Attempt (ℕ × Call)) (b c : BookState) (j k : JournalState Q) → has_placed ended ≡ false → StepLeft u pass more it ended b c (reserving j) k → k.reserved ≡ j.reserved + 1
+one-reserved u pass more it attempt.Done b c j k placed left = absurd (cc)
+one-reserved u pass more it (attempt.Refused e) b c j k placed left = absurd (cc)
+one-reserved u pass more it (attempt.GoesOn (page, again)) b c j k placed left = ap (λ x. x.reserved) left.same_journal
+one-reserved u pass more it (attempt.Stopped e) b c j k placed left = ap (λ x. x.reserved) left.1.same_journal

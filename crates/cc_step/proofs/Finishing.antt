@@ -11,8 +11,8 @@ use Rattle.cc_journal.specs.Journal.{JournalState}
 use Rattle.cc_model.specs.Room.{reserved_in}
 use Rattle.cc_model.specs.Setup.{Setup}
 use Rattle.cc_step.specs.Step.{IsReadyFor, IsReadyWhenFull, MayStep, StepLeft, StepPlacingLeft}
-use Rattle.cc_step.specs.declared.steps.Stepped.{Stepped}
-use Rattle.cc_step.specs.declared.steps.Stepped.TheVariants as stepped
+use Rattle.cc_step.specs.declared.ways.Attempt.{Attempt}
+use Rattle.cc_step.specs.declared.ways.Attempt.TheVariants as attempt
 
 -- a journal with so many places more reserved
 abbrev pub reserving-more : {Q : Type 0} → ℕ → JournalState Q → JournalState Q
@@ -33,8 +33,8 @@ pub ready-full : (u : Setup) (past : List Entry) (s : ℕ) (it : Call) (e : CcEr
 ready-full u past s it (error.JournalFull entries) ready = ready
 ready-full u past s it other ready = tt
 
-pub placed-step : {Q : Type 0} (u : Setup) (pass more : ℕ) (it : Call) (r : Reply) (ended : Stepped) (b c : BookState) (j k : JournalState Q) → 0 < j.reserved → StepPlacingLeft u pass more it r ended b c (reserving-more more j) k → StepLeft u pass more it ended b c j k
-placed-step u pass more it r stepped.Done b c j k some left = (
+pub placed-step : {Q : Type 0} (u : Setup) (pass more : ℕ) (it : Call) (r : Reply) (ended : Attempt (ℕ × Call)) (b c : BookState) (j k : JournalState Q) → 0 < j.reserved → StepPlacingLeft u pass more it r ended b c (reserving-more more j) k → StepLeft u pass more it ended b c j k
+placed-step u pass more it r attempt.Done b c j k some left = (
   r,
   record {
     placed = left.0 ∙ ap (λ (n : ℕ). record j { entries = done pass j.entries b.stream it r ∷ j.entries; reserved = n; rows = k.rows }) (turned j.reserved some);
@@ -45,7 +45,7 @@ placed-step u pass more it r stepped.Done b c j k some left = (
   where
     turned : (n : ℕ) → 0 < n → (n + more) - 1 ≡ (n - 1) + more
     turned n some_place = omega (arith, some_place)
-placed-step u pass more it r (stepped.Stopped e) b c j k some left = (
+placed-step u pass more it r (attempt.Stopped e) b c j k some left = (
   inr left.0,
   record {
     same_journal = left.1 ∙ ap (λ (n : ℕ). record j { reserved = n }) (back j.reserved);
@@ -57,5 +57,5 @@ placed-step u pass more it r (stepped.Stopped e) b c j k some left = (
   where
     back : (n : ℕ) → (n + more) - more ≡ n
     back n = omega arith
-placed-step u pass more it r (stepped.Refused e) b c j k some left = absurd left
-placed-step u pass more it r (stepped.Waits page again) b c j k some left = absurd left
+placed-step u pass more it r (attempt.Refused e) b c j k some left = absurd left
+placed-step u pass more it r (attempt.GoesOn (page, again)) b c j k some left = absurd left

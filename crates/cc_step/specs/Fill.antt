@@ -6,8 +6,8 @@ use Rattle.cc_entry.specs.Place.{Page}
 use Rattle.cc_entry.specs.declared.call.Call.{Call}
 use Rattle.cc_entry.specs.declared.entry.Entry.{Entry}
 use Rattle.cc_entry.specs.declared.entry.Entry.TheVariants as entry
+use Rattle.cc_entry.specs.declared.error.CcError.{CcError}
 use Rattle.cc_entry.specs.declared.error.NoMemory.{NoMemory}
-use Rattle.cc_entry.specs.declared.reply.Reply.{Reply}
 use Rattle.cc_book.specs.Book.{BookState, Gains, book_page_in}
 use Rattle.cc_content.specs.Filling.{IsReadFrom}
 use Rattle.cc_effects.specs.Asked.{is_admitted, reaches, is_in_the_way, makes_way}
@@ -21,10 +21,11 @@ use Rattle.cc_model.specs.Settings.{quota_of}
 use Rattle.cc_model.specs.Setup.{Setup}
 use Rattle.cc_model.specs.Stamps.{is_unstamped}
 use Rattle.cc_model.specs.Touches.{valid_of, is_dirty}
-use Rattle.cc_step.specs.Step.{StandUnder, MayStep, least_absent, needed_range, IsNeeding, is_awaited, most_asked, Adds, AttemptDone, AttemptRefused, IsShort, IsStop, FoundNone}
+use Rattle.cc_step.specs.Step.{StandUnder, MayStep, least_absent, needed_range, IsNeeding, is_awaited, most_asked, Adds, AttemptEnded, AttemptStopped}
 use Rattle.cc_step.specs.Room.{has_room}
-use Rattle.cc_step.specs.declared.ways.Next.{Next}
-use Rattle.cc_step.specs.declared.ways.Next.TheVariants as next
+use Rattle.cc_step.specs.declared.ways.Attempt.{Attempt}
+use Rattle.cc_step.specs.declared.ways.Way.{Way}
+use Rattle.cc_step.specs.declared.ways.Way.TheVariants as way
 
 -- What a pass asks of a book for such a call: it may step there, and no transfer of the stream is under way.
 pub record MayFill {Q : Type 0} (u : Setup) (pass : ℕ) (it : Call) (b : BookState) (j : JournalState Q) : Type 0 where
@@ -70,24 +71,30 @@ pub record HasToRead {Q : Type 0} (u : Setup) (page : ℕ) (it again : Call)
   pub same_book : c ≡ b
   pub reserved : k ≡ record j { reserved = j.reserved + 1 }
 
--- What such a call did next, by cases.
-abbrev pub NextLeft : {Q : Type 0} → Setup → ℕ → Call → Next
+-- How a call that waits for a page goes on, by cases.
+abbrev pub WayLeft : {Q : Type 0} → Setup → ℕ → Call → Way → BookState → BookState → JournalState Q → JournalState Q → Type 0
+WayLeft u pass it (way.WentOut again) b c j k = MadeWay u pass it again b c j k
+WayLeft u pass it (way.Writes page again) b c j k = HasToWrite u page it again b c j k
+WayLeft u pass it (way.Reads page again) b c j k = HasToRead u page it again b c j k
+
+-- What such a call did next: it was done or refused, or stopped, or goes on.
+abbrev pub NextLeft : {Q : Type 0} → Setup → ℕ → Call → Attempt Way
     → BookState → BookState → JournalState Q → JournalState Q → Type 0
-NextLeft u pass it next.Done b c j k = (r : Reply) × AttemptDone u pass it r b c j k
-NextLeft u pass it (next.Refused e) b c j k = AttemptRefused u pass it e b c j k
-NextLeft u pass it (next.WentOut again) b c j k = MadeWay u pass it again b c j k
-NextLeft u pass it (next.Writes page again) b c j k = HasToWrite u page it again b c j k
-NextLeft u pass it (next.Reads page again) b c j k = HasToRead u page it again b c j k
-NextLeft u pass it (next.Stopped e) b c j k = IsStop (most_asked it) e j × FoundNone u b c j k × IsShort u b.stream it e j
+NextLeft u pass it ended b c j k =
+    AttemptEnded (λ (taken : Way). WayLeft u pass it taken b c j k) u pass (most_asked it) it ended b c j k
+
+-- What the making of room for such a call leaves: it goes on, or it stopped.
+abbrev pub MakeRoomLeft : {Q : Type 0} → Setup → ℕ → Call → Result Way CcError
+    → BookState → BookState → JournalState Q → JournalState Q → Type 0
+MakeRoomLeft u pass it (Ok taken) b c j k = WayLeft u pass it taken b c j k
+MakeRoomLeft u pass it (Err e) b c j k = AttemptStopped u (most_asked it) it e b c j k
 
 -- Room is made: a page went out, or one is to be written before, or the journal's room or memory was wanting.
-abbrev pub MakesWay : Next → Type 0
-MakesWay next.Done = ⊥
-MakesWay (next.Refused e) = ⊥
-MakesWay (next.WentOut again) = Unit {0}
-MakesWay (next.Writes page again) = Unit {0}
-MakesWay (next.Reads page again) = ⊥
-MakesWay (next.Stopped e) = Unit {0}
+abbrev pub MakesWay : Result Way CcError → Type 0
+MakesWay (Ok (way.WentOut again)) = Unit {0}
+MakesWay (Ok (way.Writes page again)) = Unit {0}
+MakesWay (Ok (way.Reads page again)) = ⊥
+MakesWay (Err e) = Unit {0}
 
 -- What was read of a page, where it was read, is what its stream's disk has of it, if the page is not resident.
 abbrev pub PageIsRead : Setup → List Entry → ℕ → ℕ → Option (List ℕ) → Type 0

@@ -27,8 +27,8 @@ use Rattle.cc_model.specs.Residency.{is_resident}
 use Rattle.cc_model.specs.Room.{owes_set_dirty, places_asked, reserved_in}
 use Rattle.cc_model.specs.Setup.{Setup}
 use Rattle.cc_model.specs.Touches.{size_of}
-use Rattle.cc_step.specs.declared.steps.Stepped.{Stepped}
-use Rattle.cc_step.specs.declared.steps.Stepped.TheVariants as stepped
+use Rattle.cc_step.specs.declared.ways.Attempt.{Attempt}
+use Rattle.cc_step.specs.declared.ways.Attempt.TheVariants as attempt
 
 -- Whether a call is done here, from the book of its stream and the journal alone. The others need a device, a sync or
 -- pages that go, or belong to no stream.
@@ -119,11 +119,11 @@ IsWantOf more e j = ((e ≡ error.JournalFull (length j.entries)) × (room_of j 
 
 -- What the placing of a done call's entry leaves, for which so many more places are reserved: they stay with it, or are
 -- given back where there is no memory.
-abbrev pub StepPlacingLeft : {Q : Type 0} → Setup → ℕ → ℕ → Call → Reply → Stepped
+abbrev pub StepPlacingLeft : {Q : Type 0} → Setup → ℕ → ℕ → Call → Reply → Attempt (ℕ × Call)
     → BookState → BookState → JournalState Q → JournalState Q → Type 0
-StepPlacingLeft u pass more it r stepped.Done b c j k =
+StepPlacingLeft u pass more it r attempt.Done b c j k =
     Gains (done pass j.entries b.stream it r) j k × StandUnder u c k × (c.stream ≡ b.stream)
-StepPlacingLeft u pass more it r (stepped.Stopped e) b c j k =
+StepPlacingLeft u pass more it r (attempt.Stopped e) b c j k =
     (e ≡ error.NoMemory) × (k ≡ record j { reserved = j.reserved - more }) × StandUnder u c k × (c.stream ≡ b.stream)
 StepPlacingLeft u pass more it r other b c j k = ⊥
 
@@ -133,12 +133,13 @@ IsReadyWhenFull u past s it (error.JournalFull entries) = IsReadyFor u past s it
 IsReadyWhenFull u past s it other = Unit {0}
 
 -- What the step of a call leaves, that reserves so many more places where it is done, by cases over how it ended.
-abbrev pub StepLeft : {Q : Type 0} → Setup → ℕ → ℕ → Call → Stepped → BookState → BookState → JournalState Q → JournalState Q → Type 0
-StepLeft u pass more it stepped.Done b c j k = (r : Reply) × StepIsDone u pass more it r b c j k
-StepLeft u pass more it (stepped.Refused e) b c j k = StepIsRefused u pass it e b c j k
-StepLeft u pass more it (stepped.Waits page again) b c j k = StepWaits u page it again b c j k
-StepLeft u pass more it (stepped.Stopped e) b c j k =
+abbrev pub StepLeft : {Q : Type 0} → Setup → ℕ → ℕ → Call → Attempt (ℕ × Call)
+    → BookState → BookState → JournalState Q → JournalState Q → Type 0
+StepLeft u pass more it attempt.Done b c j k = (r : Reply) × StepIsDone u pass more it r b c j k
+StepLeft u pass more it (attempt.Refused e) b c j k = StepIsRefused u pass it e b c j k
+StepLeft u pass more it (attempt.Stopped e) b c j k =
     IsWantOf more e j × FoundNone u b c j k × IsReadyWhenFull u j.entries b.stream it e
+StepLeft u pass more it (attempt.GoesOn (page, again)) b c j k = StepWaits u page it again b c j k
 
 -- Whether the entry of a call that is refused or fails is placed here: that of each call that is stepped, and of those
 -- that are done elsewhere, once they have synced, emptied a span, read the disk or stored a page.
@@ -204,20 +205,31 @@ IsStop asked e j =
 abbrev pub IsShort : {Q : Type 0} → Setup → ℕ → Call → CcError → JournalState Q → Type 0
 IsShort u s it e j = (room_of j < 1) ⊎ IsReadyWhenFull u j.entries s it e
 
--- What an attempt at a call leaves, by cases over how it ended.
-abbrev pub AttemptLeft : {Q : Type 0} → Setup → ℕ → Call → Stepped → BookState → BookState → JournalState Q → JournalState Q → Type 0
-AttemptLeft u pass it stepped.Done b c j k = (r : Reply) × AttemptDone u pass it r b c j k
-AttemptLeft u pass it (stepped.Refused e) b c j k = AttemptRefused u pass it e b c j k
-AttemptLeft u pass it (stepped.Waits page again) b c j k = StepWaits u page it again b c j k
-AttemptLeft u pass it (stepped.Stopped e) b c j k =
-    IsStop (asked_now j.entries b.stream it) e j × FoundNone u b c j k × IsShort u b.stream it e j
+-- it stopped, which asks so many places at most, and left no entry
+abbrev pub AttemptStopped : {Q : Type 0} → Setup → ℕ → Call → CcError → BookState → BookState → JournalState Q → JournalState Q → Type 0
+AttemptStopped u asked it e b c j k = IsStop asked e j × FoundNone u b c j k × IsShort u b.stream it e j
+
+-- What an attempt at a call leaves that asks so many places at most, by cases over how it ended; where the call goes on,
+-- that is so which is said of the way.
+abbrev pub AttemptEnded : {T : Type 0} {Q : Type 0} → (T → Type 0) → Setup → ℕ → ℕ → Call → Attempt T
+    → BookState → BookState → JournalState Q → JournalState Q → Type 0
+AttemptEnded said u pass asked it attempt.Done b c j k = (r : Reply) × AttemptDone u pass it r b c j k
+AttemptEnded said u pass asked it (attempt.Refused e) b c j k = AttemptRefused u pass it e b c j k
+AttemptEnded said u pass asked it (attempt.Stopped e) b c j k = AttemptStopped u asked it e b c j k
+AttemptEnded said u pass asked it (attempt.GoesOn way) b c j k = said way
+
+-- What an attempt at a call leaves: where the call goes on, it waits for a page.
+abbrev pub AttemptLeft : {Q : Type 0} → Setup → ℕ → Call → Attempt (ℕ × Call)
+    → BookState → BookState → JournalState Q → JournalState Q → Type 0
+AttemptLeft u pass it ended b c j k =
+    AttemptEnded (λ (waits : ℕ × Call). StepWaits u waits.0 it waits.1 b c j k) u pass (asked_now j.entries b.stream it) it ended b c j k
 
 -- whether the step of a call that ended so placed an entry
-abbrev pub has_placed : Stepped → Bool
-has_placed stepped.Done = true
-has_placed (stepped.Refused e) = true
-has_placed (stepped.Waits page again) = false
-has_placed (stepped.Stopped e) = false
+abbrev pub has_placed : {T : Type 0} → Attempt T → Bool
+has_placed attempt.Done = true
+has_placed (attempt.Refused e) = true
+has_placed (attempt.Stopped e) = false
+has_placed (attempt.GoesOn way) = false
 
 -- The page that a call waits for, given what refuses it: none where that is anything, else the least that it needs and
 -- that is not resident, if there is one.

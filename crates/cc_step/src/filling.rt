@@ -7,12 +7,12 @@ ghost use Rattle.cc_model.specs.Ranges.{range_of};
 ghost use Rattle.cc_model.specs.Setup.{Setup};
 ghost use Rattle.cc_model.specs.Touches.{size_of};
 ghost use Rattle.cc_step.specs.Step.{is_answered, is_stepped};
-ghost use Rattle.cc_step.specs.Fill.{MayFill, NextLeft, MakesWay};
+ghost use Rattle.cc_step.specs.Fill.{MayFill, NextLeft, MakeRoomLeft, MakesWay};
 ghost use Rattle.cc_step.specs.Room.{IsWaiting, IsCrowded, IsToGo, IsDirtyIn};
 
+use crate::attempt;
 use crate::room::{block_to_go, dirty_in, has_room, least_in, page_id};
-use crate::ways::Next;
-use crate::{Stepped, attempt};
+use crate::ways::{Attempt, Way};
 use cc_book::Book;
 use cc_entry::{Call, CcError};
 use cc_journal::Journal;
@@ -27,7 +27,7 @@ pub fn next<Q>(
     journal: &mut Journal<Q>,
     pass: u32,
     call: Call,
-) -> Next
+) -> Attempt<Way>
     requires stepped { is_stepped call ≡ true }
     requires brings { brings_in call ≡ true }
     requires may { (u : Setup) × MayFill u pass call book.old journal.old }
@@ -35,10 +35,10 @@ pub fn next<Q>(
         NextLeft u pass call result book.old book.new journal.old journal.new }
 {
     match attempt(alloc, book, journal, pass, call) {
-        Stepped::Done => Next::Done,
-        Stepped::Refused(error) => Next::Refused(error),
-        Stepped::Waits(page, call) => bring(alloc, book, journal, pass, page, call),
-        Stepped::Stopped(error) => Next::Stopped(error),
+        Attempt::Done => Attempt::Done,
+        Attempt::Refused(error) => Attempt::Refused(error),
+        Attempt::Stopped(error) => Attempt::Stopped(error),
+        Attempt::GoesOn((page, call)) => bring(alloc, book, journal, pass, page, call),
     }
 }
 
@@ -50,7 +50,7 @@ fn bring<Q>(
     pass: u32,
     page: u64,
     call: Call,
-) -> Next
+) -> Attempt<Way>
     requires stepped { is_stepped call ≡ true }
     requires brings { brings_in call ≡ true }
     requires may { (u : Setup) × MayFill u pass call book.old journal.old
@@ -61,42 +61,51 @@ fn bring<Q>(
 {
     if has_room(book, page) {
         match journal.reserve(1) {
-            Ok(()) => Next::Reads(page, call),
-            Err(error) => Next::Stopped(error),
+            Ok(()) => Attempt::GoesOn(Way::Reads(page, call)),
+            Err(error) => Attempt::Stopped(error),
         }
     } else {
-        make_room(alloc, book, journal, pass, call)
+        match make_room(alloc, book, journal, pass, call) {
+            Ok(way) => Attempt::GoesOn(way),
+            Err(error) => Attempt::Stopped(error),
+        }
     }
 }
 
 /// Makes room for the block of the page that a call waits for: a dirty page of the block to give up is to be written, or
 /// its least page goes out.
 ///
-/// `Stopped` with `JournalFull` or `NoMemory`.
+/// `JournalFull`, `NoMemory`.
 pub fn make_room<Q>(
     alloc: Global,
     book: &mut Book,
     journal: &mut Journal<Q>,
     pass: u32,
     call: Call,
-) -> Next
+) -> Result<Way, CcError>
     requires answered { is_answered call ≡ true }
     requires room { makes_room call ≡ true }
     requires may { (u : Setup) × (page : ℕ) × MayFill u pass call book.old journal.old
         × IsCrowded u journal.old.entries call page book.old }
     ensures left { (u : Setup) (page : ℕ) → MayFill u pass call book.old journal.old →
         IsCrowded u journal.old.entries call page book.old →
-        NextLeft u pass call result book.old book.new journal.old journal.new }
+        MakeRoomLeft u pass call result book.old book.new journal.old journal.new }
     ensures way { MakesWay result }
 {
     match block_to_go(alloc, book, &call) {
         Ok(block) => give_up(book, journal, pass, block, call),
-        Err(_) => Next::Stopped(CcError::NoMemory),
+        Err(_) => Err(CcError::NoMemory),
     }
 }
 
 // Goes on with the block to give up: a dirty page of it is to be written, or its least page goes out.
-fn give_up<Q>(book: &mut Book, journal: &mut Journal<Q>, pass: u32, block: u64, call: Call) -> Next
+fn give_up<Q>(
+    book: &mut Book,
+    journal: &mut Journal<Q>,
+    pass: u32,
+    block: u64,
+    call: Call,
+) -> Result<Way, CcError>
     requires answered { is_answered call ≡ true }
     requires room { makes_room call ≡ true }
     requires may { (u : Setup) × (page : ℕ) × MayFill u pass call book.old journal.old
@@ -107,17 +116,23 @@ fn give_up<Q>(book: &mut Book, journal: &mut Journal<Q>, pass: u32, block: u64, 
         IsCrowded u journal.old.entries call page book.old →
         IsToGo (history journal.old.entries book.old.stream)
         (range_of (size_of (history journal.old.entries book.old.stream)) call) block →
-        NextLeft u pass call result book.old book.new journal.old journal.new }
+        MakeRoomLeft u pass call result book.old book.new journal.old journal.new }
     ensures way { MakesWay result }
 {
     match dirty_in(book, journal, block) {
-        Some(page) => Next::Writes(page, call),
+        Some(page) => Ok(Way::Writes(page, call)),
         None => empty(book, journal, pass, block, call),
     }
 }
 
 // Takes the least page out of the block to give up, of which no page is dirty.
-fn empty<Q>(book: &mut Book, journal: &mut Journal<Q>, pass: u32, block: u64, call: Call) -> Next
+fn empty<Q>(
+    book: &mut Book,
+    journal: &mut Journal<Q>,
+    pass: u32,
+    block: u64,
+    call: Call,
+) -> Result<Way, CcError>
     requires answered { is_answered call ≡ true }
     requires room { makes_room call ≡ true }
     requires may { (u : Setup) × (page : ℕ) × MayFill u pass call book.old journal.old
@@ -130,7 +145,7 @@ fn empty<Q>(book: &mut Book, journal: &mut Journal<Q>, pass: u32, block: u64, ca
         IsToGo (history journal.old.entries book.old.stream)
         (range_of (size_of (history journal.old.entries book.old.stream)) call) block →
         IsDirtyIn (history journal.old.entries book.old.stream) block None →
-        NextLeft u pass call result book.old book.new journal.old journal.new }
+        MakeRoomLeft u pass call result book.old book.new journal.old journal.new }
     ensures way { MakesWay result }
 {
     let page = least_in(book, block).unwrap();
@@ -138,8 +153,8 @@ fn empty<Q>(book: &mut Book, journal: &mut Journal<Q>, pass: u32, block: u64, ca
         Ok(()) => {
             let going = page_id(book, page);
             book.take_out(journal, pass, going);
-            Next::WentOut(call)
+            Ok(Way::WentOut(call))
         }
-        Err(error) => Next::Stopped(error),
+        Err(error) => Err(error),
     }
 }

@@ -13,9 +13,9 @@
 //! page is shown only where it is still what the page has.
 //!
 //! `steps` has the step, `replies` what a call answers, and `faults` the end of a call that met a fault. `filling` has
-//! what comes next for a call that waits, in the `ways` of `Next`, `room` the room for a block and the block to give up,
-//! and `landing` a page that was looked for on the disk. The device is read and written above, where the calls over turns
-//! stand; below is the book of a stream (`cc_book`) with the journal (`cc_journal`).
+//! what comes next for a call that waits, `ways` how an attempt ends and how a call goes on, `room` the room for a block
+//! and the block to give up, and `landing` a page that was looked for on the disk. The device is read and written above,
+//! where the calls over turns stand; below is the book of a stream (`cc_book`) with the journal (`cc_journal`).
 #![tactic(auto)]
 
 mod faults;
@@ -31,5 +31,5 @@ pub use filling::{make_room, next};
 pub use landing::{land_on_book, unread};
 pub use replies::reply;
 pub use room::has_room;
-pub use steps::{Stepped, absent, attempt, places_asked, places_spared, waits_for};
-pub use ways::Next;
+pub use steps::{absent, attempt, places_asked, places_spared, waits_for};
+pub use ways::{Attempt, Way};

@@ -13,23 +13,11 @@ ghost use Rattle.cc_book.specs.Book.{BookStands};
 ghost use Rattle.cc_step.specs.Step.{is_stepped, asked_now, places_spared, StandUnder, MayStep, IsReadyFor, IsReplyOf, StepLeft, StepPlacingLeft, AttemptLeft, has_placed, least_absent, needed_range, awaited};
 
 use crate::replies::reply;
+use crate::ways::Attempt;
 use cc_book::Book;
 use cc_entry::{Call, CcError, NoMemory, Reply, Request};
 use cc_journal::Journal;
 use std::alloc::Global;
-
-/// How the step of a call ended.
-#[derive(Drop)]
-pub enum Stepped {
-    /// The call was done. Its entry, the journal's last, has the reply.
-    Done,
-    /// The call was refused. Its entry has the refusal too.
-    Refused(CcError),
-    /// The call waits for this page, and is handed back.
-    Waits(u64, Call),
-    /// There was no room in the journal (`JournalFull`) or no memory (`NoMemory`). The call left no entry.
-    Stopped(CcError),
-}
 
 /// Takes the step of a call by this pass where the journal has room for its entry and for what it reserves with it. A
 /// set-dirty that was reserved, and the end of a hold, have their place and take no memory. Where the pass owed the end of
@@ -42,7 +30,7 @@ pub fn attempt<Q>(
     journal: &mut Journal<Q>,
     pass: u32,
     call: Call,
-) -> Stepped
+) -> Attempt<(u64, Call)>
     requires stepped { is_stepped call ≡ true }
     requires may { (u : Setup) × MayStep u pass call book.old journal.old }
     ensures { (u : Setup) → MayStep u pass call book.old journal.old →
@@ -75,12 +63,12 @@ pub fn waits_for<Q>(
 }
 
 // Whether the step of a call that ended so placed an entry.
-fn has_placed(ended: &Stepped) -> bool
+fn has_placed<T>(ended: &Attempt<T>) -> bool
     ensures { result ≡ has_placed ended.now }
 {
     match ended {
-        Stepped::Done | Stepped::Refused(_) => true,
-        Stepped::Waits(..) | Stepped::Stopped(_) => false,
+        Attempt::Done | Attempt::Refused(_) => true,
+        Attempt::Stopped(_) | Attempt::GoesOn(_) => false,
     }
 }
 
@@ -92,7 +80,7 @@ fn place_new<Q>(
     pass: u32,
     call: Call,
     more: u64,
-) -> Stepped
+) -> Attempt<(u64, Call)>
     requires stepped { is_stepped call ≡ true }
     requires may { (u : Setup) × MayStep u pass call book.old journal.old
         × (asked_now journal.old.entries book.old.stream call ≡ suc more) }
@@ -113,7 +101,7 @@ fn place_new<Q>(
             }
             ended
         }
-        Err(error) => Stepped::Stopped(error),
+        Err(error) => Attempt::Stopped(error),
     }
 }
 
@@ -125,7 +113,7 @@ fn place_reserved<Q>(
     journal: &mut Journal<Q>,
     pass: u32,
     call: Call,
-) -> Stepped
+) -> Attempt<(u64, Call)>
     requires stepped { is_stepped call ≡ true }
     requires may { (u : Setup) × MayStep u pass call book.old journal.old
         × (asked_now journal.old.entries book.old.stream call ≡ 0) }
@@ -141,7 +129,7 @@ fn place_reserved<Q>(
         Ok(()) => {
             journal.release(spared);
             journal.release(owed);
-            Stepped::Done
+            Attempt::Done
         }
         Err(_) => unreachable!(),
     }
@@ -155,7 +143,7 @@ fn step<Q>(
     pass: u32,
     call: Call,
     more: u64,
-) -> Stepped
+) -> Attempt<(u64, Call)>
     requires stepped { is_stepped call ≡ true }
     requires reserved { 0 < journal.old.reserved }
     requires may { (u : Setup) × MayStep u pass call book.old journal.old }
@@ -166,9 +154,9 @@ fn step<Q>(
         Ok(None) => admitted(alloc, book, journal, pass, call, more),
         Ok(Some(error)) => {
             book.fail(journal, pass, call, error);
-            Stepped::Refused(error)
+            Attempt::Refused(error)
         }
-        Err(_) => Stepped::Stopped(CcError::NoMemory),
+        Err(_) => Attempt::Stopped(CcError::NoMemory),
     }
 }
 
@@ -180,7 +168,7 @@ fn admitted<Q>(
     pass: u32,
     call: Call,
     more: u64,
-) -> Stepped
+) -> Attempt<(u64, Call)>
     requires stepped { is_stepped call ≡ true }
     requires reserved { 0 < journal.old.reserved }
     requires may { (u : Setup) × MayStep u pass call book.old journal.old
@@ -190,9 +178,9 @@ fn admitted<Q>(
         StepLeft u pass more call result book.old book.new journal.old journal.new }
 {
     match absent(alloc, book, &call) {
-        Ok(Some(page)) => Stepped::Waits(page, call),
+        Ok(Some(page)) => Attempt::GoesOn((page, call)),
         Ok(None) => finish(alloc, book, journal, pass, call, more),
-        Err(_) => Stepped::Stopped(CcError::NoMemory),
+        Err(_) => Attempt::Stopped(CcError::NoMemory),
     }
 }
 
@@ -204,7 +192,7 @@ fn finish<Q>(
     pass: u32,
     call: Call,
     more: u64,
-) -> Stepped
+) -> Attempt<(u64, Call)>
     requires stepped { is_stepped call ≡ true }
     requires reserved { 0 < journal.old.reserved }
     requires may { (u : Setup) × MayStep u pass call book.old journal.old
@@ -216,9 +204,9 @@ fn finish<Q>(
     match reply(alloc, book, journal, &call) {
         Ok(answer) => match journal.reserve(more) {
             Ok(()) => place(alloc, book, journal, pass, call, answer, more),
-            Err(error) => Stepped::Stopped(error),
+            Err(error) => Attempt::Stopped(error),
         },
-        Err(_) => Stepped::Stopped(CcError::NoMemory),
+        Err(_) => Attempt::Stopped(CcError::NoMemory),
     }
 }
 
@@ -232,7 +220,7 @@ fn place<Q>(
     call: Call,
     answer: Reply,
     more: u64,
-) -> Stepped
+) -> Attempt<(u64, Call)>
     requires stepped { is_stepped call ≡ true }
     requires reserved { more < journal.old.reserved }
     requires may { (u : Setup) × MayStep u pass call book.old journal.old
@@ -244,10 +232,10 @@ fn place<Q>(
         StepPlacingLeft u pass more call answer result book.old book.new journal.old journal.new }
 {
     match book.done(alloc, journal, pass, call, answer) {
-        Ok(()) => Stepped::Done,
+        Ok(()) => Attempt::Done,
         Err(_) => {
             journal.release(more);
-            Stepped::Stopped(CcError::NoMemory)
+            Attempt::Stopped(CcError::NoMemory)
         }
     }
 }

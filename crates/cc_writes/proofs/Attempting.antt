@@ -21,17 +21,17 @@ use Rattle.cc_model.specs.Passes.{calls_of}
 use Rattle.cc_model.specs.Room.{reserved_in}
 use Rattle.cc_model.specs.Setup.{Setup}
 use Rattle.cc_step.specs.Step.{StandUnder, MayStep, AttemptLeft, AttemptDone, AttemptRefused, IsReadyFor, IsShort, IsStop, is_answered, is_stepped, asked_now}
-use Rattle.cc_step.specs.declared.steps.Stepped.{Stepped}
-use Rattle.cc_step.specs.declared.steps.Stepped.TheVariants as stepped
+use Rattle.cc_step.specs.declared.ways.Attempt.{Attempt}
+use Rattle.cc_step.specs.declared.ways.Attempt.TheVariants as attempt
 use Rattle.cc_step.proofs.Reasons.{refusal-listed}
 use Rattle.cc_turns.specs.Standing.{Standing}
 use Rattle.cc_turns.specs.Takes.{without_journal}
 use Rattle.cc_writes.specs.Hands.{HasBook}
-use Rattle.cc_writes.specs.Told.{HasAnswered, FitsReply, FitsLast, FitsStepped, TriedAs}
+use Rattle.cc_writes.specs.Told.{HasAnswered, FitsReply, FitsLast, FitsAttempt, CourseAs}
 use Rattle.cc_writes.specs.Visits.{IsFiledNow, IsWaitedFor, TriedLeft, IsFullTried}
 use Rattle.cc_writes.specs.Ways.{ReadFitsIn, IsFull, CallIsReady}
 use Rattle.cc_writes.specs.declared.tell.Returned.{Returned}
-use Rattle.cc_writes.specs.declared.visits.Tried.{Tried}
+use Rattle.cc_writes.specs.declared.course.Course.{Course}
 use Rattle.cc_writes.proofs.VisitEnding.{done-left, refused-left, full-left, memoryless-left}
 use Rattle.cc_writes.proofs.Others.{under_way-on}
 use Rattle.cc_writes.proofs.Placing.{has-book, needs_disk, diskless, stepping-done, stepping-failed, stepping-same}
@@ -99,7 +99,7 @@ module _ {Q : Type 0} (posted : Q → Bool) (w v : Standing) (it : Call) (b c : 
   pub may-as : (pass : ℕ) → pass ≡ v.number → MayStep w.setup pass it b j
   may-as pass me = subst (λ (n : ℕ). MayStep w.setup n it b j) (sym (number-is pass me)) may-step
 
-  pub attempted : (pass : ℕ) (ended : Stepped) → pass ≡ v.number → ((u : Setup) → MayStep u pass it b j → AttemptLeft u pass it ended b c j k) → AttemptLeft w.setup w.number it ended b c j k
+  pub attempted : (pass : ℕ) (ended : Attempt (ℕ × Call)) → pass ≡ v.number → ((u : Setup) → MayStep u pass it b j → AttemptLeft u pass it ended b c j k) → AttemptLeft w.setup w.number it ended b c j k
   attempted pass ended me left = subst (λ (n : ℕ). AttemptLeft w.setup n it ended b c j k) (number-is pass me) (left w.setup (may-as pass me))
 
   pub way-on : (begun : List Entry) → IsUnderWay w.number it begun w.seen → IsUnderWay w.number it begun j.entries
@@ -122,11 +122,11 @@ module _ {Q : Type 0} (posted : Q → Bool) (w v : Standing) (it : Call) (b c : 
       subst (λ (y : Reply). FitsReply y out) (same-reply k.entries r x (last-done r left) answered)
       (fits-reply w.setup j.entries (w.setup.opening b.stream) (history j.entries b.stream) w.number it r out stepped reply fits)
 
-  pub fits-stepped : is_stepped it ≡ true → (ended : Stepped) (out : List ℕ) → AttemptLeft w.setup w.number it ended b c j k → ReadFitsIn it out → FitsStepped ended k.entries out
-  fits-stepped is stepped.Done out left fits = fits-done is left.0 out left.1 fits
-  fits-stepped is (stepped.Refused e) out left fits = tt
-  fits-stepped is (stepped.Waits page again) out left fits = tt
-  fits-stepped is (stepped.Stopped e) out left fits = tt
+  pub fits-attempt : is_stepped it ≡ true → (ended : Attempt (ℕ × Call)) (out : List ℕ) → AttemptLeft w.setup w.number it ended b c j k → ReadFitsIn it out → FitsAttempt ended k.entries out
+  fits-attempt is attempt.Done out left fits = fits-done is left.0 out left.1 fits
+  fits-attempt is (attempt.Refused e) out left fits = tt
+  fits-attempt is (attempt.GoesOn (page, again)) out left fits = tt
+  fits-attempt is (attempt.Stopped e) out left fits = tt
 
   -- what each way of an attempt gives
   pub visited-done : needs_disk it ≡ false → (r : Reply) → AttemptDone w.setup w.number it r b c j k → Visited posted w v b.stream w.in_flight c k
@@ -194,41 +194,41 @@ module _ {Q : Type 0} (posted : Q → Bool) (w v : Standing) (it : Call) (b c : 
       named (inr ready) = inr (of-file (λ (s : ℕ). IsReadyFor (without_journal k v).setup (without_journal k v).seen s it) (holds_of (history j.entries b.stream)) w.number b.stream it filed-front ready)
 
   -- an attempt, by how it ended
-  pub visited-attempt : is_stepped it ≡ true → (ended : Stepped) → AttemptLeft w.setup w.number it ended b c j k → Visited posted w v b.stream w.in_flight c k
-  visited-attempt is stepped.Done left = visited-done (diskless it is) left.0 left.1
-  visited-attempt is (stepped.Refused e) left = visited-refused e left
-  visited-attempt is (stepped.Waits page again) left =
+  pub visited-attempt : is_stepped it ≡ true → (ended : Attempt (ℕ × Call)) → AttemptLeft w.setup w.number it ended b c j k → Visited posted w v b.stream w.in_flight c k
+  visited-attempt is attempt.Done left = visited-done (diskless it is) left.0 left.1
+  visited-attempt is (attempt.Refused e) left = visited-refused e left
+  visited-attempt is (attempt.GoesOn (page, again)) left =
       visited-same left.same_journal
       (subst (λ (x : BookState). StandUnder w.setup x k) (sym left.same_book) (subst (λ (x : JournalState Q). StandUnder w.setup b x) (sym left.same_journal) vis.stand))
       (ap (λ (x : BookState). x.stream) left.same_book)
-  visited-attempt is (stepped.Stopped e) left = visited-same left.1.same_journal left.1.stand left.1.stream
+  visited-attempt is (attempt.Stopped e) left = visited-same left.1.same_journal left.1.stand left.1.stream
 
-  pub left-attempt : is_stepped it ≡ true → b.stream < 16 → (ended : Stepped) (answer : Tried) (was now : List ℕ) → AttemptLeft w.setup w.number it ended b c j k → TriedAs ended answer k.entries was now → (begun : List Entry) → IsUnderWay w.number it begun w.seen → TriedLeft w.setup w.number b.stream it answer begun k.entries was now
-  left-attempt is known stepped.Done answer was now left told begun way =
-      subst (λ (x : Tried). TriedLeft w.setup w.number b.stream it x begun k.entries was now) (sym told.1)
+  pub left-attempt : is_stepped it ≡ true → b.stream < 16 → (ended : Attempt (ℕ × Call)) (answer : Course (ℕ × Call)) (was now : List ℕ) → AttemptLeft w.setup w.number it ended b c j k → CourseAs ended answer k.entries was now → (begun : List Entry) → IsUnderWay w.number it begun w.seen → TriedLeft w.setup w.number b.stream it answer begun k.entries was now
+  left-attempt is known attempt.Done answer was now left told begun way =
+      subst (λ (x : Course (ℕ × Call)). TriedLeft w.setup w.number b.stream it x begun k.entries was now) (sym told.1)
       (left.0, left-done begun way is left.0 left.1, told.2 left.0 (last-done left.0 left.1))
-  left-attempt is known (stepped.Refused e) answer was now left told begun way =
-      subst (λ (x : Tried). TriedLeft w.setup w.number b.stream it x begun k.entries was now) (sym told.0)
+  left-attempt is known (attempt.Refused e) answer was now left told begun way =
+      subst (λ (x : Course (ℕ × Call)). TriedLeft w.setup w.number b.stream it x begun k.entries was now) (sym told.0)
       (left-refused begun way e left, told.1)
-  left-attempt is known (stepped.Waits page again) answer was now left told begun way =
-      subst (λ (x : Tried). TriedLeft w.setup w.number b.stream it x begun k.entries was now) (sym told.0)
+  left-attempt is known (attempt.GoesOn (page, again)) answer was now left told begun way =
+      subst (λ (x : Course (ℕ × Call)). TriedLeft w.setup w.number b.stream it x begun k.entries was now) (sym told.0)
       (subst (λ (x : JournalState Q). (again ≡ it) × IsUnderWay w.number it begun x.entries × IsWaitedFor w.setup b.stream it page x.entries × (now ≡ was)) (sym left.same_journal)
       (left.call_is, way-on begun way, record { admitted = left.admitted; least = left.least }, told.1))
-  left-attempt is known (stepped.Stopped e) answer was now left told begun way =
-      subst (λ (x : Tried). TriedLeft w.setup w.number b.stream it x begun k.entries was now) (sym told.0)
+  left-attempt is known (attempt.Stopped e) answer was now left told begun way =
+      subst (λ (x : Course (ℕ × Call)). TriedLeft w.setup w.number b.stream it x begun k.entries was now) (sym told.0)
       (left-stopped begun way (asked_now j.entries b.stream it) e stops left.0 left.1.same_journal, told.1)
     where
       stops : MayStop it j.entries
       stops = stops-asked j.entries b.stream w.number it known here filed-front (stop-asks (asked_now j.entries b.stream it) e j left.0)
 
-  pub full-attempt : (ended : Stepped) (answer : Tried) (was now : List ℕ) → AttemptLeft w.setup w.number it ended b c j k → TriedAs ended answer k.entries was now → IsFullTried (without_journal k v) b.stream it answer
-  full-attempt stepped.Done answer was now left told = subst (λ (x : Tried). IsFullTried (without_journal k v) b.stream it x) (sym told.1) (tt, inl tt)
-  full-attempt (stepped.Refused e) answer was now left told =
-      subst (λ (x : Tried). IsFullTried (without_journal k v) b.stream it x) (sym told.0)
+  pub full-attempt : (ended : Attempt (ℕ × Call)) (answer : Course (ℕ × Call)) (was now : List ℕ) → AttemptLeft w.setup w.number it ended b c j k → CourseAs ended answer k.entries was now → IsFullTried (without_journal k v) b.stream it answer
+  full-attempt attempt.Done answer was now left told = subst (λ (x : Course (ℕ × Call)). IsFullTried (without_journal k v) b.stream it x) (sym told.1) (tt, inl tt)
+  full-attempt (attempt.Refused e) answer was now left told =
+      subst (λ (x : Course (ℕ × Call)). IsFullTried (without_journal k v) b.stream it x) (sym told.0)
       (full-refused Returned (asked_now k.entries b.stream it) e left, inl (full-refused Returned 1 e left))
-  full-attempt (stepped.Waits page again) answer was now left told = subst (λ (x : Tried). IsFullTried (without_journal k v) b.stream it x) (sym told.0) tt
-  full-attempt (stepped.Stopped e) answer was now left told =
-      subst (λ (x : Tried). IsFullTried (without_journal k v) b.stream it x) (sym told.0) (
+  full-attempt (attempt.GoesOn (page, again)) answer was now left told = subst (λ (x : Course (ℕ × Call)). IsFullTried (without_journal k v) b.stream it x) (sym told.0) tt
+  full-attempt (attempt.Stopped e) answer was now left told =
+      subst (λ (x : Course (ℕ × Call)). IsFullTried (without_journal k v) b.stream it x) (sym told.0) (
         subst (λ (n : ℕ). IsFull {A = Returned} n (without_journal k v) (Err e)) (sym (ap (λ (x : JournalState Q). asked_now x.entries b.stream it) left.1.same_journal))
             (full-stop Returned (asked_now j.entries b.stream it) e left.0 left.1.same_journal given),
         short-on Returned (asked_now j.entries b.stream it) e left.0 left.2 left.1.same_journal given,

@@ -106,21 +106,21 @@ free-none : (it : Call) (r : Rounds) → r.kept ≡ true → free_left it r ≡ 
 free-none it r kept = rw kept refl
 
 -- with the book kept there is less left to do
-nearer-kept : (s : ℕ) (it : Call) (o : Course) (was now : Rounds) (old new : List Entry) → free_left it now ≤ free_left it was → HasLess s it o old new → IsNearer s it o was now old new
-nearer-kept s it (course.Goes again) was now old new most less = inr (most, less)
+nearer-kept : (s : ℕ) (it : Call) (o : Course Call) (was now : Rounds) (old new : List Entry) → free_left it now ≤ free_left it was → HasLess s it o old new → IsNearer s it o was now old new
+nearer-kept s it (course.GoesOn again) was now old new most less = inr (most, less)
 nearer-kept s it (course.Ended answer) was now old new most less = tt
 
 -- and with the book free fewer such transfers are left
-nearer-free : (s : ℕ) (it : Call) (o : Course) (was now : Rounds) (old new : List Entry) → free_left it now < free_left it was → IsNearer s it o was now old new
-nearer-free s it (course.Goes again) was now old new fewer = inl fewer
+nearer-free : (s : ℕ) (it : Call) (o : Course Call) (was now : Rounds) (old new : List Entry) → free_left it now < free_left it was → IsNearer s it o was now old new
+nearer-free s it (course.GoesOn again) was now old new fewer = inl fewer
 nearer-free s it (course.Ended answer) was now old new fewer = tt
 
 -- a page went out
-pub nearer-went : (s : ℕ) (it again : Call) (rounds : Rounds) (old new : List Entry) → left_for s it new < left_for s it old → IsNearer s it (course.Goes again) rounds rounds old new
+pub nearer-went : (s : ℕ) (it again : Call) (rounds : Rounds) (old new : List Entry) → left_for s it new < left_for s it old → IsNearer s it (course.GoesOn again) rounds rounds old new
 nearer-went s it again rounds old new less = inr (omega arith, less)
 
 -- A page was written.
-module _ (s : ℕ) (it : Call) (o : Course) (was now : Rounds) (old new : List Entry) (page : ℕ) (keeps : Bool)
+module _ (s : ℕ) (it : Call) (o : Course Call) (was now : Rounds) (old new : List Entry) (page : ℕ) (keeps : Bool)
     (result : keeps ≡ (was.kept || not (is_next was.block page))) (stays : now.kept ≡ was.kept)
     (block : now.block ≡ (if keeps then writing.Over else writing.CameTo page)) (read : now.read ≡ was.read) where
   fewer-writes : keeps ≡ false → free_left it now < free_left it was
@@ -159,7 +159,7 @@ module _ (s : ℕ) (it : Call) (o : Course) (was now : Rounds) (old new : List E
       by false is = nearer-free s it o was now old new (fewer-writes is)
 
 -- A page was read that the call waited for, or passed over.
-module _ (s : ℕ) (it : Call) (o : Course) (was now : Rounds) (old new : List Entry) (page : ℕ) (keeps : Bool)
+module _ (s : ℕ) (it : Call) (o : Course Call) (was now : Rounds) (old new : List Entry) (page : ℕ) (keeps : Bool)
     (result : keeps ≡ (was.kept || is_read was.read page)) (stays : now.kept ≡ keeps) (read : now.read ≡ Some page)
     (anew : now.block ≡ writing.Begins) where
   fewer-reads : IsWidest it page → keeps ≡ false → free_left it now < free_left it was
@@ -224,7 +224,7 @@ left-most u past s it good = by (range_of (size_of h) it)
 abbrev pub steps_left : ℕ → Call → Rounds → List Entry → ℕ
 steps_left s it rounds past = free_left it rounds * 2 ^ 53 + left_for s it past
 
-pub steps-less : (u : Setup) (s : ℕ) (it again : Call) (was now : Rounds) (old new : List Entry) → IsGoodSoFar u new → IsNearer s it (course.Goes again) was now old new → steps_left s it now new < steps_left s it was old
+pub steps-less : (u : Setup) (s : ℕ) (it again : Call) (was now : Rounds) (old new : List Entry) → IsGoodSoFar u new → IsNearer s it (course.GoesOn again) was now old new → steps_left s it now new < steps_left s it was old
 steps-less u s it again was now old new good (inl fewer) =
     sooner (free_left it now) (free_left it was) (left_for s it new) (left_for s it old) fewer (left-most u new s it good)
   where

@@ -16,7 +16,7 @@ use Rattle.cc_writes.specs.declared.course.Course.{Course}
 use Rattle.cc_writes.specs.declared.course.Course.TheVariants as course
 
 -- what a round left of a call, wherever it began
-abbrev pub HasGoneRound : Standing → Standing → Call → Course → List ℕ → List ℕ → Type 0
+abbrev pub HasGoneRound : Standing → Standing → Call → Course Call → List ℕ → List ℕ → Type 0
 HasGoneRound v x it o was now =
     (begun : List Entry) → IsUnderWay v.number it begun v.seen → RoundLeft v.setup v.number it o begun x.seen was now
 
@@ -33,7 +33,7 @@ pub record GoesOn {D : Type 0} (told : D → Option Disk) (faults : D → ℕ) (
 -- what a round left of a call that had gone on so far, it left of the call as it was handed in
 module _ {D : Type 0} (told : D → Option Disk) (faults : D → ℕ) (w v x : Standing) (s : ℕ) (it now_it : Call) (b : BookState) (disk : D)
     (was now after : List ℕ) (on : GoesOn told faults w v s it now_it b disk was now) (went : Went v x) where
-  pub left_so_far : (o : Course) → HasGoneRound v x now_it o now after → (begun : List Entry) → IsUnderWay w.number it begun w.seen → RoundLeft w.setup w.number it o begun x.seen was after
+  pub left_so_far : (o : Course Call) → HasGoneRound v x now_it o now after → (begun : List Entry) → IsUnderWay w.number it begun w.seen → RoundLeft w.setup w.number it o begun x.seen was after
   left_so_far o left begun way =
       let number : v.number ≡ w.number = ap (λ (y : Standing). y.number) on.went.same in
       let setup : v.setup ≡ w.setup = ap (λ (y : Standing). y.setup) on.went.same in
@@ -50,13 +50,13 @@ module _ {D : Type 0} (told : D → Option Disk) (faults : D → ℕ) (w v x : S
   }
 
   -- and it goes on
-  pub goes_on : (again : Call) (c : BookState) (disk_now : D) → HasBoth told faults x s c disk_now → HasGoneRound v x now_it (course.Goes again) now after → GoesOn told faults w x s it again c disk_now was after
+  pub goes_on : (again : Call) (c : BookState) (disk_now : D) → HasBoth told faults x s c disk_now → HasGoneRound v x now_it (course.GoesOn again) now after → GoesOn told faults w x s it again c disk_now was after
   goes_on again c disk_now both left =
-      let first = left_so_far (course.Goes again) left w.seen (begins w.number it w.seen) in
+      let first = left_so_far (course.GoesOn again) left w.seen (begins w.number it w.seen) in
       record {
         both = both;
         went = went_so_far;
         same = first.0;
         told_none = first.2;
-        way = λ begun way. (left_so_far (course.Goes again) left begun way).1;
+        way = λ begun way. (left_so_far (course.GoesOn again) left begun way).1;
       }

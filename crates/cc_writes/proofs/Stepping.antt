@@ -10,13 +10,15 @@ use Rattle.cc_model.specs.Setup.{Setup}
 use Rattle.cc_turns.specs.Standing.{Standing}
 use Rattle.cc_writes.specs.Hands.{WentWith}
 use Rattle.cc_writes.specs.Visits.{CallStepLeft, IsToBeWritten, IsWaitedFor}
-use Rattle.cc_writes.specs.declared.visits.CallStep.{CallStep}
-use Rattle.cc_writes.specs.declared.visits.CallStep.TheVariants as step
+use Rattle.cc_step.specs.declared.ways.Way.{Way}
+use Rattle.cc_step.specs.declared.ways.Way.TheVariants as ways
+use Rattle.cc_writes.specs.declared.course.Course.{Course}
+use Rattle.cc_writes.specs.declared.course.Course.TheVariants as course
 use Rattle.cc_writes.specs.Calls.{PageStepLeft}
 use Rattle.cc_writes.specs.Rounds.{RoundLeft, course_of}
 
 -- what the step left of the call, wherever it began
-abbrev pub HasStepped : Standing → Standing → ℕ → Call → CallStep → List ℕ → List ℕ → Type 0
+abbrev pub HasStepped : Standing → Standing → ℕ → Call → Course Way → List ℕ → List ℕ → Type 0
 HasStepped w v s it r was now =
     (begun : List Entry) → IsUnderWay w.number it begun w.seen → CallStepLeft w.setup w.number s it r begun v.seen was now
 
@@ -25,20 +27,20 @@ module _ (w v : Standing) (s flight : ℕ) (it again : Call) (page : ℕ) (was n
   setup_same = ap (λ x. x.setup) went.same
 
   -- the call is the one that was handed in
-  pub to_write_call : HasStepped w v s it (step.Writes page again) was now → again ≡ it
+  pub to_write_call : HasStepped w v s it (course.GoesOn (ways.Writes page again)) was now → again ≡ it
   to_write_call stepped = (stepped w.seen (begins w.number it w.seen)).0
 
-  pub to_read_call : HasStepped w v s it (step.Reads page again) was now → again ≡ it
+  pub to_read_call : HasStepped w v s it (course.GoesOn (ways.Reads page again)) was now → again ≡ it
   to_read_call stepped = (stepped w.seen (begins w.number it w.seen)).0
 
   -- the page is one to be written, or to be read
-  pub to_write : (n : ℕ) → n ≡ s → HasStepped w v s it (step.Writes page again) was now → IsToBeWritten v.setup n again page v.seen
+  pub to_write : (n : ℕ) → n ≡ s → HasStepped w v s it (course.GoesOn (ways.Writes page again)) was now → IsToBeWritten v.setup n again page v.seen
   to_write n same stepped =
       subst (λ (t : ℕ). IsToBeWritten v.setup t again page v.seen) (sym same)
       (subst (λ (a : Call). IsToBeWritten v.setup s a page v.seen) (sym (to_write_call stepped))
       (subst (λ (u : Setup). IsToBeWritten u s it page v.seen) (sym setup_same) (stepped w.seen (begins w.number it w.seen)).2))
 
-  pub to_read : (n : ℕ) → n ≡ s → HasStepped w v s it (step.Reads page again) was now → IsWaitedFor v.setup n again page v.seen
+  pub to_read : (n : ℕ) → n ≡ s → HasStepped w v s it (course.GoesOn (ways.Reads page again)) was now → IsWaitedFor v.setup n again page v.seen
   to_read n same stepped =
       subst (λ (t : ℕ). IsWaitedFor v.setup t again page v.seen) (sym same)
       (subst (λ (a : Call). IsWaitedFor v.setup s a page v.seen) (sym (to_read_call stepped))
@@ -57,8 +59,8 @@ module _ (w v : Standing) (s flight : ℕ) (it again : Call) (page : ℕ) (was n
       of_page r begun new same told
       (subst (λ (n : ℕ). PageStepLeft w.setup n again r begun new) number (subst (λ (u : Setup). PageStepLeft u v.number again r begun new) setup_same (left begun here)))
 
-  pub round_wrote : (r : Result Call CcError) (new : List Entry) → HasStepped w v s it (step.Writes page again) was now → ((earlier : List Entry) → IsUnderWay v.number again earlier v.seen → PageStepLeft v.setup v.number again r earlier new) → (begun : List Entry) → IsUnderWay w.number it begun w.seen → RoundLeft w.setup w.number it (course_of r) begun new was now
+  pub round_wrote : (r : Result Call CcError) (new : List Entry) → HasStepped w v s it (course.GoesOn (ways.Writes page again)) was now → ((earlier : List Entry) → IsUnderWay v.number again earlier v.seen → PageStepLeft v.setup v.number again r earlier new) → (begun : List Entry) → IsUnderWay w.number it begun w.seen → RoundLeft w.setup w.number it (course_of r) begun new was now
   round_wrote r new stepped left begun way = let x = stepped begun way in of_step r begun new x.0 x.1 x.3 left
 
-  pub round_read : (r : Result Call CcError) (new : List Entry) → HasStepped w v s it (step.Reads page again) was now → ((earlier : List Entry) → IsUnderWay v.number again earlier v.seen → PageStepLeft v.setup v.number again r earlier new) → (begun : List Entry) → IsUnderWay w.number it begun w.seen → RoundLeft w.setup w.number it (course_of r) begun new was now
+  pub round_read : (r : Result Call CcError) (new : List Entry) → HasStepped w v s it (course.GoesOn (ways.Reads page again)) was now → ((earlier : List Entry) → IsUnderWay v.number again earlier v.seen → PageStepLeft v.setup v.number again r earlier new) → (begun : List Entry) → IsUnderWay w.number it begun w.seen → RoundLeft w.setup w.number it (course_of r) begun new was now
   round_read r new stepped left begun way = let x = stepped begun way in of_step r begun new x.0 x.1 x.3 left

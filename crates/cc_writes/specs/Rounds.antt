@@ -22,30 +22,30 @@ use Rattle.cc_turns.specs.Transfers.{fill_failed}
 use Rattle.cc_turns.specs.Disk.{DiskStands}
 use Rattle.cc_turns.specs.Standing.{Standing}
 use Rattle.cc_writes.specs.Hands.{SameDisk}
-use Rattle.cc_writes.specs.Ways.{EndedSo, WasWanted}
-use Rattle.cc_writes.specs.Visits.{HasLanded, HasPlaced}
+use Rattle.cc_writes.specs.Ways.{WasWanted}
+use Rattle.cc_writes.specs.Visits.{CourseLeft, HasLanded, HasPlaced, OnEnded, OnGoing}
 use Rattle.cc_writes.specs.Fetch.{IsFullFetching}
 use Rattle.cc_writes.specs.Work.{work_left}
 use Rattle.cc_writes.specs.declared.course.Course.{Course}
 use Rattle.cc_writes.specs.declared.course.Course.TheVariants as course
 use Rattle.cc_writes.specs.declared.keeping.Rounds.{Rounds}
+use Rattle.cc_writes.specs.declared.tell.Returned.{Returned}
 use Rattle.cc_writes.specs.declared.keeping.Writing.{Writing}
 use Rattle.cc_writes.specs.declared.keeping.Writing.TheVariants as writing
 
 -- What a round left of a call that was under way: it goes on, and its caller was told nothing, or it ended.
-abbrev pub RoundLeft : Setup → ℕ → Call → Course → List Entry → List Entry → List ℕ → List ℕ → Type 0
-RoundLeft u me it (course.Goes again) old new was now = (again ≡ it) × IsUnderWay me it old new × (now ≡ was)
-RoundLeft u me it (course.Ended answer) old new was now = EndedSo u me it answer old new was now
+abbrev pub RoundLeft : Setup → ℕ → Call → Course Call → List Entry → List Entry → List ℕ → List ℕ → Type 0
+RoundLeft u me it gone old new was now =
+    CourseLeft (λ (again : Call). (again ≡ it) × IsUnderWay me it old new × (now ≡ was)) u me it gone old new was now
 
 -- the course of a call after a page step
-abbrev pub course_of : Result Call CcError → Course
-course_of (Ok again) = course.Goes again
+abbrev pub course_of : Result Call CcError → Course Call
+course_of (Ok again) = course.GoesOn again
 course_of (Err e) = course.Ended (Err e)
 
 -- a call that found no room, or goes on, or ended otherwise
-abbrev pub IsFullCourse : Call → Standing → Course → Type 0
-IsFullCourse it w (course.Goes again) = Unit {0}
-IsFullCourse it w (course.Ended answer) = IsFullFetching it w answer
+abbrev pub IsFullCourse : Call → Standing → Course Call → Type 0
+IsFullCourse it w gone = OnEnded gone (λ (answer : Result Returned CcError). IsFullFetching it w answer)
 
 -- The disk failed to read a page, and the pass may tell that: the disk stands for what the pass has seen with what
 -- others place meanwhile and the entry of the failure.
@@ -130,13 +130,12 @@ abbrev pub left_for : ℕ → Call → List Entry → ℕ
 left_for s it past = work_left (history past s) (range_of (size_of (history past s)) it)
 
 -- a call that goes on has less left to do
-abbrev pub HasLess : ℕ → Call → Course → List Entry → List Entry → Type 0
-HasLess s it (course.Goes again) old new = left_for s it new < left_for s it old
-HasLess s it (course.Ended answer) old new = Unit {0}
+abbrev pub HasLess : ℕ → Call → Course Call → List Entry → List Entry → Type 0
+HasLess s it gone old new = OnGoing gone (λ (again : Call). left_for s it new < left_for s it old)
 
 -- A call that goes on is nearer to its end: fewer transfers with the book free are left to it, or no more, and less to do.
-abbrev pub IsNearer : ℕ → Call → Course → Rounds → Rounds → List Entry → List Entry → Type 0
-IsNearer s it (course.Goes again) was now old new =
+abbrev pub IsNearer : ℕ → Call → Course Call → Rounds → Rounds → List Entry → List Entry → Type 0
+IsNearer s it gone was now old new =
+    OnGoing gone (λ (again : Call).
     (free_left it now < free_left it was)
-    ⊎ ((free_left it now ≤ free_left it was) × HasLess s it (course.Goes again) old new)
-IsNearer s it (course.Ended answer) was now old new = Unit {0}
+    ⊎ ((free_left it now ≤ free_left it was) × HasLess s it gone old new))

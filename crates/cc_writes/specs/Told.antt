@@ -9,18 +9,14 @@ use Rattle.cc_entry.specs.declared.error.CcError.{CcError}
 use Rattle.cc_entry.specs.declared.reply.Outcome.TheVariants as outcome
 use Rattle.cc_entry.specs.declared.reply.Reply.{Reply}
 use Rattle.cc_entry.specs.declared.reply.Reply.TheVariants as reply
-use Rattle.cc_step.specs.declared.ways.Next.{Next}
-use Rattle.cc_step.specs.declared.ways.Next.TheVariants as next
+use Rattle.cc_step.specs.declared.ways.Attempt.{Attempt}
+use Rattle.cc_step.specs.declared.ways.Attempt.TheVariants as attempt
 use Rattle.cc_step.specs.declared.faults.Failed.{Failed}
 use Rattle.cc_step.specs.declared.faults.Failed.TheVariants as ended
-use Rattle.cc_step.specs.declared.steps.Stepped.{Stepped}
-use Rattle.cc_step.specs.declared.steps.Stepped.TheVariants as stepped
 use Rattle.cc_writes.specs.Ways.{IsTold}
 use Rattle.cc_writes.specs.declared.tell.Returned.{Returned}
-use Rattle.cc_writes.specs.declared.visits.CallStep.{CallStep}
-use Rattle.cc_writes.specs.declared.visits.CallStep.TheVariants as step
-use Rattle.cc_writes.specs.declared.visits.Tried.{Tried}
-use Rattle.cc_writes.specs.declared.visits.Tried.TheVariants as tried
+use Rattle.cc_writes.specs.declared.course.Course.{Course}
+use Rattle.cc_writes.specs.declared.course.Course.TheVariants as course
 
 -- The last entry is that of a call that was done with this reply.
 pub record HasAnswered (r : Reply) (entries : List Entry) : Type 0 where
@@ -49,33 +45,18 @@ FitsLast entries out = (r : Reply) → HasAnswered r entries → FitsReply r out
 abbrev pub ToldLast : List Entry → Returned → List ℕ → List ℕ → Type 0
 ToldLast entries told was now = (r : Reply) → HasAnswered r entries → IsTold r told was now
 
--- Where the step of a call was done, what was handed in has room for its reply.
-abbrev pub FitsStepped : Stepped → List Entry → List ℕ → Type 0
-FitsStepped stepped.Done entries out = FitsLast entries out
-FitsStepped other entries out = Unit {0}
+-- Where a call was done, what was handed in has room for its reply.
+abbrev pub FitsAttempt : {T : Type 0} → Attempt T → List Entry → List ℕ → Type 0
+FitsAttempt attempt.Done entries out = FitsLast entries out
+FitsAttempt other entries out = Unit {0}
 
--- An attempt ended as the step of its call did, and its caller was told the reply, if there is one.
-abbrev pub TriedAs : Stepped → Tried → List Entry → List ℕ → List ℕ → Type 0
-TriedAs stepped.Done answer entries was now =
-    (told : Returned) × (answer ≡ tried.Ended (Ok told)) × ToldLast entries told was now
-TriedAs (stepped.Refused e) answer entries was now = (answer ≡ tried.Ended (Err e)) × (now ≡ was)
-TriedAs (stepped.Waits page again) answer entries was now = (answer ≡ tried.Waits page again) × (now ≡ was)
-TriedAs (stepped.Stopped e) answer entries was now = (answer ≡ tried.Ended (Err e)) × (now ≡ was)
-
--- Where the next step of a call was to do it, what was handed in has room for its reply.
-abbrev pub FitsNext : Next → List Entry → List ℕ → Type 0
-FitsNext next.Done entries out = FitsLast entries out
-FitsNext other entries out = Unit {0}
-
--- The step that is answered is the one that was taken, and the caller was told the reply, if there is one.
-abbrev pub StepAs : Next → CallStep → List Entry → List ℕ → List ℕ → Type 0
-StepAs next.Done answer entries was now =
-    (told : Returned) × (answer ≡ step.Ended (Ok told)) × ToldLast entries told was now
-StepAs (next.Refused e) answer entries was now = (answer ≡ step.Ended (Err e)) × (now ≡ was)
-StepAs (next.WentOut again) answer entries was now = (answer ≡ step.WentOut again) × (now ≡ was)
-StepAs (next.Writes page again) answer entries was now = (answer ≡ step.Writes page again) × (now ≡ was)
-StepAs (next.Reads page again) answer entries was now = (answer ≡ step.Reads page again) × (now ≡ was)
-StepAs (next.Stopped e) answer entries was now = (answer ≡ step.Ended (Err e)) × (now ≡ was)
+-- The course of a call is as an attempt at it ended, and its caller was told the reply, if there is one.
+abbrev pub CourseAs : {T : Type 0} → Attempt T → Course T → List Entry → List ℕ → List ℕ → Type 0
+CourseAs attempt.Done answer entries was now =
+    (told : Returned) × (answer ≡ course.Ended (Ok told)) × ToldLast entries told was now
+CourseAs (attempt.Refused e) answer entries was now = (answer ≡ course.Ended (Err e)) × (now ≡ was)
+CourseAs (attempt.Stopped e) answer entries was now = (answer ≡ course.Ended (Err e)) × (now ≡ was)
+CourseAs (attempt.GoesOn way) answer entries was now = (answer ≡ course.GoesOn way) × (now ≡ was)
 
 -- what a call answers that met a fault and ended so
 abbrev pub fault_answer : Failed → CcError → CcError

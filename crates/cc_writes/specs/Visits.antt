@@ -1,5 +1,5 @@
 -- What the visits of a pass to the journal leave of a call.
-use Rattle.std.specs.Prelude.{◌≡◌, ℕ, suc, ◌⊎◌, Bool, true, false, List, ◌∷◌, Option}
+use Rattle.std.specs.Prelude.{◌≡◌, ℕ, suc, ◌⊎◌, Bool, true, false, List, ◌∷◌, Option, Result}
 use Rattle.std.specs.declared.option.Option.TheVariants.{Some, None}
 use Rattle.cc_entry.specs.declared.call.Call.{Call}
 use Rattle.cc_entry.specs.declared.error.CcError.TheVariants as error
@@ -25,10 +25,12 @@ use Rattle.cc_turns.specs.Standing.{Standing}
 use Rattle.cc_turns.specs.Takes.{Grows}
 use Rattle.cc_writes.specs.Hands.{SameDisk, Went, WentWith}
 use Rattle.cc_writes.specs.Ways.{EndedSo, IsFullCall, IsFullOn, IsHalted}
-use Rattle.cc_writes.specs.declared.visits.Tried.{Tried}
-use Rattle.cc_writes.specs.declared.visits.Tried.TheVariants as tried
-use Rattle.cc_writes.specs.declared.visits.CallStep.{CallStep}
-use Rattle.cc_writes.specs.declared.visits.CallStep.TheVariants as step
+use Rattle.cc_step.specs.declared.ways.Way.{Way}
+use Rattle.cc_step.specs.declared.ways.Way.TheVariants as way
+use Rattle.cc_entry.specs.declared.error.CcError.{CcError}
+use Rattle.cc_writes.specs.declared.course.Course.{Course}
+use Rattle.cc_writes.specs.declared.course.Course.TheVariants as course
+use Rattle.cc_writes.specs.declared.tell.Returned.{Returned}
 
 -- the call is filed under the stream, whatever holds are open
 abbrev pub CallIsOfStream : Call → ℕ → Type 0
@@ -52,34 +54,56 @@ pub record IsToBeWritten (u : Setup) (s : ℕ) (it : Call) (page : ℕ) (past : 
   pub dirty : is_dirty (history past s) page ≡ true
   pub stamped : is_unstamped (history past s) page ≡ false
 
--- What an attempt at a call that was under way leaves, by cases over how it ended.
-abbrev pub TriedLeft : Setup → ℕ → ℕ → Call → Tried → List Entry → List Entry → List ℕ → List ℕ → Type 0
-TriedLeft u me s it (tried.Ended answer) old new was now = EndedSo u me it answer old new was now
-TriedLeft u me s it (tried.Waits page again) old new was now =
+-- What a part of a call that was under way leaves of it, by cases over its course: where it goes on, that is so which is
+-- said of the way.
+abbrev pub CourseLeft : {T : Type 0} → (T → Type 0) → Setup → ℕ → Call → Course T
+    → List Entry → List Entry → List ℕ → List ℕ → Type 0
+CourseLeft said u me it (course.Ended answer) old new was now = EndedSo u me it answer old new was now
+CourseLeft said u me it (course.GoesOn way) old new was now = said way
+
+-- Where a call ended, this is so of its answer.
+abbrev pub OnEnded : {T : Type 0} → Course T → (Result Returned CcError → Type 0) → Type 0
+OnEnded (course.Ended answer) said = said answer
+OnEnded (course.GoesOn way) said = Unit {0}
+
+-- Where a call goes on, this is so of the way.
+abbrev pub OnGoing : {T : Type 0} → Course T → (T → Type 0) → Type 0
+OnGoing (course.Ended answer) said = Unit {0}
+OnGoing (course.GoesOn way) said = said way
+
+-- a call waits for a page, which was under way and still is, and its caller was told nothing
+abbrev pub WaitsFor : Setup → ℕ → ℕ → Call → ℕ → Call → List Entry → List Entry → List ℕ → List ℕ → Type 0
+WaitsFor u me s it page again old new was now =
     (again ≡ it) × IsUnderWay me it old new × IsWaitedFor u s it page new × (now ≡ was)
 
--- What the next step of a call that was under way leaves, by cases over it.
-abbrev pub CallStepLeft : Setup → ℕ → ℕ → Call → CallStep → List Entry → List Entry → List ℕ → List ℕ → Type 0
-CallStepLeft u me s it (step.Ended answer) old new was now = EndedSo u me it answer old new was now
-CallStepLeft u me s it (step.WentOut again) old new was now = (again ≡ it) × IsUnderWay me it old new × (now ≡ was)
-CallStepLeft u me s it (step.Writes page again) old new was now =
+-- What an attempt at a call that was under way leaves: where it goes on, it waits for a page.
+abbrev pub TriedLeft : Setup → ℕ → ℕ → Call → Course (ℕ × Call) → List Entry → List Entry → List ℕ → List ℕ → Type 0
+TriedLeft u me s it tried old new was now =
+    CourseLeft (λ (waits : ℕ × Call). WaitsFor u me s it waits.0 waits.1 old new was now) u me it tried old new was now
+
+-- What each way leaves of a call that was under way, by cases.
+abbrev pub WayGone : Setup → ℕ → ℕ → Call → Way → List Entry → List Entry → List ℕ → List ℕ → Type 0
+WayGone u me s it (way.WentOut again) old new was now = (again ≡ it) × IsUnderWay me it old new × (now ≡ was)
+WayGone u me s it (way.Writes page again) old new was now =
     (again ≡ it) × IsUnderWay me it old new × IsToBeWritten u s it page new × (now ≡ was)
-CallStepLeft u me s it (step.Reads page again) old new was now =
-    (again ≡ it) × IsUnderWay me it old new × IsWaitedFor u s it page new × (now ≡ was)
+WayGone u me s it (way.Reads page again) old new was now = WaitsFor u me s it page again old new was now
+
+-- What the next step of a call that was under way leaves.
+abbrev pub CallStepLeft : Setup → ℕ → ℕ → Call → Course Way → List Entry → List Entry → List ℕ → List ℕ → Type 0
+CallStepLeft u me s it step old new was now =
+    CourseLeft (λ (taken : Way). WayGone u me s it taken old new was now) u me it step old new was now
 
 -- an attempt at a call on a stream that stopped for want of room, or ended otherwise
-abbrev pub IsFullTried : Standing → ℕ → Call → Tried → Type 0
-IsFullTried w s it (tried.Ended answer) = IsFullOn s it w answer
-IsFullTried w s it (tried.Waits page again) = Unit {0}
+abbrev pub IsFullTried : Standing → ℕ → Call → Course (ℕ × Call) → Type 0
+IsFullTried w s it tried = OnEnded tried (λ (answer : Result Returned CcError). IsFullOn s it w answer)
 
 -- the same of a step of a call that may bring pages in, each of which asks a place too
-abbrev pub IsFullCallStep : Standing → Call → CallStep → Type 0
-IsFullCallStep w it (step.Ended answer) = IsFullCall it w answer
-IsFullCallStep w it other = Unit {0}
+abbrev pub IsFullCallStep : Standing → Call → Course Way → Type 0
+IsFullCallStep w it step = OnEnded step (λ (answer : Result Returned CcError). IsFullCall it w answer)
 
 -- The pass goes on as it stood; with a page that is to be read it has a place reserved for the entry.
-abbrev pub CallStepWent : CallStep → Standing → Standing → Type 0
-CallStepWent (step.Reads page again) old new = WentWith (suc old.in_flight) old new
+abbrev pub CallStepWent : Course Way → Standing → Standing → Type 0
+CallStepWent (course.GoesOn (way.Reads page again)) old new = WentWith (suc old.in_flight) old new
 CallStepWent other old new = Went old new
 
 -- A page that is to come in was read from what the disk is known to hold, if it was read.
@@ -131,10 +155,13 @@ pub record HasGoneOut (w : Standing) (s : ℕ) (it : Call) (seen : List Entry) :
   pub next : makes_way it (record { stream = s; page = page }) placed.front ≡ true
   pub resident : is_resident (history placed.front s) page ≡ true
 
--- What a step placed, by cases over it: where it asks for a page it placed nothing, and for the block of one that is to
--- come in there is room.
-abbrev pub CallStepPlaced : Standing → ℕ → Call → CallStep → List Entry → Type 0
-CallStepPlaced w s it (step.Ended answer) seen = Unit {0}
-CallStepPlaced w s it (step.WentOut again) seen = HasGoneOut w s it seen
-CallStepPlaced w s it (step.Writes page again) seen = Grows w seen
-CallStepPlaced w s it (step.Reads page again) seen = Grows w seen × (has_room (history seen s) page ≡ true)
+-- What each way placed, by cases: where a page is asked for, nothing, and for the block of one that is to come in there is
+-- room.
+abbrev pub WayPlaced : Standing → ℕ → Call → Way → List Entry → Type 0
+WayPlaced w s it (way.WentOut again) seen = HasGoneOut w s it seen
+WayPlaced w s it (way.Writes page again) seen = Grows w seen
+WayPlaced w s it (way.Reads page again) seen = Grows w seen × (has_room (history seen s) page ≡ true)
+
+-- What a step placed where the call goes on.
+abbrev pub CallStepPlaced : Standing → ℕ → Call → Course Way → List Entry → Type 0
+CallStepPlaced w s it step seen = OnGoing step (λ (taken : Way). WayPlaced w s it taken seen)

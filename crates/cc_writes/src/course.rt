@@ -1,13 +1,13 @@
-//! The course of a call: it goes on, or it has ended.
+//! The course of a call: it has ended, or it goes on.
 
 use crate::Returned;
-use cc_entry::{Call, CcError};
+use cc_entry::CcError;
 
-/// How a call stands after a round.
+/// How a call stands after a part of it.
 #[derive(Drop)]
-pub(crate) enum Course {
-    /// It goes on.
-    Goes(Call),
+pub enum Course<T> {
     /// It was done, and returns this to its caller, or it failed.
     Ended(Result<Returned, CcError>),
+    /// It goes on so, and is handed back.
+    GoesOn(T),
 }

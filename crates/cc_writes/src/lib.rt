@@ -18,8 +18,8 @@
 //! `visits` has the visits, `release` one that gives back a place, `tell` what a call returns to its caller. `writes` has
 //! the writing of a page, `log` the flush of its log, which the calls on a log use too, `transfers` the begin, the
 //! transfer itself and the end, and `calls` the writing of a page for a call. `rounds` has the rounds of a call, `pages`
-//! how one of them brings a page in, `course` how the call stands after it, and `keeping` when the book is kept. The calls
-//! stand above, and what flushes and purges. Below are the turns with the transfer and the reading of a page (`cc_turns`),
+//! how one of them brings a page in, and `keeping` when the book is kept; `course` has how a call stands after a visit or a
+//! round. The calls stand above, and what flushes and purges. Below are the turns with the transfer and the reading of a page (`cc_turns`),
 //! the steps of a call on a book (`cc_step`), and a log under its turn (`cc_log`).
 #![tactic(auto)]
 
@@ -36,11 +36,12 @@ mod visits;
 mod writes;
 
 pub use calls::{fail, given_up, write_for};
+pub use course::Course;
 pub use keeping::Rounds;
 pub use log::{LogFlush, flush_log, flush_to, give_back, place};
 pub use pages::read_free;
 pub use release::release_at;
 pub use rounds::fetch;
 pub use tell::{Returned, tell_last};
-pub use visits::{CallStep, Tried, attempt_at, fail_at, land_at, next_call_step, unread_at};
+pub use visits::{attempt_at, fail_at, land_at, next_call_step, unread_at};
 pub use writes::{PageTransfer, finish_transfer, write_page};

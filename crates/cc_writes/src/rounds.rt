@@ -17,9 +17,10 @@ use crate::calls::write_for;
 use crate::course::Course;
 use crate::keeping::Rounds;
 use crate::pages::bring;
-use crate::{CallStep, Returned, next_call_step};
+use crate::{Returned, next_call_step};
 use cc_book::Book;
 use cc_entry::{Call, CcError, StreamId};
+use cc_step::Way;
 use cc_turns::Turns;
 use std::alloc::Global;
 
@@ -85,7 +86,7 @@ fn until_ended<T: Turns>(
         let (now, course) = round(alloc, turns, disk, book, call, out, &mut rounds);
         book = now;
         match course {
-            Course::Goes(again) => call = again,
+            Course::GoesOn(again) => call = again,
             Course::Ended(answer) => return (book, answer),
         }
     }
@@ -100,7 +101,7 @@ fn round<T: Turns>(
     call: Call,
     out: &mut [u8],
     rounds: &mut Rounds,
-) -> (Book, Course)
+) -> (Book, Course<Call>)
     requires known { book.stream < (T.standing turns.old).streams }
     requires both { HasBoth T.Disk.told T.Disk.faults (T.standing turns.old) book.stream book disk.old }
     requires none { (T.standing turns.old).in_flight ≡ 0 }
@@ -119,14 +120,14 @@ fn round<T: Turns>(
     ensures full { IsFullCourse call (T.standing turns.new) result.1 }
 {
     match next_call_step(alloc, turns, &mut book, call, out) {
-        CallStep::Ended(answer) => (book, Course::Ended(answer)),
-        CallStep::WentOut(call) => (book, Course::Goes(call)),
-        CallStep::Writes(page, call) => {
+        Course::Ended(answer) => (book, Course::Ended(answer)),
+        Course::GoesOn(Way::WentOut(call)) => (book, Course::GoesOn(call)),
+        Course::GoesOn(Way::Writes(page, call)) => {
             let keeps = rounds.keeps_for_write(page);
             let (book, left) = write_for(alloc, turns, disk, book, call, page, keeps);
             (book, course_of(left))
         }
-        CallStep::Reads(page, call) => {
+        Course::GoesOn(Way::Reads(page, call)) => {
             let keeps = rounds.keeps_for_read(page);
             let (book, left) = bring(alloc, turns, disk, book, call, page, keeps);
             (book, course_of(left))
@@ -135,11 +136,11 @@ fn round<T: Turns>(
 }
 
 // The course of a call after a page step.
-fn course_of(left: Result<Call, CcError>) -> Course
+fn course_of(left: Result<Call, CcError>) -> Course<Call>
     ensures { result ≡ course_of left }
 {
     match left {
-        Ok(call) => Course::Goes(call),
+        Ok(call) => Course::GoesOn(call),
         Err(error) => Course::Ended(Err(error)),
     }
 }

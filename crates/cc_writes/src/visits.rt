@@ -13,39 +13,18 @@ ghost use Rattle.cc_step.specs.Step.{StandUnder, is_answered, is_stepped};
 ghost use Rattle.cc_effects.specs.Begins.{BeginsNone, TakesNoneOut};
 ghost use Rattle.cc_writes.specs.Alone.{NobodyElseChanged};
 ghost use Rattle.cc_writes.specs.Hands.{HasBook, IsAtRest, SameDisk, Went, WentWith};
-ghost use Rattle.cc_writes.specs.Told.{FitsNext, FitsStepped, StepAs, TriedAs, fault_answer};
+ghost use Rattle.cc_writes.specs.Told.{CourseAs, FitsAttempt, fault_answer};
 ghost use Rattle.cc_writes.specs.Ways.{ReadFitsIn, IsFull, IsHalted, IsCallReason, WasWanted};
 ghost use Rattle.cc_writes.specs.Visits.{IsFiledNow, CallIsOfStream, TriedLeft, CallStepLeft, CallStepPlaced, CallStepWent, IsFullTried, IsFullCallStep, WasReadFor, VisitLandLeft, UnreadPlaced, VisitUnreadLeft};
 
-use crate::tell::{Returned, tell_last};
+use crate::course::Course;
+use crate::tell::tell_last;
 use cc_book::Book;
 use cc_entry::{Call, CcError, NoMemory};
 use cc_journal::Journal;
-use cc_step::{Failed, Next, Stepped, attempt, fail, land_on_book, next, unread};
+use cc_step::{Attempt, Failed, Way, attempt, fail, land_on_book, next, unread};
 use cc_turns::Turns;
 use std::alloc::Global;
-
-/// How an attempt at a call ended.
-#[derive(Drop)]
-pub enum Tried {
-    /// The call was done, and returns this to its caller, or it failed.
-    Ended(Result<Returned, CcError>),
-    /// It waits for this page, and is handed back.
-    Waits(u64, Call),
-}
-
-/// What a call does next that may bring pages in.
-#[derive(Drop)]
-pub enum CallStep {
-    /// It was done, and returns this to its caller, or it failed.
-    Ended(Result<Returned, CcError>),
-    /// A page of the block to give up went out.
-    WentOut(Call),
-    /// This page of the block to give up is to be written before.
-    Writes(u64, Call),
-    /// This page is to come in. A place is reserved for the entry of its read.
-    Reads(u64, Call),
-}
 
 /// Attempts a call on its book.
 pub fn attempt_at<T: Turns>(
@@ -54,7 +33,7 @@ pub fn attempt_at<T: Turns>(
     book: &mut Book,
     call: Call,
     out: &mut [u8],
-) -> Tried
+) -> Course<(u64, Call)>
     requires book { HasBook (T.standing turns.old) book.old.stream book.old }
     requires none { (T.standing turns.old).in_flight ≡ 0 }
     requires stepped { is_stepped call ≡ true }
@@ -73,9 +52,9 @@ pub fn attempt_at<T: Turns>(
     let mut journal = turns.take_journal();
     let pass = turns.me();
     let ended = attempt(alloc, book, &mut journal, pass, call);
-    let tried = tried_of(ended, &journal, out);
+    let course = told_course(ended, &journal, out);
     turns.give_journal(journal);
-    tried
+    course
 }
 
 /// Takes the next step of a call that may bring pages in, with its stream's disk in hand.
@@ -85,7 +64,7 @@ pub fn next_call_step<T: Turns>(
     book: &mut Book,
     call: Call,
     out: &mut [u8],
-) -> CallStep
+) -> Course<Way>
     requires book { HasBook (T.standing turns.old) book.old.stream book.old }
     requires rest { IsAtRest (T.standing turns.old) book.old.stream }
     requires none { (T.standing turns.old).in_flight ≡ 0 }
@@ -107,9 +86,9 @@ pub fn next_call_step<T: Turns>(
     let mut journal = turns.take_journal();
     let pass = turns.me();
     let ended = next(alloc, book, &mut journal, pass, call);
-    let step = step_of(ended, &journal, out);
+    let course = told_course(ended, &journal, out);
     turns.give_journal(journal);
-    step
+    course
 }
 
 /// Brings a page in that a call waits for, from the raw bytes of the disk where it was read, exactly if the call still
@@ -211,31 +190,16 @@ pub fn fail_at<T: Turns>(
     answer_of(ended, fault)
 }
 
-// How an attempt ended, with the reply told where the call was done.
-fn tried_of<Q>(ended: Stepped, journal: &Journal<Q>, out: &mut [u8]) -> Tried
-    requires fits { FitsStepped ended journal.now.entries out.old }
-    ensures { TriedAs ended result journal.now.entries out.old out.new }
+// The course of a call after an attempt, with the reply told where the call was done.
+fn told_course<T, Q>(ended: Attempt<T>, journal: &Journal<Q>, out: &mut [u8]) -> Course<T>
+    requires fits { FitsAttempt ended journal.now.entries out.old }
+    ensures { CourseAs ended result journal.now.entries out.old out.new }
 {
     match ended {
-        Stepped::Done => Tried::Ended(Ok(tell_last(journal, out))),
-        Stepped::Refused(error) => Tried::Ended(Err(error)),
-        Stepped::Waits(page, call) => Tried::Waits(page, call),
-        Stepped::Stopped(error) => Tried::Ended(Err(error)),
-    }
-}
-
-// The step that was taken, with the reply told where the call was done.
-fn step_of<Q>(ended: Next, journal: &Journal<Q>, out: &mut [u8]) -> CallStep
-    requires fits { FitsNext ended journal.now.entries out.old }
-    ensures { StepAs ended result journal.now.entries out.old out.new }
-{
-    match ended {
-        Next::Done => CallStep::Ended(Ok(tell_last(journal, out))),
-        Next::Refused(error) => CallStep::Ended(Err(error)),
-        Next::WentOut(call) => CallStep::WentOut(call),
-        Next::Writes(page, call) => CallStep::Writes(page, call),
-        Next::Reads(page, call) => CallStep::Reads(page, call),
-        Next::Stopped(error) => CallStep::Ended(Err(error)),
+        Attempt::Done => Course::Ended(Ok(tell_last(journal, out))),
+        Attempt::Refused(error) => Course::Ended(Err(error)),
+        Attempt::Stopped(error) => Course::Ended(Err(error)),
+        Attempt::GoesOn(way) => Course::GoesOn(way),
     }
 }
 

@@ -13,5 +13,5 @@ returns-clause-ends g c =
 pub unreachable-requires : goal.unreachable-requires
 unreachable-requires g c =
     let w = g.T.Turns.standing c.args.turns.now in
-    let left = rw c.in-Waits.is at (c.turned.ensures.left w.seen (begins w.number c.args.call w.seen)) in
-    never-waits w.setup c.args.stream c.in-Waits.field-0 c.args.call (g.T.Turns.standing c.turned.new.turns).seen c.requires.pageless left.2
+    let left = rw c.in-GoesOn.is at (c.turned.ensures.left w.seen (begins w.number c.args.call w.seen)) in
+    never-waits w.setup c.args.stream _ c.args.call (g.T.Turns.standing c.turned.new.turns).seen c.requires.pageless left.2

@@ -44,10 +44,21 @@ returns-in-Ok g c u may waits =
       reserved = c.in-Ok.ensures.reserved;
     }
 
-pub returns-else-has_room : goal.returns-else-has_room
-returns-else-has_room g c u may waits =
+pub returns-in-Ok-make_room : goal.returns-in-Ok-make_room
+returns-in-Ok-make_room g c u may waits =
     let stand = may.may.stand in
-    c.make_room.ensures.left u c.args.page may
+    c.in-Ok-make_room.ensures.left u c.args.page may
+    (record {
+      good = stand.good;
+      stands = stand.stands;
+      waits = waits;
+      full = sym (c.has_room.ensures (u.opening c.args.book.now.stream) c.args.journal.now.entries stand.stands) ∙ c.if-has_room.false;
+    })
+
+pub returns-in-Err-make_room : goal.returns-in-Err-make_room
+returns-in-Err-make_room g c u may waits =
+    let stand = may.may.stand in
+    c.in-Err-make_room.ensures.left u c.args.page may
     (record {
       good = stand.good;
       stands = stand.stands;

@@ -30,13 +30,19 @@ returns-in-Ended-clause-both g c =
     still_of g.T.Disk.Told.told g.T.Disk.Told.faults w.in_flight w v s s c.args.book c.next_call_step.new.book c.args.disk.now refl c.requires.both
     c.next_call_step.ensures.book c.next_call_step.ensures.rest c.in-Ended.ensures.went c.next_call_step.ensures.disk
 
-pub returns-in-WentOut-clause-both : goal.returns-in-WentOut-clause-both
-returns-in-WentOut-clause-both g c =
+pub returns-in-GoesOn-WentOut-clause-both : goal.returns-in-GoesOn-WentOut-clause-both
+returns-in-GoesOn-WentOut-clause-both g c =
     let w = g.T.Turns.standing c.args.turns.now in
     let v = g.T.Turns.standing c.next_call_step.new.turns in
     let s = c.args.book.stream in
+    let gone = rw c.in-GoesOn-WentOut.field-0-is at c.in-GoesOn-WentOut.ensures.went in
     still_of g.T.Disk.Told.told g.T.Disk.Told.faults w.in_flight w v s s c.args.book c.next_call_step.new.book c.args.disk.now refl c.requires.both
-    c.next_call_step.ensures.book c.next_call_step.ensures.rest c.in-WentOut.ensures.went c.next_call_step.ensures.disk
+    c.next_call_step.ensures.book c.next_call_step.ensures.rest gone c.next_call_step.ensures.disk
+
+pub returns-in-GoesOn-WentOut-clause-left : goal.returns-in-GoesOn-WentOut-clause-left
+returns-in-GoesOn-WentOut-clause-left g c begun way =
+    let stepped = rw c.in-GoesOn-WentOut.field-0-is at c.in-GoesOn-WentOut.ensures.left in
+    stepped begun way
 
 pub write_for-book-requires-clause-both : goal.write_for-book-requires-clause-both
 write_for-book-requires-clause-both g c =
@@ -45,17 +51,20 @@ write_for-book-requires-clause-both g c =
     let s = c.args.book.stream in
     let told = g.T.Disk.Told.told in
     let faults = g.T.Disk.Told.faults in
+    let gone = rw c.in-GoesOn-Writes.field-0-is at c.in-GoesOn-Writes.ensures.went in
     subst (λ (n : ℕ). HasBoth told faults v n c.next_call_step.new.book c.args.disk.now) (sym c.next_call_step.ensures.book.stream)
     (still_of told faults w.in_flight w v s s c.args.book c.next_call_step.new.book c.args.disk.now refl c.requires.both
-    c.next_call_step.ensures.book c.next_call_step.ensures.rest c.in-Writes.ensures.went c.next_call_step.ensures.disk)
+    c.next_call_step.ensures.book c.next_call_step.ensures.rest gone c.next_call_step.ensures.disk)
 
 pub write_for-book-requires-clause-answered : goal.write_for-book-requires-clause-answered
 write_for-book-requires-clause-answered g c =
     let w = g.T.Turns.standing c.args.turns.now in
     let v = g.T.Turns.standing c.next_call_step.new.turns in
     let s = c.args.book.stream in
+    let gone = rw c.in-GoesOn-Writes.field-0-is at c.in-GoesOn-Writes.ensures.went in
+    let stepped = rw c.in-GoesOn-Writes.field-0-is at c.in-GoesOn-Writes.ensures.left in
     subst (λ (it : Call). is_answered it ≡ true)
-    (sym (to_write_call w v s w.in_flight c.args.call c.in-Writes.call c.in-Writes.page c.args.out.now c.next_call_step.new.out c.in-Writes.ensures.went c.in-Writes.ensures.left))
+    (sym (to_write_call w v s w.in_flight c.args.call c.in-GoesOn-Writes.call c.in-GoesOn-Writes.page c.args.out.now c.next_call_step.new.out gone stepped))
     (stepped-answered c.args.call c.requires.stepped)
 
 pub write_for-book-requires-clause-faults : goal.write_for-book-requires-clause-faults
@@ -63,8 +72,10 @@ write_for-book-requires-clause-faults g c =
     let w = g.T.Turns.standing c.args.turns.now in
     let v = g.T.Turns.standing c.next_call_step.new.turns in
     let s = c.args.book.stream in
+    let gone = rw c.in-GoesOn-Writes.field-0-is at c.in-GoesOn-Writes.ensures.went in
+    let stepped = rw c.in-GoesOn-Writes.field-0-is at c.in-GoesOn-Writes.ensures.left in
     subst (λ (it : Call). MayFaultInWriting it)
-    (sym (to_write_call w v s w.in_flight c.args.call c.in-Writes.call c.in-Writes.page c.args.out.now c.next_call_step.new.out c.in-Writes.ensures.went c.in-Writes.ensures.left))
+    (sym (to_write_call w v s w.in_flight c.args.call c.in-GoesOn-Writes.call c.in-GoesOn-Writes.page c.args.out.now c.next_call_step.new.out gone stepped))
     (may-fault c.args.call c.requires.stepped c.requires.brings)
 
 pub write_for-book-requires-clause-filed : goal.write_for-book-requires-clause-filed
@@ -72,8 +83,10 @@ write_for-book-requires-clause-filed g c =
     let w = g.T.Turns.standing c.args.turns.now in
     let v = g.T.Turns.standing c.next_call_step.new.turns in
     let s = c.args.book.stream in
+    let gone = rw c.in-GoesOn-Writes.field-0-is at c.in-GoesOn-Writes.ensures.went in
+    let stepped = rw c.in-GoesOn-Writes.field-0-is at c.in-GoesOn-Writes.ensures.left in
     subst (λ (it : Call). CallIsOfStream it c.next_call_step.new.book.stream)
-    (sym (to_write_call w v s w.in_flight c.args.call c.in-Writes.call c.in-Writes.page c.args.out.now c.next_call_step.new.out c.in-Writes.ensures.went c.in-Writes.ensures.left))
+    (sym (to_write_call w v s w.in_flight c.args.call c.in-GoesOn-Writes.call c.in-GoesOn-Writes.page c.args.out.now c.next_call_step.new.out gone stepped))
     (subst (λ (n : ℕ). CallIsOfStream c.args.call n) (sym c.next_call_step.ensures.book.stream) c.requires.filed)
 
 pub write_for-book-requires-clause-admitted : goal.write_for-book-requires-clause-admitted
@@ -81,8 +94,10 @@ write_for-book-requires-clause-admitted g c =
     let w = g.T.Turns.standing c.args.turns.now in
     let v = g.T.Turns.standing c.next_call_step.new.turns in
     let s = c.args.book.stream in
-    let to = to_write w v s w.in_flight c.args.call c.in-Writes.call c.in-Writes.page c.args.out.now c.next_call_step.new.out c.in-Writes.ensures.went
-    c.next_call_step.new.book.stream c.next_call_step.ensures.book.stream c.in-Writes.ensures.left in
+    let gone = rw c.in-GoesOn-Writes.field-0-is at c.in-GoesOn-Writes.ensures.went in
+    let stepped = rw c.in-GoesOn-Writes.field-0-is at c.in-GoesOn-Writes.ensures.left in
+    let to = to_write w v s w.in_flight c.args.call c.in-GoesOn-Writes.call c.in-GoesOn-Writes.page c.args.out.now c.next_call_step.new.out gone
+    c.next_call_step.new.book.stream c.next_call_step.ensures.book.stream stepped in
     to.admitted
 
 pub write_for-book-requires-clause-asked : goal.write_for-book-requires-clause-asked
@@ -90,28 +105,34 @@ write_for-book-requires-clause-asked g c =
     let w = g.T.Turns.standing c.args.turns.now in
     let v = g.T.Turns.standing c.next_call_step.new.turns in
     let s = c.args.book.stream in
-    let to = to_write w v s w.in_flight c.args.call c.in-Writes.call c.in-Writes.page c.args.out.now c.next_call_step.new.out c.in-Writes.ensures.went
-    c.next_call_step.new.book.stream c.next_call_step.ensures.book.stream c.in-Writes.ensures.left in
-    may-write c.in-Writes.call (record { stream = c.next_call_step.new.book.stream; page = c.in-Writes.page }) v.seen to.in_the_way
+    let gone = rw c.in-GoesOn-Writes.field-0-is at c.in-GoesOn-Writes.ensures.went in
+    let stepped = rw c.in-GoesOn-Writes.field-0-is at c.in-GoesOn-Writes.ensures.left in
+    let to = to_write w v s w.in_flight c.args.call c.in-GoesOn-Writes.call c.in-GoesOn-Writes.page c.args.out.now c.next_call_step.new.out gone
+    c.next_call_step.new.book.stream c.next_call_step.ensures.book.stream stepped in
+    may-write c.in-GoesOn-Writes.call (record { stream = c.next_call_step.new.book.stream; page = c.in-GoesOn-Writes.page }) v.seen to.in_the_way
 
 pub write_for-book-requires-clause-to_write : goal.write_for-book-requires-clause-to_write
 write_for-book-requires-clause-to_write g c =
     let w = g.T.Turns.standing c.args.turns.now in
     let v = g.T.Turns.standing c.next_call_step.new.turns in
     let s = c.args.book.stream in
-    let to = to_write w v s w.in_flight c.args.call c.in-Writes.call c.in-Writes.page c.args.out.now c.next_call_step.new.out c.in-Writes.ensures.went
-    c.next_call_step.new.book.stream c.next_call_step.ensures.book.stream c.in-Writes.ensures.left in
+    let gone = rw c.in-GoesOn-Writes.field-0-is at c.in-GoesOn-Writes.ensures.went in
+    let stepped = rw c.in-GoesOn-Writes.field-0-is at c.in-GoesOn-Writes.ensures.left in
+    let to = to_write w v s w.in_flight c.args.call c.in-GoesOn-Writes.call c.in-GoesOn-Writes.page c.args.out.now c.next_call_step.new.out gone
+    c.next_call_step.new.book.stream c.next_call_step.ensures.book.stream stepped in
     record { dirty = to.dirty; stamped = to.stamped }
 
-pub returns-in-Writes-clause-left : goal.returns-in-Writes-clause-left
-returns-in-Writes-clause-left g c begun way =
+pub returns-in-GoesOn-Writes-clause-left : goal.returns-in-GoesOn-Writes-clause-left
+returns-in-GoesOn-Writes-clause-left g c begun way =
     let w = g.T.Turns.standing c.args.turns.now in
     let v = g.T.Turns.standing c.next_call_step.new.turns in
     let s = c.args.book.stream in
     let new = (g.T.Turns.standing c.write_for-book.new.turns).seen in
-    subst (λ (o : Course). RoundLeft w.setup w.number c.args.call o begun new c.args.out.now c.next_call_step.new.out) (sym c.course_of.ensures)
-    (round_wrote w v s w.in_flight c.args.call c.in-Writes.call c.in-Writes.page c.args.out.now c.next_call_step.new.out c.in-Writes.ensures.went
-    c.write_for-book.result.1 new c.in-Writes.ensures.left c.write_for-book.ensures.left begun way)
+    let gone = rw c.in-GoesOn-Writes.field-0-is at c.in-GoesOn-Writes.ensures.went in
+    let stepped = rw c.in-GoesOn-Writes.field-0-is at c.in-GoesOn-Writes.ensures.left in
+    subst (λ (o : Course Call). RoundLeft w.setup w.number c.args.call o begun new c.args.out.now c.next_call_step.new.out) (sym c.course_of.ensures)
+    (round_wrote w v s w.in_flight c.args.call c.in-GoesOn-Writes.call c.in-GoesOn-Writes.page c.args.out.now c.next_call_step.new.out gone
+    c.write_for-book.result.1 new stepped c.write_for-book.ensures.left begun way)
 
 pub bring-book-requires-clause-both : goal.bring-book-requires-clause-both
 bring-book-requires-clause-both g c =
@@ -120,17 +141,20 @@ bring-book-requires-clause-both g c =
     let s = c.args.book.stream in
     let told = g.T.Disk.Told.told in
     let faults = g.T.Disk.Told.faults in
+    let gone = rw c.in-GoesOn-Reads.field-0-is at c.in-GoesOn-Reads.ensures.went in
     subst (λ (n : ℕ). HasBoth told faults v n c.next_call_step.new.book c.args.disk.now) (sym c.next_call_step.ensures.book.stream)
     (still_of told faults (suc w.in_flight) w v s s c.args.book c.next_call_step.new.book c.args.disk.now refl c.requires.both
-    c.next_call_step.ensures.book c.next_call_step.ensures.rest c.in-Reads.ensures.went c.next_call_step.ensures.disk)
+    c.next_call_step.ensures.book c.next_call_step.ensures.rest gone c.next_call_step.ensures.disk)
 
 pub bring-book-requires-clause-stepped : goal.bring-book-requires-clause-stepped
 bring-book-requires-clause-stepped g c =
     let w = g.T.Turns.standing c.args.turns.now in
     let v = g.T.Turns.standing c.next_call_step.new.turns in
     let s = c.args.book.stream in
+    let gone = rw c.in-GoesOn-Reads.field-0-is at c.in-GoesOn-Reads.ensures.went in
+    let stepped = rw c.in-GoesOn-Reads.field-0-is at c.in-GoesOn-Reads.ensures.left in
     subst (λ (it : Call). is_stepped it ≡ true)
-    (sym (to_read_call w v s (suc w.in_flight) c.args.call c.in-Reads.call c.in-Reads.page c.args.out.now c.next_call_step.new.out c.in-Reads.ensures.went c.in-Reads.ensures.left))
+    (sym (to_read_call w v s (suc w.in_flight) c.args.call c.in-GoesOn-Reads.call c.in-GoesOn-Reads.page c.args.out.now c.next_call_step.new.out gone stepped))
     c.requires.stepped
 
 pub bring-book-requires-clause-brings : goal.bring-book-requires-clause-brings
@@ -138,8 +162,10 @@ bring-book-requires-clause-brings g c =
     let w = g.T.Turns.standing c.args.turns.now in
     let v = g.T.Turns.standing c.next_call_step.new.turns in
     let s = c.args.book.stream in
+    let gone = rw c.in-GoesOn-Reads.field-0-is at c.in-GoesOn-Reads.ensures.went in
+    let stepped = rw c.in-GoesOn-Reads.field-0-is at c.in-GoesOn-Reads.ensures.left in
     subst (λ (it : Call). brings_in it ≡ true)
-    (sym (to_read_call w v s (suc w.in_flight) c.args.call c.in-Reads.call c.in-Reads.page c.args.out.now c.next_call_step.new.out c.in-Reads.ensures.went c.in-Reads.ensures.left))
+    (sym (to_read_call w v s (suc w.in_flight) c.args.call c.in-GoesOn-Reads.call c.in-GoesOn-Reads.page c.args.out.now c.next_call_step.new.out gone stepped))
     c.requires.brings
 
 pub bring-book-requires-clause-filed : goal.bring-book-requires-clause-filed
@@ -147,8 +173,10 @@ bring-book-requires-clause-filed g c =
     let w = g.T.Turns.standing c.args.turns.now in
     let v = g.T.Turns.standing c.next_call_step.new.turns in
     let s = c.args.book.stream in
+    let gone = rw c.in-GoesOn-Reads.field-0-is at c.in-GoesOn-Reads.ensures.went in
+    let stepped = rw c.in-GoesOn-Reads.field-0-is at c.in-GoesOn-Reads.ensures.left in
     subst (λ (it : Call). CallIsOfStream it c.next_call_step.new.book.stream)
-    (sym (to_read_call w v s (suc w.in_flight) c.args.call c.in-Reads.call c.in-Reads.page c.args.out.now c.next_call_step.new.out c.in-Reads.ensures.went c.in-Reads.ensures.left))
+    (sym (to_read_call w v s (suc w.in_flight) c.args.call c.in-GoesOn-Reads.call c.in-GoesOn-Reads.page c.args.out.now c.next_call_step.new.out gone stepped))
     (subst (λ (n : ℕ). CallIsOfStream c.args.call n) (sym c.next_call_step.ensures.book.stream) c.requires.filed)
 
 pub bring-book-requires-clause-waited : goal.bring-book-requires-clause-waited
@@ -156,86 +184,99 @@ bring-book-requires-clause-waited g c =
     let w = g.T.Turns.standing c.args.turns.now in
     let v = g.T.Turns.standing c.next_call_step.new.turns in
     let s = c.args.book.stream in
-    to_read w v s (suc w.in_flight) c.args.call c.in-Reads.call c.in-Reads.page c.args.out.now c.next_call_step.new.out c.in-Reads.ensures.went
-    c.next_call_step.new.book.stream c.next_call_step.ensures.book.stream c.in-Reads.ensures.left
+    let gone = rw c.in-GoesOn-Reads.field-0-is at c.in-GoesOn-Reads.ensures.went in
+    let stepped = rw c.in-GoesOn-Reads.field-0-is at c.in-GoesOn-Reads.ensures.left in
+    to_read w v s (suc w.in_flight) c.args.call c.in-GoesOn-Reads.call c.in-GoesOn-Reads.page c.args.out.now c.next_call_step.new.out gone
+    c.next_call_step.new.book.stream c.next_call_step.ensures.book.stream stepped
 
-pub returns-in-Reads-clause-left : goal.returns-in-Reads-clause-left
-returns-in-Reads-clause-left g c begun way =
+pub returns-in-GoesOn-Reads-clause-left : goal.returns-in-GoesOn-Reads-clause-left
+returns-in-GoesOn-Reads-clause-left g c begun way =
     let w = g.T.Turns.standing c.args.turns.now in
     let v = g.T.Turns.standing c.next_call_step.new.turns in
     let s = c.args.book.stream in
     let new = (g.T.Turns.standing c.bring-book.new.turns).seen in
-    subst (λ (o : Course). RoundLeft w.setup w.number c.args.call o begun new c.args.out.now c.next_call_step.new.out) (sym c.course_of-in-Reads.ensures)
-    (round_read w v s (suc w.in_flight) c.args.call c.in-Reads.call c.in-Reads.page c.args.out.now c.next_call_step.new.out c.in-Reads.ensures.went
-    c.bring-book.result.1 new c.in-Reads.ensures.left c.bring-book.ensures.left begun way)
+    let gone = rw c.in-GoesOn-Reads.field-0-is at c.in-GoesOn-Reads.ensures.went in
+    let stepped = rw c.in-GoesOn-Reads.field-0-is at c.in-GoesOn-Reads.ensures.left in
+    subst (λ (o : Course Call). RoundLeft w.setup w.number c.args.call o begun new c.args.out.now c.next_call_step.new.out) (sym c.course_of-in-GoesOn-Reads.ensures)
+    (round_read w v s (suc w.in_flight) c.args.call c.in-GoesOn-Reads.call c.in-GoesOn-Reads.page c.args.out.now c.next_call_step.new.out gone
+    c.bring-book.result.1 new stepped c.bring-book.ensures.left begun way)
 
 pub returns-in-Ended-clause-full : goal.returns-in-Ended-clause-full
 returns-in-Ended-clause-full g c =
     full-ended c.args.call (g.T.Turns.standing c.next_call_step.new.turns) c.in-Ended.answer c.in-Ended.ensures.full
 
-pub returns-in-Writes-clause-full : goal.returns-in-Writes-clause-full
-returns-in-Writes-clause-full g c =
+pub returns-in-GoesOn-Writes-clause-full : goal.returns-in-GoesOn-Writes-clause-full
+returns-in-GoesOn-Writes-clause-full g c =
     let x = g.T.Turns.standing c.write_for-book.new.turns in
     let w = g.T.Turns.standing c.args.turns.now in
     let v = g.T.Turns.standing c.next_call_step.new.turns in
     let s = c.args.book.stream in
-    let same = to_write_call w v s w.in_flight c.args.call c.in-Writes.call c.in-Writes.page c.args.out.now c.next_call_step.new.out c.in-Writes.ensures.went c.in-Writes.ensures.left in
-    subst (λ (o : Course). IsFullCourse c.args.call x o) (sym c.course_of.ensures)
+    let gone = rw c.in-GoesOn-Writes.field-0-is at c.in-GoesOn-Writes.ensures.went in
+    let stepped = rw c.in-GoesOn-Writes.field-0-is at c.in-GoesOn-Writes.ensures.left in
+    let same = to_write_call w v s w.in_flight c.args.call c.in-GoesOn-Writes.call c.in-GoesOn-Writes.page c.args.out.now c.next_call_step.new.out gone stepped in
+    subst (λ (o : Course Call). IsFullCourse c.args.call x o) (sym c.course_of.ensures)
     (full-wrote c.args.call x c.write_for-book.result.1 c.requires.brings
     (subst (λ (it : Call). IsFullWriting it x c.write_for-book.result.1) same c.write_for-book.ensures.writing))
 
-pub returns-in-Reads-clause-full : goal.returns-in-Reads-clause-full
-returns-in-Reads-clause-full g c =
+pub returns-in-GoesOn-Reads-clause-full : goal.returns-in-GoesOn-Reads-clause-full
+returns-in-GoesOn-Reads-clause-full g c =
     let x = g.T.Turns.standing c.bring-book.new.turns in
-    subst (λ (o : Course). IsFullCourse c.args.call x o) (sym c.course_of-in-Reads.ensures)
+    subst (λ (o : Course Call). IsFullCourse c.args.call x o) (sym c.course_of-in-GoesOn-Reads.ensures)
     (full-brought c.args.call x c.bring-book.result.1 c.requires.brings c.bring-book.ensures.full)
 
-pub returns-in-WentOut-clause-nearer : goal.returns-in-WentOut-clause-nearer
-returns-in-WentOut-clause-nearer g c =
+pub returns-in-GoesOn-WentOut-clause-nearer : goal.returns-in-GoesOn-WentOut-clause-nearer
+returns-in-GoesOn-WentOut-clause-nearer g c =
     let w = g.T.Turns.standing c.args.turns.now in
     let v = g.T.Turns.standing c.next_call_step.new.turns in
-    nearer-went c.args.book.stream c.args.call c.in-WentOut.call c.args.rounds.now w.seen v.seen
+    let placed = rw c.in-GoesOn-WentOut.field-0-is at c.in-GoesOn-WentOut.ensures.placed in
+    nearer-went c.args.book.stream c.args.call c.in-GoesOn-WentOut.call c.args.rounds.now w.seen v.seen
     (went-less w c.args.book.stream c.args.book c.requires.both.book c.requires.both.rest.device c.args.call (stepped-answered c.args.call c.requires.stepped) (brings-room c.args.call c.requires.brings)
-    v.seen c.in-WentOut.ensures.placed)
+    v.seen placed)
 
-pub returns-in-Writes-clause-nearer : goal.returns-in-Writes-clause-nearer
-returns-in-Writes-clause-nearer g c =
+pub returns-in-GoesOn-Writes-clause-nearer : goal.returns-in-GoesOn-Writes-clause-nearer
+returns-in-GoesOn-Writes-clause-nearer g c =
     let w = g.T.Turns.standing c.args.turns.now in
     let v = g.T.Turns.standing c.next_call_step.new.turns in
     let s = c.args.book.stream in
     let n = c.next_call_step.new.book.stream in
+    let gone = rw c.in-GoesOn-Writes.field-0-is at c.in-GoesOn-Writes.ensures.went in
+    let stepped = rw c.in-GoesOn-Writes.field-0-is at c.in-GoesOn-Writes.ensures.left in
+    let placed = rw c.in-GoesOn-Writes.field-0-is at c.in-GoesOn-Writes.ensures.placed in
     let seen = (g.T.Turns.standing c.write_for-book.new.turns).seen in
     let keeps = c.keeps_for_write-keeps in
-    let asked = subst (λ (a : Call). IsToBeWritten v.setup n a c.in-Writes.page v.seen)
-    (to_write_call w v s w.in_flight c.args.call c.in-Writes.call c.in-Writes.page c.args.out.now c.next_call_step.new.out c.in-Writes.ensures.went c.in-Writes.ensures.left)
-    (to_write w v s w.in_flight c.args.call c.in-Writes.call c.in-Writes.page c.args.out.now c.next_call_step.new.out c.in-Writes.ensures.went n c.next_call_step.ensures.book.stream c.in-Writes.ensures.left) in
-    subst (λ (o : Course). IsNearer s c.args.call o c.args.rounds.now keeps.new.self w.seen seen) (sym c.course_of.ensures)
-    (nearer-wrote s c.args.call (course_of c.write_for-book.result.1) c.args.rounds.now keeps.new.self w.seen seen c.in-Writes.page keeps.result
+    let asked = subst (λ (a : Call). IsToBeWritten v.setup n a c.in-GoesOn-Writes.page v.seen)
+    (to_write_call w v s w.in_flight c.args.call c.in-GoesOn-Writes.call c.in-GoesOn-Writes.page c.args.out.now c.next_call_step.new.out gone stepped)
+    (to_write w v s w.in_flight c.args.call c.in-GoesOn-Writes.call c.in-GoesOn-Writes.page c.args.out.now c.next_call_step.new.out gone n c.next_call_step.ensures.book.stream stepped) in
+    subst (λ (o : Course Call). IsNearer s c.args.call o c.args.rounds.now keeps.new.self w.seen seen) (sym c.course_of.ensures)
+    (nearer-wrote s c.args.call (course_of c.write_for-book.result.1) c.args.rounds.now keeps.new.self w.seen seen c.in-GoesOn-Writes.page keeps.result
     keeps.ensures.kept keeps.ensures.stays keeps.ensures.block keeps.ensures.read
     (λ kept.
     round-wrote w v s c.args.book c.next_call_step.new.book c.requires.both.book c.requires.both.rest.device c.args.call (stepped-answered c.args.call c.requires.stepped) (brings-room c.args.call c.requires.brings)
-    c.in-Writes.ensures.placed c.next_call_step.ensures.book c.next_call_step.ensures.rest.device c.in-Writes.page n keeps.result c.write_for-book.result.1 seen
+    placed c.next_call_step.ensures.book c.next_call_step.ensures.rest.device c.in-GoesOn-Writes.page n keeps.result c.write_for-book.result.1 seen
     c.next_call_step.ensures.book.stream kept asked c.write_for-book.ensures.written))
 
-pub returns-in-Reads-clause-nearer : goal.returns-in-Reads-clause-nearer
-returns-in-Reads-clause-nearer g c =
+pub returns-in-GoesOn-Reads-clause-nearer : goal.returns-in-GoesOn-Reads-clause-nearer
+returns-in-GoesOn-Reads-clause-nearer g c =
     let w = g.T.Turns.standing c.args.turns.now in
     let v = g.T.Turns.standing c.next_call_step.new.turns in
     let s = c.args.book.stream in
     let n = c.next_call_step.new.book.stream in
-    let page = c.in-Reads.page in
+    let gone = rw c.in-GoesOn-Reads.field-0-is at c.in-GoesOn-Reads.ensures.went in
+    let stepped = rw c.in-GoesOn-Reads.field-0-is at c.in-GoesOn-Reads.ensures.left in
+    let placed = rw c.in-GoesOn-Reads.field-0-is at c.in-GoesOn-Reads.ensures.placed in
+    let page = c.in-GoesOn-Reads.page in
     let seen = (g.T.Turns.standing c.bring-book.new.turns).seen in
     let keeps = c.keeps_for_read-keeps in
-    let call_is = to_read_call w v s (suc w.in_flight) c.args.call c.in-Reads.call page c.args.out.now c.next_call_step.new.out c.in-Reads.ensures.went c.in-Reads.ensures.left in
+    let call_is = to_read_call w v s (suc w.in_flight) c.args.call c.in-GoesOn-Reads.call page c.args.out.now c.next_call_step.new.out gone stepped in
     let waited = subst (λ (a : Call). IsWaitedFor v.setup n a page v.seen) call_is
-    (to_read w v s (suc w.in_flight) c.args.call c.in-Reads.call page c.args.out.now c.next_call_step.new.out c.in-Reads.ensures.went n c.next_call_step.ensures.book.stream c.in-Reads.ensures.left) in
-    subst (λ (o : Course). IsNearer s c.args.call o c.args.rounds.now keeps.new.self w.seen seen) (sym c.course_of-in-Reads.ensures)
+    (to_read w v s (suc w.in_flight) c.args.call c.in-GoesOn-Reads.call page c.args.out.now c.next_call_step.new.out gone n c.next_call_step.ensures.book.stream stepped) in
+    subst (λ (o : Course Call). IsNearer s c.args.call o c.args.rounds.now keeps.new.self w.seen seen) (sym c.course_of-in-GoesOn-Reads.ensures)
     (nearer-read s c.args.call (course_of c.bring-book.result.1) c.args.rounds.now keeps.new.self w.seen seen page keeps.result
     keeps.ensures.kept keeps.ensures.stays keeps.ensures.read keeps.ensures.anew
     v.setup v.seen n (so-far v.setup v.seen c.next_call_step.ensures.book.good) c.requires.brings waited
     (λ kept.
     round-brought w v s c.args.book c.next_call_step.new.book c.requires.both.book c.requires.both.rest.device c.args.call (stepped-answered c.args.call c.requires.stepped) (brings-room c.args.call c.requires.brings)
-    c.in-Reads.ensures.placed.0 c.next_call_step.ensures.book c.next_call_step.ensures.rest.device page n c.bring-book.result.1 seen c.next_call_step.ensures.book.stream waited
+    placed.0 c.next_call_step.ensures.book c.next_call_step.ensures.rest.device page n c.bring-book.result.1 seen c.next_call_step.ensures.book.stream waited
     (subst (λ (a : Call). OnOk c.bring-book.result.1 (HasLanded v n a page seen)) call_is
     (c.bring-book.ensures.kept kept
-    (subst (λ (t : ℕ). has_room (history v.seen t) page ≡ true) (sym c.next_call_step.ensures.book.stream) c.in-Reads.ensures.placed.1)))))
+    (subst (λ (t : ℕ). has_room (history v.seen t) page ≡ true) (sym c.next_call_step.ensures.book.stream) placed.1)))))

@@ -5,7 +5,7 @@ use Rattle.cc_step.proofs.Failing.{stepped-answered}
 use Rattle.cc_turns.specs.Standing.{Standing}
 use Rattle.cc_writes.specs.Hands.{HasBook, WentWith}
 use Rattle.cc_writes.specs.Visits.{TriedLeft, IsFullTried}
-use Rattle.cc_writes.proofs.Attempting.{may-as, attempted, fits-stepped, visited-attempt, left-attempt, full-attempt}
+use Rattle.cc_writes.proofs.Attempting.{may-as, attempted, fits-attempt, visited-attempt, left-attempt, full-attempt}
 use Rattle.cc_writes.proofs.Visiting.{few-left, visiting}
 use Rattle.cc_writes.proofs.visits.attempt_at.Goals as goal
 
@@ -19,8 +19,8 @@ attempt-ended-requires-clause-may g c =
     let vis = visiting posted w v b.stream b j c.requires.book c.take_journal-journal.ensures.took c.take_journal-journal.ensures.stands in
     (w.setup, may-as posted w v c.args.call b b j j c.requires.book vis (stepped-answered c.args.call c.requires.stepped) c.requires.filed c.me-pass.result c.me-pass.ensures)
 
-pub tried_of-tried-requires : goal.tried_of-tried-requires
-tried_of-tried-requires g c =
+pub told_course-course-requires : goal.told_course-course-requires
+told_course-course-requires g c =
     let w = g.T.Turns.standing c.args.turns.now in
     let v = g.T.Turns.standing c.take_journal-journal.new.self in
     let posted = g.T.Post.PostRoutine.posted in
@@ -30,7 +30,7 @@ tried_of-tried-requires g c =
     let n = c.attempt-ended.new.book in
     let k = c.attempt-ended.new.journal in
     let left = attempted posted w v c.args.call b n j k c.requires.book vis (stepped-answered c.args.call c.requires.stepped) c.requires.filed c.me-pass.result c.attempt-ended.result c.me-pass.ensures c.attempt-ended.ensures in
-    record { fits = fits-stepped posted w v c.args.call b n j k c.requires.book vis (stepped-answered c.args.call c.requires.stepped) c.requires.filed c.requires.stepped c.attempt-ended.result c.args.out.now left c.requires.fits }
+    record { fits = fits-attempt posted w v c.args.call b n j k c.requires.book vis (stepped-answered c.args.call c.requires.stepped) c.requires.filed c.requires.stepped c.attempt-ended.result c.args.out.now left c.requires.fits }
 
 pub give_journal-requires-clause-adds : goal.give_journal-requires-clause-adds
 give_journal-requires-clause-adds g c =
@@ -114,8 +114,8 @@ returns-clause-left g c begun way =
     let k = c.attempt-ended.new.journal in
     let left = attempted posted w v c.args.call b n j k c.requires.book vis (stepped-answered c.args.call c.requires.stepped) c.requires.filed c.me-pass.result c.attempt-ended.result c.me-pass.ensures c.attempt-ended.ensures in
     let known = subst (λ (m : ℕ). m < 16) (c.number-stream.ensures.same ∙ c.stream.ensures) c.number-stream.ensures.in_range in
-    let ended = left-attempt posted w v c.args.call b n j k c.requires.book vis (stepped-answered c.args.call c.requires.stepped) c.requires.filed c.requires.stepped known c.attempt-ended.result c.tried_of-tried.result c.args.out.now c.tried_of-tried.new.out left c.tried_of-tried.ensures begun way in
-    subst (λ (x : Standing). TriedLeft w.setup w.number b.stream c.args.call c.tried_of-tried.result begun x.seen c.args.out.now c.tried_of-tried.new.out) (sym c.give_journal.ensures) ended
+    let ended = left-attempt posted w v c.args.call b n j k c.requires.book vis (stepped-answered c.args.call c.requires.stepped) c.requires.filed c.requires.stepped known c.attempt-ended.result c.told_course-course.result c.args.out.now c.told_course-course.new.out left c.told_course-course.ensures begun way in
+    subst (λ (x : Standing). TriedLeft w.setup w.number b.stream c.args.call c.told_course-course.result begun x.seen c.args.out.now c.told_course-course.new.out) (sym c.give_journal.ensures) ended
 
 pub returns-clause-full : goal.returns-clause-full
 returns-clause-full g c =
@@ -128,5 +128,5 @@ returns-clause-full g c =
     let n = c.attempt-ended.new.book in
     let k = c.attempt-ended.new.journal in
     let left = attempted posted w v c.args.call b n j k c.requires.book vis (stepped-answered c.args.call c.requires.stepped) c.requires.filed c.me-pass.result c.attempt-ended.result c.me-pass.ensures c.attempt-ended.ensures in
-    let full = full-attempt posted w v c.args.call b n j k c.requires.book vis (stepped-answered c.args.call c.requires.stepped) c.requires.filed c.attempt-ended.result c.tried_of-tried.result c.args.out.now c.tried_of-tried.new.out left c.tried_of-tried.ensures in
-    subst (λ (x : Standing). IsFullTried x b.stream c.args.call c.tried_of-tried.result) (sym c.give_journal.ensures) full
+    let full = full-attempt posted w v c.args.call b n j k c.requires.book vis (stepped-answered c.args.call c.requires.stepped) c.requires.filed c.attempt-ended.result c.told_course-course.result c.args.out.now c.told_course-course.new.out left c.told_course-course.ensures in
+    subst (λ (x : Standing). IsFullTried x b.stream c.args.call c.told_course-course.result) (sym c.give_journal.ensures) full

@@ -20,8 +20,8 @@ next-ended-requires-clause-may g c =
     let vis = visiting posted w v b.stream b j c.requires.book c.take_journal-journal.ensures.took c.take_journal-journal.ensures.stands in
     (w.setup, fill-as posted w v c.args.call b b j j c.requires.book vis (stepped-answered c.args.call c.requires.stepped) (filed-now w b.stream c.args.call c.requires.filed) c.requires.rest c.me-pass.result c.me-pass.ensures)
 
-pub step_of-step-requires : goal.step_of-step-requires
-step_of-step-requires g c =
+pub told_course-course-requires : goal.told_course-course-requires
+told_course-course-requires g c =
     let w = g.T.Turns.standing c.args.turns.now in
     let v = g.T.Turns.standing c.take_journal-journal.new.self in
     let posted = g.T.Post.PostRoutine.posted in
@@ -117,8 +117,8 @@ returns-clause-went g c =
     let n = c.next-ended.new.book in
     let k = c.next-ended.new.journal in
     let left = stepped posted w v c.args.call b n j k c.requires.book vis (stepped-answered c.args.call c.requires.stepped) (filed-now w b.stream c.args.call c.requires.filed) c.requires.rest c.me-pass.result c.next-ended.result c.me-pass.ensures c.next-ended.ensures in
-    let went = went-next posted w v c.args.call b n j k c.requires.book vis (stepped-answered c.args.call c.requires.stepped) (filed-now w b.stream c.args.call c.requires.filed) c.requires.rest c.requires.stepped c.next-ended.result c.step_of-step.result c.args.out.now c.step_of-step.new.out left c.step_of-step.ensures in
-    subst (λ (x : Standing). CallStepWent c.step_of-step.result w x) (sym c.give_journal.ensures) went
+    let went = went-next posted w v c.args.call b n j k c.requires.book vis (stepped-answered c.args.call c.requires.stepped) (filed-now w b.stream c.args.call c.requires.filed) c.requires.rest c.requires.stepped c.next-ended.result c.told_course-course.result c.args.out.now c.told_course-course.new.out left c.told_course-course.ensures in
+    subst (λ (x : Standing). CallStepWent c.told_course-course.result w x) (sym c.give_journal.ensures) went
 
 pub returns-clause-disk : goal.returns-clause-disk
 returns-clause-disk g c =
@@ -145,8 +145,8 @@ returns-clause-left g c begun way =
     let k = c.next-ended.new.journal in
     let left = stepped posted w v c.args.call b n j k c.requires.book vis (stepped-answered c.args.call c.requires.stepped) (filed-now w b.stream c.args.call c.requires.filed) c.requires.rest c.me-pass.result c.next-ended.result c.me-pass.ensures c.next-ended.ensures in
     let ended = left-next posted w v c.args.call b n j k c.requires.book vis (stepped-answered c.args.call c.requires.stepped) (filed-now w b.stream c.args.call c.requires.filed) c.requires.rest
-    c.requires.stepped c.requires.brings c.next-ended.result c.step_of-step.result c.args.out.now c.step_of-step.new.out left c.step_of-step.ensures begun way in
-    subst (λ (x : Standing). CallStepLeft w.setup w.number b.stream c.args.call c.step_of-step.result begun x.seen c.args.out.now c.step_of-step.new.out) (sym c.give_journal.ensures) ended
+    c.requires.stepped c.requires.brings c.next-ended.result c.told_course-course.result c.args.out.now c.told_course-course.new.out left c.told_course-course.ensures begun way in
+    subst (λ (x : Standing). CallStepLeft w.setup w.number b.stream c.args.call c.told_course-course.result begun x.seen c.args.out.now c.told_course-course.new.out) (sym c.give_journal.ensures) ended
 
 pub returns-clause-full : goal.returns-clause-full
 returns-clause-full g c =
@@ -159,8 +159,8 @@ returns-clause-full g c =
     let n = c.next-ended.new.book in
     let k = c.next-ended.new.journal in
     let left = stepped posted w v c.args.call b n j k c.requires.book vis (stepped-answered c.args.call c.requires.stepped) (filed-now w b.stream c.args.call c.requires.filed) c.requires.rest c.me-pass.result c.next-ended.result c.me-pass.ensures c.next-ended.ensures in
-    let full = full-next posted w v c.args.call b n j k c.requires.book vis (stepped-answered c.args.call c.requires.stepped) (filed-now w b.stream c.args.call c.requires.filed) c.requires.rest c.requires.stepped c.next-ended.result c.step_of-step.result c.args.out.now c.step_of-step.new.out left c.step_of-step.ensures in
-    subst (λ (x : Standing). IsFullCallStep x c.args.call c.step_of-step.result) (sym c.give_journal.ensures) full
+    let full = full-next posted w v c.args.call b n j k c.requires.book vis (stepped-answered c.args.call c.requires.stepped) (filed-now w b.stream c.args.call c.requires.filed) c.requires.rest c.requires.stepped c.next-ended.result c.told_course-course.result c.args.out.now c.told_course-course.new.out left c.told_course-course.ensures in
+    subst (λ (x : Standing). IsFullCallStep x c.args.call c.told_course-course.result) (sym c.give_journal.ensures) full
 
 pub returns-clause-placed : goal.returns-clause-placed
 returns-clause-placed g c =
@@ -173,5 +173,5 @@ returns-clause-placed g c =
     let n = c.next-ended.new.book in
     let k = c.next-ended.new.journal in
     let left = stepped posted w v c.args.call b n j k c.requires.book vis (stepped-answered c.args.call c.requires.stepped) (filed-now w b.stream c.args.call c.requires.filed) c.requires.rest c.me-pass.result c.next-ended.result c.me-pass.ensures c.next-ended.ensures in
-    let placed = placed-next posted w v c.args.call b n j k c.requires.book vis (stepped-answered c.args.call c.requires.stepped) (filed-now w b.stream c.args.call c.requires.filed) c.requires.rest c.next-ended.result c.step_of-step.result c.args.out.now c.step_of-step.new.out left c.step_of-step.ensures in
-    subst (λ (x : Standing). CallStepPlaced w b.stream c.args.call c.step_of-step.result x.seen) (sym c.give_journal.ensures) placed
+    let placed = placed-next posted w v c.args.call b n j k c.requires.book vis (stepped-answered c.args.call c.requires.stepped) (filed-now w b.stream c.args.call c.requires.filed) c.requires.rest c.next-ended.result c.told_course-course.result c.args.out.now c.told_course-course.new.out left c.told_course-course.ensures in
+    subst (λ (x : Standing). CallStepPlaced w b.stream c.args.call c.told_course-course.result x.seen) (sym c.give_journal.ensures) placed
