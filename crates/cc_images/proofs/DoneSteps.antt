@@ -145,7 +145,7 @@ module _ (h : List Effect) (pass : ℕ) (it : Call) (reply : Reply) (done : IsDo
             ∙ (ap (λ v. least_valid (had_map h) v (low_since ended h p)) valid ∙ low-kept ended h p)
 
     -- it falls
-    pub stands-fallen : (i : Images) (was now begun : ℕ) → was ≡ valid_of h → now ≡ valid_of (Did pass it reply ∷ h) → now ≤ was → begun ≡ min i.begun now → ImagesStand h i → ImagesStand (Did pass it reply ∷ h) (record { grown = lowered i.grown now; begun = begun; unknown = i.unknown; grown_room = i.grown_room; unknown_room = i.unknown_room })
+    pub stands-fallen : (i : Images) (was now begun : ℕ) → was ≡ valid_of h → now ≡ valid_of (Did pass it reply ∷ h) → now ≤ was → begun ≡ min i.begun now → ImagesStand h i → ImagesStand (Did pass it reply ∷ h) (record { grown = lowered i.grown now; begun = begun; unknown = i.unknown; grown_room = i.grown_room })
     stands-fallen i was now begun was_is now_is falls begun_is stands = record {
       grown_are = λ byte. same_tests _ _ (to byte) (from byte);
       in_order = ascends-filter (λ byte. nat_lt byte now) i.grown stands.in_order;
@@ -311,7 +311,7 @@ module _ (h : List Effect) (pass : ℕ) (it : Call) (reply : Reply) (done : IsDo
           omega (arith, dirty, quota-done)
 
       -- it rises
-      pub stands-raised : (room : ℕ) → i.grown_room ≤ room → ImagesStand (Did pass it reply ∷ h) (record { grown = with_raised_length i.grown was now; begun = i.begun; unknown = i.unknown; grown_room = room; unknown_room = i.unknown_room })
+      pub stands-raised : (room : ℕ) → i.grown_room ≤ room → ImagesStand (Did pass it reply ∷ h) (record { grown = with_raised_length i.grown was now; begun = i.begun; unknown = i.unknown; grown_room = room })
       stands-raised room more = record {
         grown_are = λ byte. same_tests _ _ (raised-first byte) (first-raised byte);
         in_order = in-order;
@@ -343,10 +343,10 @@ module _ {u : Setup} {past : List Entry} {pass nth s : ℕ} {it : Call} {reply :
       less : (byte : ℕ) → IsFirst (low_of (history past s) (byte / 4096)) (valid_of (history past s)) byte → byte < was
       less byte first = let below : byte < valid_of (history past s) = first.below in omega (arith, may.was_is)
 
-  pub raised-may : was < now → (room : ℕ) → i.grown_room ≤ room → ImagesStand (Did pass it reply ∷ history past s) (record { grown = with_raised_length i.grown was now; begun = i.begun; unknown = i.unknown; grown_room = room; unknown_room = i.unknown_room })
+  pub raised-may : was < now → (room : ℕ) → i.grown_room ≤ room → ImagesStand (Did pass it reply ∷ history past s) (record { grown = with_raised_length i.grown was now; begun = i.begun; unknown = i.unknown; grown_room = room })
   raised-may rises = stands-raised (history past s) pass it reply done-may may.makes_none i was now may.was_is may.now_is rises may.stands
 
-  pub fallen-may : now ≤ was → (begun : ℕ) → begun ≡ min i.begun now → ImagesStand (Did pass it reply ∷ history past s) (record { grown = lowered i.grown now; begun = begun; unknown = i.unknown; grown_room = i.grown_room; unknown_room = i.unknown_room })
+  pub fallen-may : now ≤ was → (begun : ℕ) → begun ≡ min i.begun now → ImagesStand (Did pass it reply ∷ history past s) (record { grown = lowered i.grown now; begun = begun; unknown = i.unknown; grown_room = i.grown_room })
   fallen-may falls begun is = stands-fallen (history past s) pass it reply done-may may.makes_none i was now begun may.was_is may.now_is falls is may.stands
 
   pub same-may : was ≡ now → ImagesStand (Did pass it reply ∷ history past s) i
@@ -354,7 +354,7 @@ module _ {u : Setup} {past : List Entry} {pass nth s : ℕ} {it : Call} {reply :
 
 -- an initialise that makes the map
 pub stands-opened : {u : Setup} {past : List Entry} {pass nth s : ℕ} {file : File} {given : FileSizes} {quota : ℕ} {temporary : Bool} {reply : Reply} {i : Images} → MayOpen u past pass nth s file given quota temporary reply i → (begun room : ℕ) → begun ≡ min i.begun given.valid → 64 * quota ≤ room
-    → ImagesStand (Did pass (call.Initialise file given quota temporary) reply ∷ history past s) (record { grown = []; begun = begun; unknown = i.unknown; grown_room = room; unknown_room = i.unknown_room })
+    → ImagesStand (Did pass (call.Initialise file given quota temporary) reply ∷ history past s) (record { grown = []; begun = begun; unknown = i.unknown; grown_room = room })
 stands-opened {u} {past} {pass} {nth} {s} {file} {given} {quota} {temporary} {reply} {i} may begun room begun_is more = record {
   grown_are = λ byte. same_tests _ _ (λ among. absurd (cc)) (λ is. absurd (none byte (IsFirst-grown later byte is)));
   in_order = tt;

@@ -1,5 +1,5 @@
 -- What is kept stands after the end of a transfer.
-use Rattle.std.specs.Prelude.{◌≡◌, ℕ, ◌*◌, ◌/◌, ◌<◌, ◌≤◌, Bool, true, false, not, ◌==◌, ◌&&◌, ◌||◌, nat_lt, nat_le, max, is_some, List, [], ◌∷◌, ◌++◌, length, refl, if◌then◌else◌}
+use Rattle.std.specs.Prelude.{◌≡◌, ℕ, ◌*◌, ◌/◌, ◌<◌, ◌≤◌, Bool, true, false, not, ◌==◌, ◌&&◌, ◌||◌, nat_lt, nat_le, max, is_some, List, [], ◌∷◌, length, refl, if◌then◌else◌}
 use Rattle.std.proofs.Common.{ap, sym, subst, ◌∙◌, arith}
 use Rattle.std.proofs.lemmas.Bool.{and_parts, and_from, eqb-true, eq-eqb, ltb-true, lt-ltb, leb-true}
 use Rattle.std.specs.declared.option.Option.TheVariants.{Some}
@@ -12,7 +12,7 @@ use Rattle.cc_model.specs.Discards.{is_known, low_since, low_of, has_grown}
 use Rattle.cc_model.specs.Good.{IsGoodSoFar}
 use Rattle.cc_model.specs.History.{Effect, Did, CameIn, WentOut, Began, Ended, Synced, history}
 use Rattle.cc_model.specs.Images.{Transfer, open_of, begun}
-use Rattle.cc_model.specs.Numbers.{is_among, without}
+use Rattle.cc_model.specs.Numbers.{is_among}
 use Rattle.cc_model.specs.Setup.{Setup}
 use Rattle.cc_model.specs.Sizes.{ended_ok}
 use Rattle.cc_model.specs.Touches.{valid_of, is_dirty}
@@ -22,12 +22,13 @@ use Rattle.cc_laws.proofs.ImageSteps.{open_of-ended, image-ended_good, image-end
 use Rattle.cc_laws.proofs.QuotaSteps.{quota_of-ended}
 use Rattle.cc_laws.proofs.SizeSteps.{sizes-ended}
 use Rattle.cc_images.specs.Images.{Images, ImagesStand, AscendsByPage, is_first_grown}
-use Rattle.cc_images.specs.Changes.{grew_past, moved_up, regrown, without_page, with_written_page, with_unknown}
+use Rattle.cc_images.specs.Changes.{grew_past, moved_up, regrown, without_page, with_written_page}
 use Rattle.cc_images.specs.Following.{MayEndTransfer}
+use Rattle.cc_images.specs.PageSet.{PageSet, is_in_set}
 use Rattle.cc_images.proofs.LowSteps.{low-order, low-ended_good, low-ended_other}
 use Rattle.cc_images.proofs.GrownPages.{grown-dirty}
 use Rattle.cc_images.proofs.FirstBytes.{same_tests, IsFirst, IsFirst-grown, grown-IsFirst}
-use Rattle.cc_images.proofs.Lists.{among-append, IsMapped, among-map, map-among, ascends-filter, ascends-map}
+use Rattle.cc_images.proofs.Lists.{IsMapped, among-map, map-among, ascends-filter, ascends-map}
 use Rattle.cc_images.proofs.Standing.{SameLow, same-first}
 
 -- an open transfer began
@@ -85,14 +86,14 @@ module _ (h : List Effect) (pass page : ℕ) (how : End) (i : Images) (end : IsE
   flipped a b = grind (arith, eq-eqb)
 
   -- an end that is not good: the image is not known, and the least valid data length stays
-  pub stands-failed : ended_ok how ≡ false → (room : ℕ) → ImagesStand (Ended pass page how ∷ h) (record { grown = i.grown; begun = i.begun; unknown = with_unknown i.unknown page; grown_room = i.grown_room; unknown_room = room })
-  stands-failed failed room = record {
+  pub stands-failed : ended_ok how ≡ false → (unknown : PageSet) → ((p : ℕ) → is_in_set p unknown ≡ (p == page || is_in_set p i.unknown)) → ImagesStand (Ended pass page how ∷ h) (record i { unknown = unknown })
+  stands-failed failed unknown has = record {
     grown_are = λ byte. stands.grown_are byte ∙ sym (same-first (Ended pass page how ∷ h) h low byte);
     in_order = stands.in_order;
     grown_is_dirty = end.grown_is_dirty;
     grown_has_room = subst (λ n. 64 * n ≤ i.grown_room) (sym (quota_of-ended pass page how h)) stands.grown_has_room;
     begun_is = λ t under. absurd (none_open t under);
-    unknown_are = λ p. at p (page == p) refl;
+    unknown_are = λ p. has p ∙ at p (page == p) refl;
     unknown_has_room = λ t under. absurd (none_open t under);
   }
     where
@@ -103,31 +104,14 @@ module _ (h : List Effect) (pass page : ℕ) (how : End) (i : Images) (end : IsE
       low : SameLow (Ended pass page how ∷ h) h
       low = record { valid = valid-ended; low = λ p. low-ended_other pass page how h p (bad (page == p)) }
 
-      among : (p : ℕ) → is_among p (with_unknown i.unknown page) ≡ ((page == p) || is_among p i.unknown)
-      among p = go (is_among page i.unknown) refl
-        where
-          swapped : (a b : Bool) → (a || (b || false)) ≡ (b || a)
-          swapped true true = refl
-          swapped true false = refl
-          swapped false true = refl
-          swapped false false = refl
-
-          there : (b : Bool) → (page == p) ≡ b → is_among page i.unknown ≡ true → is_among p i.unknown ≡ (b || is_among p i.unknown)
-          there true same is = ap (λ n. is_among n i.unknown) (sym (eqb-true page p same)) ∙ is
-          there false other is = refl
-
-          go : (b : Bool) → is_among page i.unknown ≡ b → is_among p (if b then i.unknown else i.unknown ++ page ∷ []) ≡ ((page == p) || is_among p i.unknown)
-          go true is = there (page == p) refl is
-          go false is = among-append p i.unknown (page ∷ []) ∙ swapped (is_among p i.unknown) (page == p)
-
-      at : (p : ℕ) → (b : Bool) → (page == p) ≡ b → is_among p (with_unknown i.unknown page) ≡ not (is_known (Ended pass page how ∷ h) p)
+      at : (p : ℕ) → (b : Bool) → (page == p) ≡ b → (p == page || is_in_set p i.unknown) ≡ not (is_known (Ended pass page how ∷ h) p)
       at p true same =
           let k = subst (HasBegun h) (eqb-true page p same) begun-front in
-          among p
-          ∙ (ap (λ b. b || is_among p i.unknown) same ∙ sym (ap (λ o. not (is_some o)) (image-ended_bad (λ q. []) pass page how h k.front p same failed k.is)))
+          ap (λ b. b || is_in_set p i.unknown) (flipped p page ∙ same)
+          ∙ sym (ap (λ o. not (is_some o)) (image-ended_bad (λ q. []) pass page how h k.front p same failed k.is))
       at p false other =
-          among p
-          ∙ (ap (λ b. b || is_among p i.unknown) other ∙ (stands.unknown_are p ∙ sym (ap not (known-other p other))))
+          ap (λ b. b || is_in_set p i.unknown) (flipped p page ∙ other)
+          ∙ (stands.unknown_are p ∙ sym (ap not (known-other p other)))
 
   module _ (good : ended_ok how ≡ true) where
     -- the least valid data length of the page is that since its transfer began
@@ -271,14 +255,14 @@ module _ (h : List Effect) (pass page : ℕ) (how : End) (i : Images) (end : IsE
         go false not_grew = ascends-filter (λ n. not (n / 4096 == page)) i.grown stands.in_order
 
     -- a good end
-    pub stands-good : (valid : ℕ) → valid ≡ valid_of h → ImagesStand (Ended pass page how ∷ h) (record { grown = with_written_page i.grown page i.begun valid; begun = i.begun; unknown = without page i.unknown; grown_room = i.grown_room; unknown_room = i.unknown_room })
-    stands-good valid is = record {
+    pub stands-good : (valid : ℕ) → valid ≡ valid_of h → (unknown : PageSet) → ((p : ℕ) → is_in_set p unknown ≡ (is_in_set p i.unknown && not (p == page))) → ImagesStand (Ended pass page how ∷ h) (record i { grown = with_written_page i.grown page i.begun valid; unknown = unknown })
+    stands-good valid is unknown has = record {
       grown_are = grown-written valid is;
       in_order = order-written valid is;
       grown_is_dirty = end.grown_is_dirty;
       grown_has_room = subst (λ n. 64 * n ≤ i.grown_room) (sym (quota_of-ended pass page how h)) stands.grown_has_room;
       begun_is = λ t under. absurd (none_open t under);
-      unknown_are = λ p. is_among-filter (λ m. not (m == page)) p i.unknown ∙ at p (page == p) refl;
+      unknown_are = λ p. has p ∙ at p (page == p) refl;
       unknown_has_room = λ t under. absurd (none_open t under);
     }
       where
@@ -290,26 +274,26 @@ module _ (h : List Effect) (pass page : ℕ) (how : End) (i : Images) (end : IsE
         all true = refl
         all false = refl
 
-        at : (p : ℕ) → (b : Bool) → (page == p) ≡ b → (is_among p i.unknown && not (p == page)) ≡ not (is_known (Ended pass page how ∷ h) p)
+        at : (p : ℕ) → (b : Bool) → (page == p) ≡ b → (is_in_set p i.unknown && not (p == page)) ≡ not (is_known (Ended pass page how ∷ h) p)
         at p true same =
             let k = subst (HasBegun h) (eqb-true page p same) begun-front in
-            ap (λ b. is_among p i.unknown && not b) (flipped p page ∙ same)
-            ∙ (none (is_among p i.unknown) ∙ sym (ap (λ o. not (is_some o)) (image-ended_good (λ q. []) pass page how h k.front p same good k.is)))
+            ap (λ b. is_in_set p i.unknown && not b) (flipped p page ∙ same)
+            ∙ (none (is_in_set p i.unknown) ∙ sym (ap (λ o. not (is_some o)) (image-ended_good (λ q. []) pass page how h k.front p same good k.is)))
         at p false other =
-            ap (λ b. is_among p i.unknown && not b) (flipped p page ∙ other)
-            ∙ (all (is_among p i.unknown) ∙ (stands.unknown_are p ∙ sym (ap not (known-other p other))))
+            ap (λ b. is_in_set p i.unknown && not b) (flipped p page ∙ other)
+            ∙ (all (is_in_set p i.unknown) ∙ (stands.unknown_are p ∙ sym (ap not (known-other p other))))
 
 -- the end of a transfer, with what it may do
 module _ {u : Setup} {past : List Entry} {pass page s : ℕ} {how : End} {i : Images} {valid : ℕ} (may : MayEndTransfer u past pass (record { stream = s; page = page }) how i valid) where
   end-may : IsEnd (history past s) pass page how
   end-may = IsEnd-good u past pass (record { stream = s; page = page }) how may.good
 
-  pub good-may : ended_ok how ≡ true → ImagesStand (Ended pass page how ∷ history past s) (record { grown = with_written_page i.grown page i.begun valid; begun = i.begun; unknown = without page i.unknown; grown_room = i.grown_room; unknown_room = i.unknown_room })
+  pub good-may : ended_ok how ≡ true → (unknown : PageSet) → ((p : ℕ) → is_in_set p unknown ≡ (is_in_set p i.unknown && not (p == page))) → ImagesStand (Ended pass page how ∷ history past s) (record i { grown = with_written_page i.grown page i.begun valid; unknown = unknown })
   good-may good = stands-good (history past s) pass page how i end-may may.stands good valid may.valid_is
 
-  pub failed-may : ended_ok how ≡ false → (room : ℕ) → ImagesStand (Ended pass page how ∷ history past s) (record { grown = i.grown; begun = i.begun; unknown = with_unknown i.unknown page; grown_room = i.grown_room; unknown_room = room })
+  pub failed-may : ended_ok how ≡ false → (unknown : PageSet) → ((p : ℕ) → is_in_set p unknown ≡ (p == page || is_in_set p i.unknown)) → ImagesStand (Ended pass page how ∷ history past s) (record i { unknown = unknown })
   failed-may failed = stands-failed (history past s) pass page how i end-may may.stands failed
 
-  -- a failed end has its place among the pages whose image is not known
-  pub room-may : length i.unknown < i.unknown_room
+  -- an end has its place among the ranges of pages whose image is not known
+  pub room-may : length i.unknown.ranges < i.unknown.room
   room-may = may.stands.unknown_has_room (record { pass = pass; page = page }) end-may.under_way

@@ -22,6 +22,7 @@ use Rattle.cc_model.specs.Touches.{valid_of, is_dirty, dirty_pages}
 use Rattle.cc_laws.specs.LeastPages.{IsLeastDirty}
 use Rattle.cc_laws.proofs.LeastPages.{unsettled-page, unsettled-none, grown-page, grown-none}
 use Rattle.cc_images.specs.Dirty.{AreDirty}
+use Rattle.cc_images.specs.PageSet.{is_in_set}
 use Rattle.cc_images.specs.Images.{Images, ImagesStand, AscendsByPage}
 use Rattle.cc_images.proofs.FirstBytes.{IsFirst, IsFirst-grown, grown-IsFirst, has-grown, HasFirst, HasFirst-grown}
 
@@ -124,7 +125,7 @@ a_file = record { stream = 0; object = 0 }
 -- the first row of a dirty page of the span whose image is not known
 module _ (h : List Effect) (i : Images) (stream : ℕ) (rows : List Row) (span : Option Range) (stands : ImagesStand h i) (dirty : AreDirty h stream rows) where
   abbrev is_of : Row → Bool
-  is_of row = row.page.stream == stream && (span_has span row.page.page && is_among row.page.page i.unknown)
+  is_of row = row.page.stream == stream && (span_has span row.page.page && is_in_set row.page.page i.unknown)
 
   -- such a page is dirty
   of-dirty : (row : Row) → find is_of rows ≡ Some row → is_dirty h row.page.page ≡ true
@@ -153,7 +154,7 @@ module _ (h : List Effect) (i : Images) (stream : ℕ) (rows : List Row) (span :
       let parts = and_parts (k.row.page.stream == stream) (k.row.page.page == p) k.same in
       let page : k.row.page.page ≡ p = eqb-true _ _ parts.1 in
       and_from _ _ parts.0
-      (subst (λ q. (span_has span q && is_among q i.unknown) ≡ true) (sym page)
+      (subst (λ q. (span_has span q && is_in_set q i.unknown) ≡ true) (sym page)
       (and_from _ _ has (stands.unknown_are p ∙ ap not unknown)))
 
   known-other : (p : ℕ) → not (is_known h p) ≡ true → is_known h p ≡ false

@@ -1,4 +1,6 @@
 -- Lemmas, each before those that cite it.
+pub mod PageRanges
+pub mod RangeSteps
 pub mod LowSteps
 pub mod DroppedPages
 pub mod GrownPages

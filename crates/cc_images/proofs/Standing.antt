@@ -16,6 +16,7 @@ use Rattle.cc_laws.proofs.TouchSteps.{touches-came_in, touches-went_out, touches
 use Rattle.cc_laws.proofs.QuotaSteps.{quota_of-came_in, quota_of-went_out, quota_of-began, quota_of-synced}
 use Rattle.cc_laws.proofs.ImageSteps.{open_of-came_in, open_of-went_out, open_of-began, open_of-synced, image-came_in, image-went_out, image-began, image-synced}
 use Rattle.cc_images.specs.Images.{Images, ImagesStand, is_first_grown}
+use Rattle.cc_images.specs.PageSet.{PageSet, is_in_set}
 use Rattle.cc_images.proofs.LowSteps.{low-came_in, low-went_out, low-synced, low-began, low-began_page}
 
 -- of two histories what pages that have grown hang on is the same
@@ -92,9 +93,21 @@ stands-synced pass how h i stands =
     })
     (same-dirty (Synced pass how ∷ h) h low (touches-synced false pass how h) stands.grown_is_dirty) stands
 
--- a begin, with room for one page more whose image is not known
-pub stands-began : (pass page : ℕ) (h : List Effect) (i : Images) (valid room : ℕ) → valid ≡ valid_of h → length i.unknown < room → ImagesStand h i → ImagesStand (Began pass page ∷ h) (record { grown = i.grown; begun = valid; unknown = i.unknown; grown_room = i.grown_room; unknown_room = room })
-stands-began pass page h i valid room is more stands =
+-- more room for the pages whose image is not known
+pub stands-reserved : (h : List Effect) (i : Images) (unknown : PageSet) → ((p : ℕ) → is_in_set p unknown ≡ is_in_set p i.unknown) → length unknown.ranges ≡ length i.unknown.ranges → i.unknown.room ≤ unknown.room → ImagesStand h i → ImagesStand h (record i { unknown = unknown })
+stands-reserved h i unknown has ranges more stands = record {
+  grown_are = stands.grown_are;
+  in_order = stands.in_order;
+  grown_is_dirty = stands.grown_is_dirty;
+  grown_has_room = stands.grown_has_room;
+  begun_is = stands.begun_is;
+  unknown_are = λ p. has p ∙ stands.unknown_are p;
+  unknown_has_room = λ t under. let had : length i.unknown.ranges < i.unknown.room = stands.unknown_has_room t under in omega (arith, ranges, more);
+}
+
+-- a begin, with room for one range more of pages whose image is not known
+pub stands-began : (pass page : ℕ) (h : List Effect) (i : Images) (valid : ℕ) → valid ≡ valid_of h → length i.unknown.ranges < i.unknown.room → ImagesStand h i → ImagesStand (Began pass page ∷ h) (record i { begun = valid })
+stands-began pass page h i valid is more stands =
     let low : SameLow (Began pass page ∷ h) h = record { valid = ap (λ s. s.valid) (sizes-began pass page h); low = low-began pass page h } in
     record {
       grown_are = λ byte. stands.grown_are byte ∙ sym (same-first (Began pass page ∷ h) h low byte);
@@ -113,15 +126,15 @@ stands-began pass page h i valid room is more stands =
     same t under = same_page (record { pass = pass; page = page }) t (sym (open_of-began pass page h) ∙ under)
 
 -- before the first effect
-pub stands-none : (begun grown_room unknown_room : ℕ) → ImagesStand [] (record { grown = []; begun = begun; unknown = []; grown_room = grown_room; unknown_room = unknown_room })
+pub stands-none : (begun grown_room : ℕ) (unknown : PageSet) → ((p : ℕ) → is_in_set p unknown ≡ false) → ImagesStand [] (record { grown = []; begun = begun; unknown = unknown; grown_room = grown_room })
 unfolding sizes open_of image quota_of low_since
-stands-none begun grown_room unknown_room = record {
+stands-none begun grown_room unknown empty = record {
   grown_are = λ byte. none byte (byte == max (4096 * (byte / 4096)) 0);
   in_order = tt;
   grown_is_dirty = λ p grown. absurd (no p grown);
   grown_has_room = omega arith;
   begun_is = λ t under. absurd (cc);
-  unknown_are = λ p. refl;
+  unknown_are = λ p. empty p;
   unknown_has_room = λ t under. absurd (cc);
 }
   where

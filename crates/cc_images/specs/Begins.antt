@@ -2,6 +2,6 @@
 use Rattle.std.specs.Prelude.{◌<◌, length}
 use Rattle.cc_images.specs.Images.{Images}
 
--- an end that fails will find its place
+-- the end will find its place
 abbrev pub HasRoomToBegin : Images → Type 0
-HasRoomToBegin i = length i.unknown < i.unknown_room
+HasRoomToBegin i = length i.unknown.ranges < i.unknown.room

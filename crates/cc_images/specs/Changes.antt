@@ -1,7 +1,6 @@
--- What entries do to the pages that have grown, and to those whose image is not known.
+-- What entries do to the pages that have grown.
 use Rattle.std.specs.Prelude.{◌≡◌, ℕ, ◌+◌, ◌-◌, ◌*◌, ◌/◌, ◌<◌, ◌==◌, Bool, true, not, nat_lt, nat_le, ◌&&◌, max, List, [], ◌∷◌, ◌++◌, length, slice_index_or, map, filter, if◌then◌else◌}
 use Rattle.std.specs.List.{list_any, range_with_len}
-use Rattle.cc_model.specs.Numbers.{is_among}
 
 -- whether a page is among those of these bytes
 abbrev pub has_page_of_bytes : List ℕ → ℕ → Bool
@@ -47,7 +46,3 @@ without_page bytes page = filter (λ byte. not (byte / 4096 == page)) bytes
 abbrev pub with_written_page : List ℕ → ℕ → ℕ → ℕ → List ℕ
 with_written_page bytes page low valid =
     if grew_past page low valid then regrown bytes page low else without_page bytes page
-
--- a transfer of the page failed, so that its image is not known
-abbrev pub with_unknown : List ℕ → ℕ → List ℕ
-with_unknown pages page = if is_among page pages then pages else pages ++ page ∷ []

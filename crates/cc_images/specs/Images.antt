@@ -7,16 +7,16 @@ use Rattle.cc_model.specs.Images.{Transfer, open_of}
 use Rattle.cc_model.specs.Numbers.{is_among}
 use Rattle.cc_model.specs.Settings.{quota_of}
 use Rattle.cc_model.specs.Touches.{valid_of, is_dirty}
+use Rattle.cc_images.specs.PageSet.{PageSet, is_in_set}
 
 -- Of each page that has grown its first byte that became valid since the disk took the page; the least valid
--- data length since the last transfer began; the pages whose image is not known; and how many of the first and
--- of the third there is room for.
+-- data length since the last transfer began; the pages whose image is not known; and how many of the first there
+-- is room for.
 pub record Images : Type 0 where
   pub grown : List ℕ
   pub begun : ℕ
-  pub unknown : List ℕ
+  pub unknown : PageSet
   pub grown_room : ℕ
-  pub unknown_room : ℕ
 
 -- whether a byte is the first of its page that became valid since the disk took the page
 abbrev pub is_first_grown : List Effect → ℕ → Bool
@@ -35,6 +35,6 @@ pub record ImagesStand (h : List Effect) (i : Images) : Type 0 where
   pub grown_is_dirty : (p : ℕ) → has_grown h p ≡ true → is_dirty h p ≡ true
   pub grown_has_room : 64 * quota_of h ≤ i.grown_room
   pub begun_is : (t : Transfer) → open_of h ≡ Some t → i.begun ≡ low_since true h t.page
-  pub unknown_are : (p : ℕ) → is_among p i.unknown ≡ not (is_known h p)
-  -- an end that failed has its place
-  pub unknown_has_room : (t : Transfer) → open_of h ≡ Some t → length i.unknown < i.unknown_room
+  pub unknown_are : (p : ℕ) → is_in_set p i.unknown ≡ not (is_known h p)
+  -- an end has its place: one that failed may make a range more, and so may one that splits a range
+  pub unknown_has_room : (t : Transfer) → open_of h ≡ Some t → length i.unknown.ranges < i.unknown.room

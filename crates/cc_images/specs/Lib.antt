@@ -1,4 +1,5 @@
 -- What the contracts cite.
+pub mod PageSet
 pub mod Images
 pub mod Changes
 pub mod Following

@@ -18,6 +18,7 @@ ghost use Rattle.cc_images.specs.Images.{ImagesStand};
 ghost use Rattle.cc_images.specs.Following.{MayFollowImages, IsFollowingImages, MayOpen, MayEndTransfer, IsEnding};
 ghost use Rattle.cc_images.specs.Dirty.{AreDirty};
 
+use crate::page_set::PageSet;
 use crate::room::Room;
 use crate::{grown, unknown};
 use cc_dirty::Row;
@@ -35,11 +36,10 @@ pub struct Images {
     /// The least valid data length since the last transfer began.
     begun: u64,
     /// The pages whose image is not known.
-    unknown: Vec<u64>,
+    unknown: PageSet,
 }
 
 impl Model for Images {
-    ghost use Rattle.std.specs.Prelude.{vec_capacity};
     ghost use Rattle.std.specs.VecDeque.{deque_capacity};
     ghost use Rattle.cc_images.specs.Images.{Images};
 
@@ -48,9 +48,8 @@ impl Model for Images {
     ghost view = { λ i. record {
       grown = i.grown.items;
       begun = i.begun;
-      unknown = i.unknown.items;
+      unknown = i.unknown;
       grown_room = deque_capacity i.grown;
-      unknown_room = vec_capacity i.unknown;
     } };
 }
 
@@ -62,7 +61,7 @@ impl Images {
         Images {
             grown: VecDeque::new(alloc),
             begun: 0,
-            unknown: Vec::new(alloc),
+            unknown: PageSet::new(alloc),
         }
     }
 
@@ -102,8 +101,7 @@ impl Images {
         ensures stands { (h : List Effect) → ImagesStand h self.old → ImagesStand h self.new }
         ensures err { OnErr result (self.new ≡ self.old) }
     {
-        self.unknown.reserve(1)?;
-        Ok(())
+        self.unknown.reserve()
     }
 
     /// Follows the begin of a page's transfer, at this valid data length, for whose end the memory is taken.
@@ -138,9 +136,9 @@ impl Images {
         match how {
             End::Good => {
                 grown::write(&mut self.grown, page, self.begun, valid);
-                unknown::learn(&mut self.unknown, page);
+                self.unknown.remove(page);
             }
-            End::Failed | End::NoMemory => unknown::forget(&mut self.unknown, page),
+            End::Failed | End::NoMemory => self.unknown.insert(page),
         }
     }
 
@@ -148,7 +146,7 @@ impl Images {
     pub fn is_known(&self, page: u64) -> bool
         ensures { (h : List Effect) → ImagesStand h self.now → result ≡ is_known h page }
     {
-        !self.unknown.contains(&page)
+        !self.unknown.contains(page)
     }
 
     /// The least dirty page of a span whose image is not known, given the dirty pages.

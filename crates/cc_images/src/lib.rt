@@ -7,8 +7,8 @@
 //! grown, so a mapped stream has no more of them than its quota has pages; room for so many is taken before the
 //! map is made. Only that, and the begin of a transfer, take memory.
 //!
-//! `images` has the whole, `grown` the pages that have grown, `room` the room for them, and `unknown` the pages
-//! whose image is not known.
+//! `images` has the whole, `grown` the pages that have grown, `room` the room for them, `page_set` a set of pages as
+//! ranges (`page_range`), as which those are kept whose image is not known, and `unknown` the dirty ones among them.
 //! The refusal of a call (`cc_refusal`) and the book of a stream stand above; below are the dirty page table
 //! (`cc_dirty`), what an entry does to a stream (`cc_events`), the values of `cc_entry`, and the definitions of
 //! `cc_model` with their lemmas in `cc_laws`.
@@ -16,7 +16,8 @@
 
 mod grown;
 mod images;
-mod reserved;
+mod page_range;
+mod page_set;
 mod room;
 mod unknown;
 
