@@ -138,18 +138,14 @@ fn follow(maps: &mut [PrivateMap; 16], call: &Call, reply: &Reply, was_open: boo
         | Call::NcStore { .. }
         | Call::NcWrite { .. }
         | Call::SetSizes { .. }
-        | Call::State { .. }
         | Call::Flush { .. }
         | Call::Purge { .. }
         | Call::Discard { .. }
         | Call::SetLog { .. }
-        | Call::DirtyPages { .. }
-        | Call::LsnForFile { .. }
-        | Call::IsDirtyData
         | Call::SetAttributes { .. }
         | Call::SetThreshold { .. }
         | Call::AskAhead { .. }
         | Call::AheadStep { .. }
-        | Call::CanWrite { .. } => {}
+        | Call::Query(_) => {}
     }
 }

@@ -12,6 +12,7 @@ use Rattle.cc_entry.specs.declared.place.Request.{Request}
 use Rattle.cc_entry.specs.declared.reply.Outcome.TheVariants as outcome
 use Rattle.cc_entry.specs.declared.reply.Reply.{Reply}
 use Rattle.cc_entry.specs.declared.reply.Reply.TheVariants as reply
+use Rattle.cc_entry.specs.declared.query.Value.TheVariants as value
 use Rattle.cc_book.specs.Book.{done}
 use Rattle.cc_effects.specs.Calls.{CallLeft, IsUnderWay}
 use Rattle.cc_effects.proofs.FrontLaws.{outcome-defined}
@@ -62,23 +63,22 @@ whole-reply u me request r old new good left =
     (is_whole (stream_history _ d.1) request, d.5.1)
 
 module _ (w v : Standing) (request : Request) (was now : List ℕ) where
-  told-whole : (told : Returned) → Paged w v (call.AheadStep request) (Ok told) was now → (whole : Bool) × (told ≡ returned.Flag whole) × CallLeft w.setup w.number (call.AheadStep request) (outcome.Done (reply.Whole whole)) w.seen v.seen
+  told-whole : (told : Returned) → Paged w v (call.AheadStep request) (Ok told) was now → (whole : Bool) × (told ≡ returned.Value (value.Flag whole)) × CallLeft w.setup w.number (call.AheadStep request) (outcome.Done (reply.Whole whole)) w.seen v.seen
   told-whole told c =
       let r = whole-reply w.setup w.number request c.left.0 w.seen v.seen c.good c.left.1 in
       let tells = rw r.1 at c.left.2 in
       (r.0, tells.0, rw r.1 at c.left.1)
 
-  pub step-done : (whole : Bool) → Paged w v (call.AheadStep request) (Ok (returned.Flag whole)) was now → RequestServed w v request (Ok whole)
+  pub step-done : (whole : Bool) → Paged w v (call.AheadStep request) (Ok (returned.Value (value.Flag whole))) was now → RequestServed w v request (Ok whole)
   step-done whole c =
-      let told = told-whole (returned.Flag whole) c in
+      let told = told-whole (returned.Value (value.Flag whole)) c in
       record { left = rw (inner told.0 told.1) told.2; full = inl (tt, inl tt); missed = c.missed; goes_on = c.goes_on; good = c.good }
     where
-      inner : (x : Bool) → returned.Flag whole ≡ returned.Flag x → whole ≡ x
+      inner : (x : Bool) → returned.Value (value.Flag whole) ≡ returned.Value (value.Flag x) → whole ≡ x
       inner x same = cc
 
-  -- and nothing else
-  pub step-told : (told : Returned) → ((whole : Bool) → told ≡ returned.Flag whole → ⊥) → Paged w v (call.AheadStep request) (Ok told) was now → ⊥
-  step-told told other c = let k = told-whole told c in other k.0 k.1
+  pub step-there : (told : Returned) → Paged w v (call.AheadStep request) (Ok told) was now → (whole : Bool) × (told ≡ returned.Value (value.Flag whole))
+  step-there told c = let k = told-whole told c in (k.0, k.1)
 
   pub step-failed : (e : CcError) → Paged w v (call.AheadStep request) (Err e) was now → RequestServed w v request (Err e)
   step-failed e c = record { left = c.left.0; full = c.full; missed = c.missed; goes_on = c.goes_on; good = c.good }

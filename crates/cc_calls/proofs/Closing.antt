@@ -13,6 +13,7 @@ use Rattle.cc_entry.specs.declared.error.CcError.TheVariants as error
 use Rattle.cc_entry.specs.declared.reply.Outcome.TheVariants as outcome
 use Rattle.cc_entry.specs.declared.reply.Reply.{Reply}
 use Rattle.cc_entry.specs.declared.reply.Reply.TheVariants as reply
+use Rattle.cc_entry.specs.declared.query.Value.TheVariants as value
 use Rattle.cc_effects.specs.Calls.{CallLeft}
 use Rattle.cc_effects.proofs.FrontLaws.{outcome-defined}
 use Rattle.cc_laws.proofs.HistorySteps.{history-done}
@@ -50,29 +51,29 @@ was-mapped : (u : Setup) (past : List Entry) (h : List Effect) (file : File) (tr
 was-mapped u past h file truncate admitted =
     open-mapped h file (unrefused-open (is_open h file) (unrefused u past h (call.Uninitialise file truncate) admitted).cached)
 
-told-gone : (gone there : Bool) → reply.Flag gone ≡ reply.Flag (not there) → there ≡ not gone
+told-gone : (gone there : Bool) → reply.Value (value.Flag gone) ≡ reply.Value (value.Flag (not there)) → there ≡ not gone
 told-gone true true is = absurd (cc)
 told-gone true false is = refl
 told-gone false true is = refl
 told-gone false false is = absurd (cc)
 
 -- the flag, in a good journal
-pub gone-reply : (u : Setup) (me : ℕ) (file : File) (truncate : Option ℕ) (r : Reply) (old new : List Entry) → IsGood u new → CallLeft u me (call.Uninitialise file truncate) (outcome.Done r) old new → (gone : Bool) × (r ≡ reply.Flag gone)
+pub gone-reply : (u : Setup) (me : ℕ) (file : File) (truncate : Option ℕ) (r : Reply) (old new : List Entry) → IsGood u new → CallLeft u me (call.Uninitialise file truncate) (outcome.Done r) old new → (gone : Bool) × (r ≡ reply.Value (value.Flag gone))
 gone-reply u me file truncate r old new good left =
     let d = outcome-defined u me (call.Uninitialise file truncate) (outcome.Done r) old new [] good left refl in
     (not (is_mapped (Did me (call.Uninitialise file truncate) r ∷ stream_history _ d.1)), d.5.1)
 
 -- and what it says
-pub closed : (u : Setup) (me : ℕ) (file : File) (truncate : Option ℕ) (gone : Bool) (old new : List Entry) → IsGood u new → CallLeft u me (call.Uninitialise file truncate) (outcome.Done (reply.Flag gone)) old new → HasClosed me file.stream (call.Uninitialise file truncate) gone old new
+pub closed : (u : Setup) (me : ℕ) (file : File) (truncate : Option ℕ) (gone : Bool) (old new : List Entry) → IsGood u new → CallLeft u me (call.Uninitialise file truncate) (outcome.Done (reply.Value (value.Flag gone))) old new → HasClosed me file.stream (call.Uninitialise file truncate) gone old new
 closed u me file truncate gone old new good left = record {
   nth = left.placed.nth;
   earlier = left.earlier;
   later = left.placed.later;
-  grew = left.placed.grew ∙ ap (λ (stream : Option ℕ). left.placed.later ++ (entry.Call me left.placed.nth stream it (outcome.Done (reply.Flag gone)) ∷ front)) left.placed.filed;
+  grew = left.placed.grew ∙ ap (λ (stream : Option ℕ). left.placed.later ++ (entry.Call me left.placed.nth stream it (outcome.Done (reply.Value (value.Flag gone))) ∷ front)) left.placed.filed;
   quiet = left.placed.quiet;
   was = was-mapped u front (history front file.stream) file truncate is.0;
-  now = ap is_mapped (history-done me left.placed.nth file.stream it (reply.Flag gone) front file.stream (eq-eqb file.stream file.stream refl))
-      ∙ told-gone gone (is_mapped (Did me it (reply.Flag gone) ∷ history front file.stream)) is.1;
+  now = ap is_mapped (history-done me left.placed.nth file.stream it (reply.Value (value.Flag gone)) front file.stream (eq-eqb file.stream file.stream refl))
+      ∙ told-gone gone (is_mapped (Did me it (reply.Value (value.Flag gone)) ∷ history front file.stream)) is.1;
 }
   where
     it : Call
@@ -81,31 +82,30 @@ closed u me file truncate gone old new good left = record {
     front : List Entry
     front = left.earlier ++ old
 
-    is : IsOutcome u front me (Some file.stream) it (outcome.Done (reply.Flag gone))
+    is : IsOutcome u front me (Some file.stream) it (outcome.Done (reply.Value (value.Flag gone)))
     is =
-        subst (λ (stream : Option ℕ). IsOutcome u front me stream it (outcome.Done (reply.Flag gone))) left.placed.filed
-        (outcome-is u me left.placed.nth left.placed.stream it (outcome.Done (reply.Flag gone)) left.placed.later front new left.placed.grew good)
+        subst (λ (stream : Option ℕ). IsOutcome u front me stream it (outcome.Done (reply.Value (value.Flag gone)))) left.placed.filed
+        (outcome-is u me left.placed.nth left.placed.stream it (outcome.Done (reply.Value (value.Flag gone))) left.placed.later front new left.placed.grew good)
 
 module _ (w v : Standing) (file : File) (truncate : Option ℕ) (was now : List ℕ) where
   -- it is told whether the map went
-  told-flag : (told : Returned) → CalledAtOnce w v (call.Uninitialise file truncate) (Ok told) was now → (gone : Bool) × (told ≡ returned.Flag gone) × CallLeft w.setup w.number (call.Uninitialise file truncate) (outcome.Done (reply.Flag gone)) w.seen v.seen
+  told-flag : (told : Returned) → CalledAtOnce w v (call.Uninitialise file truncate) (Ok told) was now → (gone : Bool) × (told ≡ returned.Value (value.Flag gone)) × CallLeft w.setup w.number (call.Uninitialise file truncate) (outcome.Done (reply.Value (value.Flag gone))) w.seen v.seen
   told-flag told c =
       let r = gone-reply w.setup w.number file truncate c.left.0 w.seen v.seen c.good c.left.1 in
       let tells = rw r.1 at c.left.2 in
       (r.0, tells.0, rw r.1 at c.left.1)
 
-  pub uninitialize-done : (gone : Bool) → CalledAtOnce w v (call.Uninitialise file truncate) (Ok (returned.Flag gone)) was now → UninitializeEnds w v file truncate (Ok gone)
+  pub uninitialize-done : (gone : Bool) → CalledAtOnce w v (call.Uninitialise file truncate) (Ok (returned.Value (value.Flag gone))) was now → UninitializeEnds w v file truncate (Ok gone)
   uninitialize-done gone c = record {
     ends = record { left = left; full = tt; goes_on = c.goes_on; good = λ was_good. c.good };
     closed = closed w.setup w.number file truncate gone w.seen v.seen c.good left;
   }
     where
-      inner : (x : Bool) → returned.Flag gone ≡ returned.Flag x → gone ≡ x
+      inner : (x : Bool) → returned.Value (value.Flag gone) ≡ returned.Value (value.Flag x) → gone ≡ x
       inner x same = cc
 
-      left : CallLeft w.setup w.number (call.Uninitialise file truncate) (outcome.Done (reply.Flag gone)) w.seen v.seen
-      left = let told = told-flag (returned.Flag gone) c in rw (inner told.0 told.1) told.2
+      left : CallLeft w.setup w.number (call.Uninitialise file truncate) (outcome.Done (reply.Value (value.Flag gone))) w.seen v.seen
+      left = let told = told-flag (returned.Value (value.Flag gone)) c in rw (inner told.0 told.1) told.2
 
-  -- and nothing else
-  pub uninitialize-told : (told : Returned) → ((gone : Bool) → told ≡ returned.Flag gone → ⊥) → CalledAtOnce w v (call.Uninitialise file truncate) (Ok told) was now → ⊥
-  uninitialize-told told other c = let k = told-flag told c in other k.0 k.1
+  pub uninitialize-there : (told : Returned) → CalledAtOnce w v (call.Uninitialise file truncate) (Ok told) was now → (gone : Bool) × (told ≡ returned.Value (value.Flag gone))
+  uninitialize-there told c = let k = told-flag told c in (k.0, k.1)

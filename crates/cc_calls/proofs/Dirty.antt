@@ -5,9 +5,11 @@ use Rattle.std.proofs.Common.{ap, sym, ◌∙◌, arith}
 use Rattle.std.proofs.lemmas.Bool.{lt-ltb, ne_eqb}
 use Rattle.std.proofs.lemmas.List.Sums.{sum_by-cons}
 use Rattle.cc_entry.specs.declared.call.Call.TheVariants as call
+use Rattle.cc_entry.specs.declared.query.Query.TheVariants as query
 use Rattle.cc_entry.specs.declared.entry.Entry.{Entry}
 use Rattle.cc_entry.specs.declared.reply.Outcome.TheVariants as outcome
 use Rattle.cc_entry.specs.declared.reply.Reply.TheVariants as reply
+use Rattle.cc_entry.specs.declared.query.Value.TheVariants as value
 use Rattle.cc_dirty.specs.Table.{Sound}
 use Rattle.cc_dirty.specs.declared.row.Row.{Row}
 use Rattle.cc_journal.specs.Rows.{Follows}
@@ -44,5 +46,5 @@ dirty-rows past rows follows sound =
     ∙ sym (any-counted (λ s. dirty_pages (history past s)) all_streams))
 
 -- that is what the call is told, which nothing refuses
-pub dirty-outcome : (u : Setup) (past : List Entry) (pass : ℕ) (flag : Bool) → flag ≡ is_any_dirty past → IsOutcome u past pass None call.IsDirtyData (outcome.Done (reply.Flag flag))
-dirty-outcome u past pass flag is = (dirty-unrefused u past, ap reply.Flag is)
+pub dirty-outcome : (u : Setup) (past : List Entry) (pass : ℕ) (flag : Bool) → flag ≡ is_any_dirty past → IsOutcome u past pass None (call.Query query.IsDirtyData) (outcome.Done (reply.Value (value.Flag flag)))
+dirty-outcome u past pass flag is = (dirty-unrefused u past, ap (λ (flag : Bool). reply.Value (value.Flag flag)) is)

@@ -3,6 +3,7 @@ pub mod Turning
 pub mod Replies
 pub mod Waiting
 pub mod Paging
+pub mod Asking
 pub mod Copying
 pub mod SettingCalls
 pub mod States

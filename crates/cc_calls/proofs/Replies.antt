@@ -6,18 +6,21 @@ use Rattle.std.proofs.lemmas.List.FromFn.{length-map-range_with_len}
 use Rattle.cc_entry.specs.Place.{File}
 use Rattle.cc_entry.specs.declared.call.Call.{Call}
 use Rattle.cc_entry.specs.declared.call.Call.TheVariants as call
+use Rattle.cc_entry.specs.declared.query.Query.TheVariants as query
 use Rattle.cc_entry.specs.declared.entry.Entry.{Entry}
 use Rattle.cc_entry.specs.declared.place.FileState.{FileState}
 use Rattle.cc_entry.specs.declared.reply.Outcome.TheVariants as outcome
 use Rattle.cc_entry.specs.declared.reply.Reply.{Reply}
 use Rattle.cc_entry.specs.declared.reply.Reply.TheVariants as reply
+use Rattle.cc_entry.specs.declared.query.Value.TheVariants as value
 use Rattle.cc_effects.specs.Calls.{CallLeft}
 use Rattle.cc_effects.proofs.FrontLaws.{outcome-defined}
 use Rattle.cc_model.specs.Bytes.{answer, answer_length, byte_of}
 use Rattle.cc_model.specs.Good.{IsGood}
 use Rattle.cc_model.specs.History.{Effect}
 use Rattle.cc_model.specs.Legal.{stream_history, stream_opening}
-use Rattle.cc_model.specs.Replies.{IsReply, Reads, state_of}
+use Rattle.cc_model.specs.Queries.{state_of}
+use Rattle.cc_model.specs.Replies.{IsReply, Reads}
 use Rattle.cc_model.specs.Setup.{Setup}
 use Rattle.cc_model.specs.Stamps.{lsns_over}
 use Rattle.cc_model.specs.Throttle.{may_go, pages_for}
@@ -48,15 +51,15 @@ told-nothing u me it r old new none good left =
     subst (λ (x : Reply). CallLeft u me it (outcome.Done x) old new) (unit u _ (stream_opening u d.1) (stream_history _ d.1) me it r none d.5.1) left
 
 -- the state of a stream, where that was asked
-pub state-reply : (u : Setup) (me : ℕ) (file : File) (r : Reply) (old new : List Entry) → IsGood u new → CallLeft u me (call.State file) (outcome.Done r) old new → (state : FileState) × (r ≡ reply.State state)
+pub state-reply : (u : Setup) (me : ℕ) (file : File) (r : Reply) (old new : List Entry) → IsGood u new → CallLeft u me (call.Query (query.State file)) (outcome.Done r) old new → (state : FileState) × (r ≡ reply.Value (value.State state))
 state-reply u me file r old new good left =
-    let d = outcome-defined u me (call.State file) (outcome.Done r) old new [] good left refl in
+    let d = outcome-defined u me (call.Query (query.State file)) (outcome.Done r) old new [] good left refl in
     (state_of (stream_history _ d.1), d.5.1)
 
 -- its LSNs, where those were asked
-pub lsns-reply : (u : Setup) (me : ℕ) (file : File) (r : Reply) (old new : List Entry) → IsGood u new → CallLeft u me (call.LsnForFile file) (outcome.Done r) old new → (lsns : Option (ℕ × ℕ)) × (r ≡ reply.Lsns lsns)
+pub lsns-reply : (u : Setup) (me : ℕ) (file : File) (r : Reply) (old new : List Entry) → IsGood u new → CallLeft u me (call.Query (query.LsnForFile file)) (outcome.Done r) old new → (lsns : Option (ℕ × ℕ)) × (r ≡ reply.Value (value.Lsns lsns))
 lsns-reply u me file r old new good left =
-    let d = outcome-defined u me (call.LsnForFile file) (outcome.Done r) old new [] good left refl in
+    let d = outcome-defined u me (call.Query (query.LsnForFile file)) (outcome.Done r) old new [] good left refl in
     let h = stream_history _ d.1 in
     (lsns_over h (dirty_pages h), d.5.1)
 
@@ -81,7 +84,7 @@ read-reply u me file at len wait r old new good left =
     reads (stream_opening u d.1) (stream_history _ d.1) at len r d.5.1
 
 -- whether a write may go, where that was asked
-pub may-reply : (u : Setup) (me : ℕ) (file : File) (bytes : ℕ) (r : Reply) (old new : List Entry) → IsGood u new → CallLeft u me (call.CanWrite file bytes) (outcome.Done r) old new → (flag : Bool) × (r ≡ reply.Flag flag)
+pub may-reply : (u : Setup) (me : ℕ) (file : File) (bytes : ℕ) (r : Reply) (old new : List Entry) → IsGood u new → CallLeft u me (call.Query (query.CanWrite file bytes)) (outcome.Done r) old new → (flag : Bool) × (r ≡ reply.Value (value.Flag flag))
 may-reply u me file bytes r old new good left =
-    let d = outcome-defined u me (call.CanWrite file bytes) (outcome.Done r) old new [] good left refl in
+    let d = outcome-defined u me (call.Query (query.CanWrite file bytes)) (outcome.Done r) old new [] good left refl in
     (may_go u (d.3 ++ old) file.stream (pages_for bytes), d.5.1)

@@ -6,6 +6,7 @@ use Rattle.std.proofs.Common.{ap, sym, ◌∙◌, subst, arith, inl, inr}
 use Rattle.std.proofs.lemmas.Bool.{eq-eqb}
 use Rattle.cc_entry.specs.declared.call.Call.{Call}
 use Rattle.cc_entry.specs.declared.call.Call.TheVariants as call
+use Rattle.cc_entry.specs.declared.query.Query.TheVariants as query
 use Rattle.cc_entry.specs.declared.entry.Entry.{Entry}
 use Rattle.cc_entry.specs.declared.entry.Entry.TheVariants as entry
 use Rattle.cc_entry.specs.declared.error.CcError.{CcError}
@@ -55,13 +56,13 @@ use Rattle.cc_calls.proofs.LogCalls.{idle-grows}
 
 -- such a call is filed under no stream, has no range, and is no store
 filed : (holds : List Hold) (pass : ℕ) (it : Call) → is_streamless it ≡ true → IsFiled holds pass None it (file_of it)
-filed holds pass (call.DirtyPages handle) alone = refl
-filed holds pass call.IsDirtyData alone = refl
+filed holds pass (call.Query (query.DirtyPages handle)) alone = refl
+filed holds pass (call.Query query.IsDirtyData) alone = refl
 filed holds pass other alone = absurd (cc)
 
 no-range : (size : ℕ) (it : Call) → is_streamless it ≡ true → range_of size it ≡ None
-no-range size (call.DirtyPages handle) alone = refl
-no-range size call.IsDirtyData alone = refl
+no-range size (call.Query (query.DirtyPages handle)) alone = refl
+no-range size (call.Query query.IsDirtyData) alone = refl
 no-range size other alone = absurd (cc)
 
 no-store : (it : Call) (ended : Outcome) → is_streamless it ≡ true → is_store it ended ≡ false
@@ -70,14 +71,14 @@ no-store other ended alone = refl
 
 -- it asks one place
 one-asked : (it : Call) → is_streamless it ≡ true → most_asked it ≡ 1
-one-asked (call.DirtyPages handle) alone = refl
-one-asked call.IsDirtyData alone = refl
+one-asked (call.Query (query.DirtyPages handle)) alone = refl
+one-asked (call.Query query.IsDirtyData) alone = refl
 one-asked other alone = absurd (cc)
 
 -- it may find no room and no memory, and nothing is to do before it is done
 may-stop : (it : Call) (entries : ℕ) → is_streamless it ≡ true → (may_refuse it (error.JournalFull entries) ≡ true) × (may_refuse it error.NoMemory ≡ true)
-may-stop (call.DirtyPages handle) entries alone = (refl, refl)
-may-stop call.IsDirtyData entries alone = (refl, refl)
+may-stop (call.Query (query.DirtyPages handle)) entries alone = (refl, refl)
+may-stop (call.Query query.IsDirtyData) entries alone = (refl, refl)
 may-stop other entries alone = absurd (cc)
 
 may-want : (it : Call) (past : List Entry) → is_streamless it ≡ true → may_want it past ≡ true
@@ -85,8 +86,8 @@ may-want (call.SetDirty hold lsn) past alone = absurd (cc)
 may-want other past alone = refl
 
 has-done : (me : ℕ) (it : Call) (during old : List Entry) → is_streamless it ≡ true → HasDone me it during old
-has-done me (call.DirtyPages handle) during old alone = tt
-has-done me call.IsDirtyData during old alone = tt
+has-done me (call.Query (query.DirtyPages handle)) during old alone = tt
+has-done me (call.Query query.IsDirtyData) during old alone = tt
 has-done me other during old alone = absurd (cc)
 
 on_needed : (b : Bool) (P : Type 0) → P → OnTrue b P
@@ -94,14 +95,14 @@ on_needed true P p = p
 on_needed false P p = tt
 
 -- nothing refuses the question whether a page is dirty
-pub dirty-unrefused : (u : Setup) (past : List Entry) → refusal u past [] call.IsDirtyData ≡ None
+pub dirty-unrefused : (u : Setup) (past : List Entry) → refusal u past [] (call.Query query.IsDirtyData) ≡ None
 unfolding refusal
 dirty-unrefused u past = refl
 
 -- one that may fail for want of its log may be refused for it
 log-listed : (u : Setup) (past : List Entry) (pass handle : ℕ) (it : Call) → is_streamless it ≡ true → IsOutcome u past pass None it (outcome.Failed (error.NoLog handle)) → may_refuse it (error.NoLog handle) ≡ true
-log-listed u past pass handle (call.DirtyPages log) alone is = refl
-log-listed u past pass handle call.IsDirtyData alone is = let none = dirty-unrefused u past in absurd (cc (none, is))
+log-listed u past pass handle (call.Query (query.DirtyPages log)) alone is = refl
+log-listed u past pass handle (call.Query query.IsDirtyData) alone is = let none = dirty-unrefused u past in absurd (cc (none, is))
 log-listed u past pass handle other alone is = absurd (cc)
 
 nothing_owed : (e : Entry) (past : List Entry) → owed_begin past ≡ None → IsOwed (owed_begin past) e

@@ -1,18 +1,20 @@
 -- What a call is known of that waits for a page: the page is of its range and not resident, and it may bring pages in.
-use Rattle.std.specs.Prelude.{◌≡◌, ℕ, zero, suc, ◌+◌, ◌-◌, ◌*◌, ◌/◌, ◌<◌, ◌≤◌, Bool, true, false, not, cond, nat_lt, List, [], Option, None, Some, if◌then◌else◌, refl}
+use Rattle.std.specs.Prelude.{◌≡◌, ℕ, zero, suc, ◌+◌, ◌-◌, ◌*◌, ◌/◌, ◌<◌, ◌≤◌, Bool, true, false, not, cond, nat_lt, List, [], Option, None, Some, is_some, if◌then◌else◌, refl}
 use Rattle.std.specs.List.{find, range_with_len}
 use Rattle.std.proofs.Common.{ap, sym, ◌∙◌, arith}
 use Rattle.std.proofs.lemmas.Bool.{and_from, eq-eqb, lt-ltb, ltb-true}
 use Rattle.cc_entry.specs.Pages.{has_page, last_page, pages_of}
-use Rattle.cc_entry.specs.Place.{Range}
+use Rattle.cc_entry.specs.Place.{File, Range}
+use Rattle.cc_entry.specs.Queries.{extent_of_query, file_of_query}
 use Rattle.cc_entry.specs.declared.call.Call.{Call}
 use Rattle.cc_entry.specs.declared.call.Call.TheVariants as call
 use Rattle.cc_entry.specs.declared.entry.Entry.{Entry}
 use Rattle.cc_effects.specs.Asked.{brings_in, is_file_of_page, range_has, reaches}
 use Rattle.cc_laws.proofs.UnrefusedCalls.{unrefused}
 use Rattle.cc_model.specs.Acts.{file_of}
+use Rattle.cc_model.specs.Filing.{IsFiled}
 use Rattle.cc_model.specs.History.{Effect, history}
-use Rattle.cc_model.specs.Ranges.{range_of}
+use Rattle.cc_model.specs.Ranges.{range_of, queried_range}
 use Rattle.cc_model.specs.Residency.{is_resident}
 use Rattle.cc_model.specs.Setup.{Setup}
 use Rattle.cc_model.specs.Touches.{size_of}
@@ -31,6 +33,7 @@ stepped (call.PreparePin file at len zeroed exclusive) paged = refl
 stepped (call.MdlRead file at len) paged = refl
 stepped (call.MdlWrite file at len) paged = refl
 stepped (call.AheadStep request) paged = refl
+stepped (call.Query asked) paged = paged
 stepped other paged = absurd (cc)
 
 -- one without a range waits for none
@@ -92,6 +95,11 @@ of-stream (call.PreparePin file at len zeroed exclusive) s page paged filed = le
 of-stream (call.MdlRead file at len) s page paged filed = let is = filed [] 0 in eq-eqb file.stream s (cc)
 of-stream (call.MdlWrite file at len) s page paged filed = let is = filed [] 0 in eq-eqb file.stream s (cc)
 of-stream (call.AheadStep request) s page paged filed = let is = filed [] 0 in eq-eqb request.file.stream s (cc)
+of-stream (call.Query asked) s page paged filed = by (file_of_query asked) paged (filed [] 0)
+  where
+    by : (named : Option File) → is_some named ≡ true → IsFiled [] 0 (Some s) (call.Query asked) named → is_file_of_page named (record { stream = s; page = page }) ≡ true
+    by None some is = absurd (cc)
+    by (Some file) some is = eq-eqb file.stream s (cc)
 of-stream other s page paged filed = absurd (cc)
 
 -- the page that it waits for
@@ -125,4 +133,9 @@ brings u (call.PreparePin file at len zeroed exclusive) s page past paged waits 
 brings u (call.MdlRead file at len) s page past paged waits = refl
 brings u (call.MdlWrite file at len) s page past paged waits = refl
 brings u (call.AheadStep request) s page past paged waits = refl
+brings u (call.Query asked) s page past paged waits = by (extent_of_query asked) waits.least
+  where
+    by : (extent : Option (ℕ × ℕ)) → least_absent (history past s) (queried_range (size_of (history past s)) extent) ≡ Some page → is_some extent ≡ true
+    by None least = absurd (cc)
+    by (Some (at, n)) least = refl
 brings u other s page past paged waits = absurd (cc)

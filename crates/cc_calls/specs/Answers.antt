@@ -9,6 +9,7 @@ use Rattle.cc_entry.specs.declared.place.FileState.{FileState}
 use Rattle.cc_entry.specs.declared.reply.Outcome.{Outcome}
 use Rattle.cc_entry.specs.declared.reply.Outcome.TheVariants as outcome
 use Rattle.cc_entry.specs.declared.reply.Reply.TheVariants as reply
+use Rattle.cc_entry.specs.declared.query.Value.TheVariants as value
 use Rattle.cc_effects.specs.Calls.{CallLeft}
 use Rattle.cc_turns.specs.Standing.{Standing, nothing}
 use Rattle.cc_writes.specs.Hands.{Went}
@@ -28,7 +29,7 @@ pub record IsFree (w : Standing) : Type 0 where
 -- the same where the caller was answered the sizes and the log of a stream, rows of the dirty page table, LSNs, or a
 -- flag
 abbrev pub state_outcome : Result FileState CcError → Outcome
-state_outcome (Ok state) = outcome.Done (reply.State state)
+state_outcome (Ok state) = outcome.Done (reply.Value (value.State state))
 state_outcome (Err e) = outcome.Failed e
 
 abbrev pub rows_outcome : Result (List DirtyRow) CcError → Outcome
@@ -36,11 +37,11 @@ rows_outcome (Ok rows) = outcome.Done (reply.Rows rows)
 rows_outcome (Err e) = outcome.Failed e
 
 abbrev pub lsns_outcome : Result (Option (ℕ × ℕ)) CcError → Outcome
-lsns_outcome (Ok lsns) = outcome.Done (reply.Lsns lsns)
+lsns_outcome (Ok lsns) = outcome.Done (reply.Value (value.Lsns lsns))
 lsns_outcome (Err e) = outcome.Failed e
 
 abbrev pub flag_outcome : Result Bool CcError → Outcome
-flag_outcome (Ok flag) = outcome.Done (reply.Flag flag)
+flag_outcome (Ok flag) = outcome.Done (reply.Value (value.Flag flag))
 flag_outcome (Err e) = outcome.Failed e
 
 -- Whether a call needs no page, and is answered without a value: it sets something of its stream.

@@ -2,6 +2,7 @@
 pub mod Answers
 pub mod Pages
 pub mod Paged
+pub mod Queries
 pub mod Logs
 pub mod Levels
 pub mod Streamless

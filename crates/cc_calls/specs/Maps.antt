@@ -10,6 +10,7 @@ use Rattle.cc_entry.specs.declared.entry.Entry.TheVariants as entry
 use Rattle.cc_entry.specs.declared.error.CcError.{CcError}
 use Rattle.cc_entry.specs.declared.reply.Outcome.TheVariants as outcome
 use Rattle.cc_entry.specs.declared.reply.Reply.TheVariants as reply
+use Rattle.cc_entry.specs.declared.query.Value.TheVariants as value
 use Rattle.cc_effects.specs.Moments.{Others}
 use Rattle.cc_model.specs.History.{history}
 use Rattle.cc_model.specs.Touches.{is_mapped}
@@ -21,11 +22,11 @@ pub record HasClosed (me s : ℕ) (it : Call) (gone : Bool) (old new : List Entr
   pub nth : ℕ
   pub earlier : List Entry
   pub later : List Entry
-  pub grew : new ≡ later ++ (entry.Call me nth (Some s) it (outcome.Done (reply.Flag gone)) ∷ (earlier ++ old))
+  pub grew : new ≡ later ++ (entry.Call me nth (Some s) it (outcome.Done (reply.Value (value.Flag gone))) ∷ (earlier ++ old))
   pub quiet : Others me later
   pub was : is_mapped (history (earlier ++ old) s) ≡ true
   pub now :
-      is_mapped (history (entry.Call me nth (Some s) it (outcome.Done (reply.Flag gone)) ∷ (earlier ++ old)) s)
+      is_mapped (history (entry.Call me nth (Some s) it (outcome.Done (reply.Value (value.Flag gone))) ∷ (earlier ++ old)) s)
       ≡ not gone
 
 -- An uninitialise was answered so: it ended as a call that needs no page, and answered that the shared map went exactly

@@ -1,5 +1,6 @@
 -- What a call on a stream leaves of itself, that is made in one turn of the stream's book, or that needs pages.
 use Rattle.std.specs.Prelude.{◌≡◌, ℕ, Bool, true, false, Result, List}
+use Rattle.cc_entry.specs.Queries.{is_of_stream}
 use Rattle.cc_entry.specs.declared.call.Call.{Call}
 use Rattle.cc_entry.specs.declared.call.Call.TheVariants as call
 use Rattle.cc_entry.specs.declared.error.CcError.{CcError}
@@ -13,7 +14,7 @@ use Rattle.cc_writes.specs.declared.tell.Returned.{Returned}
 use Rattle.cc_writes.specs.Fetch.{WentOn}
 use Rattle.cc_calls.specs.Pages.{IsFullFor, TookDeviceFor}
 
--- whether a call is done on pages of its stream, all of which have to be resident
+-- Whether a call is done on pages of its stream, all of which have to be resident. A query of a stream may need none.
 abbrev pub is_paged : Call → Bool
 is_paged (call.CopyRead file at len wait) = true
 is_paged (call.CopyWrite file at bytes) = true
@@ -24,6 +25,7 @@ is_paged (call.PreparePin file at len zero exclusive) = true
 is_paged (call.MdlRead file at len) = true
 is_paged (call.MdlWrite file at len) = true
 is_paged (call.AheadStep request) = true
+is_paged (call.Query query) = is_of_stream query
 is_paged other = false
 
 -- A call that needs no page ended so, and its caller was told what it returns. The pass goes on as it stood and may call

@@ -1,6 +1,7 @@
 -- What a call on no stream leaves of a journal in hand.
-use Rattle.std.specs.Prelude.{◌≡◌, ℕ, suc, ◌-◌, ◌<◌, ◌≤◌, Bool, true, false, Result, Ok, Err, List, ◌∷◌}
+use Rattle.std.specs.Prelude.{◌≡◌, ℕ, suc, ◌-◌, ◌<◌, ◌≤◌, Bool, true, false, not, Result, Ok, Err, List, ◌∷◌}
 use Rattle.std.specs.declared.option.Option.TheVariants.{None}
+use Rattle.cc_entry.specs.Queries.{is_of_stream}
 use Rattle.cc_entry.specs.declared.call.Call.{Call}
 use Rattle.cc_entry.specs.declared.call.Call.TheVariants as call
 use Rattle.cc_entry.specs.declared.error.CcError.{CcError}
@@ -18,10 +19,9 @@ use Rattle.cc_model.specs.Setup.{Setup}
 use Rattle.cc_model.specs.Stamps.{dirty_table}
 use Rattle.cc_step.specs.Step.{AddsOwing, IsStop}
 
--- whether a call is on no stream: it names neither a file nor a hold
+-- whether a call is on no stream: it is a query that names no file
 abbrev pub is_streamless : Call → Bool
-is_streamless (call.DirtyPages handle) = true
-is_streamless call.IsDirtyData = true
+is_streamless (call.Query query) = not (is_of_stream query)
 is_streamless other = false
 
 -- the entry of such a call of a pass, its next

@@ -11,13 +11,13 @@ ghost use Rattle.cc_writes.specs.Hands.{HasBook};
 ghost use Rattle.cc_calls.specs.Answers.{CallEnds, CanCall, IsFree};
 ghost use Rattle.cc_calls.specs.Ahead.{AskedAt, AskedIn, IsDecided, PassedOver, RequestServed, StepEnds, IsServed, ahead_outcome};
 
+use crate::told::flag;
 use crate::turned::call_paged;
 use cc_book::Book;
 use cc_entry::{AheadDone, Call, CcError, Entry, FileId, NoMemory, Outcome, Reply, Request};
 use cc_journal::Journal;
 use cc_queue::{Queue, QueuePlace};
 use cc_turns::Turns;
-use cc_writes::Returned;
 use std::alloc::Global;
 use std::sync::Wait;
 
@@ -264,10 +264,7 @@ fn bring<T: Turns>(alloc: Global, turns: &mut T, request: Request) -> Result<boo
 {
     let stream = request.file.stream();
     match call_paged(alloc, turns, stream, Call::AheadStep { request }, &mut []) {
-        Ok(told) => match told {
-            Returned::Flag(whole) => Ok(whole),
-            _ => unreachable!(),
-        },
+        Ok(told) => Ok(flag(told)),
         Err(error) => Err(error),
     }
 }

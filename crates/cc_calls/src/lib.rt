@@ -38,6 +38,7 @@ mod repins;
 mod settings;
 mod throttle;
 mod ticks;
+mod told;
 mod turned;
 
 pub use ahead::{read_ahead_step, schedule_read_ahead};
@@ -56,7 +57,7 @@ pub use logs::{log_append, log_flush};
 pub use maps::{initialize, uninitialize};
 pub use page_writes::{PageWriteAnswer, write_one};
 pub use pins::{Pinned, pin_read, pinned_read, pinned_write, prepare_pin_write, set_dirty, unpin};
-pub use queries::{dirty_pages, file_state, is_dirty_data, lsn_for_file};
+pub use queries::{ask, dirty_pages, file_state, is_dirty_data, lsn_for_file};
 pub use repins::{Repinned, repin, unpin_repinned};
 pub use settings::{
     set_attributes, set_file_sizes, set_granularity, set_log_handle, set_threshold,

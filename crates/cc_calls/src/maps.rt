@@ -5,10 +5,10 @@ ghost use Rattle.cc_calls.specs.Answers.{CanCall, CallSets};
 ghost use Rattle.cc_calls.specs.Maps.{UninitializeEnds};
 
 use crate::settings::set;
+use crate::told::flag;
 use crate::turned::call_at_once;
 use cc_entry::{Call, CcError, FileId, FileSizes, Quota};
 use cc_turns::Turns;
-use cc_writes::Returned;
 use std::alloc::Global;
 
 /// Makes the shared cache map of a stream, with a private one for the file object, or the private one alone where there
@@ -51,10 +51,7 @@ pub fn uninitialize<T: Turns>(
 {
     let call = Call::Uninitialise { file, truncate };
     match call_at_once(alloc, turns, file.stream(), call, &mut []) {
-        Ok(told) => match told {
-            Returned::Flag(gone) => Ok(gone),
-            _ => unreachable!(),
-        },
+        Ok(told) => Ok(flag(told)),
         Err(error) => Err(error),
     }
 }

@@ -3,6 +3,7 @@
 ghost use Rattle.std.specs.Prelude.{◌≡◌, ℕ, false, true, IfErr, IfOk, IfSome, List, Option};
 ghost use Rattle.cc_book.specs.Book.{BookStands};
 ghost use Rattle.cc_entry.specs.declared.call.Call.TheVariants as call;
+ghost use Rattle.cc_entry.specs.declared.query.Query.TheVariants as query;
 ghost use Rattle.cc_journal.specs.Queue.{AllUnposted};
 ghost use Rattle.cc_model.specs.Good.{IsGood};
 ghost use Rattle.cc_model.specs.Setup.{Setup};
@@ -10,13 +11,13 @@ ghost use Rattle.cc_writes.specs.Hands.{HasBook};
 ghost use Rattle.cc_calls.specs.Answers.{CallEnds, CanCall, IsFree, flag_outcome};
 ghost use Rattle.cc_calls.specs.Throttle.{DeferEnds, DeferIn, PlaceFor, PostEnds, PostIn, deferral_told, post_told};
 
+use crate::told::flag;
 use crate::turned::call_at_once;
 use cc_book::Book;
-use cc_entry::{Call, CcError, FileId};
+use cc_entry::{Call, CcError, FileId, Query};
 use cc_journal::Journal;
 use cc_traits::{PostRoutine, PostedRoutine};
 use cc_turns::Turns;
-use cc_writes::Returned;
 use std::alloc::Global;
 
 /// Whether a write of so many bytes to a stream may go (`CcCanIWrite`): the dirty pages of all streams with its own, one for
@@ -30,20 +31,17 @@ pub fn can_i_write<T: Turns>(
     bytes: u64,
 ) -> Result<bool, CcError>
     requires can { CanCall (T.standing turns.old) file.stream }
-    ensures ends { CallEnds flag_outcome (T.standing turns.old) (T.standing turns.new) (call.CanWrite file bytes) result }
+    ensures ends { CallEnds flag_outcome (T.standing turns.old) (T.standing turns.new) (call.Query (query.CanWrite file bytes)) result }
     ensures good { IsGood (T.standing turns.old).setup (T.standing turns.new).seen }
 {
     match call_at_once(
         alloc,
         turns,
         file.stream(),
-        Call::CanWrite { file, bytes },
+        Call::Query(Query::CanWrite { file, bytes }),
         &mut [],
     ) {
-        Ok(told) => match told {
-            Returned::Flag(flag) => Ok(flag),
-            _ => unreachable!(),
-        },
+        Ok(told) => Ok(flag(told)),
         Err(error) => Err(error),
     }
 }

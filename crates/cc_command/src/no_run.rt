@@ -18,8 +18,8 @@ pub enum NoRun {
     TooLong,
     /// No memory was found.
     NoMemory,
-    /// The script has more streams than there are disks, a stream names a log that there is not, or more writes are deferred
-    /// than there are post routines.
+    /// The script has more streams than there are disks, a stream or a restart names a log that there is not, or more
+    /// writes are deferred than there are post routines.
     TooFewDevices,
 }
 

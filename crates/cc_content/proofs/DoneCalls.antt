@@ -4,6 +4,7 @@ use Rattle.std.proofs.lemmas.Bool.{le-ltb, leb-false, ltb-false}
 use Rattle.std.specs.List.{IsDistinct}
 use Rattle.cc_entry.specs.Pages.{whole_range, blocks_of}
 use Rattle.cc_entry.specs.Place.{File, Range}
+use Rattle.cc_entry.specs.Queries.{extent_of_query}
 use Rattle.cc_entry.specs.declared.call.Call.{Call}
 use Rattle.cc_entry.specs.declared.call.Call.TheVariants as call
 use Rattle.cc_entry.specs.declared.call.Call.TheVariants.{Uninitialise, PreparePin, NcStore}
@@ -15,9 +16,10 @@ use Rattle.cc_entry.specs.declared.reply.Reply.TheVariants as reply
 use Rattle.cc_views.specs.Views.{MappedViews}
 use Rattle.cc_model.specs.Acts.{Act, act_of, Resizes, Writes, Zeroes, Stores, Stamps, Discards, Looks}
 use Rattle.cc_model.specs.Allowed.{IsAllowedSoFar}
+use Rattle.cc_model.specs.Conditions.{IsFilled}
 use Rattle.cc_model.specs.History.{Effect, Did, history}
 use Rattle.cc_model.specs.Objects.{objects, truncation}
-use Rattle.cc_model.specs.Ranges.{cut_range}
+use Rattle.cc_model.specs.Ranges.{cut_range, queried_range}
 use Rattle.cc_model.specs.Reasons.{past_size}
 use Rattle.cc_model.specs.Residency.{all_resident, mapped_blocks_with, blocks_of_range}
 use Rattle.cc_model.specs.Settings.{quota_of}
@@ -31,7 +33,7 @@ use Rattle.cc_content.specs.Contents.{Contents, ContentsStand, MapStands}
 use Rattle.cc_content.specs.Done.{is_look, UsesBlocks}
 use Rattle.cc_content.specs.Filling.{HasRoomAmong}
 use Rattle.cc_content.specs.Filling.{HasRoomToKeepPage as HasRoomForPage}
-use Rattle.cc_content.specs.Following.{MayFollowContents, Finds, FindsOpen, AllKept, AllMapped, IsCutWithin, truncated_by, span_below, looked_range}
+use Rattle.cc_content.specs.Following.{MayFollowContents, Finds, FindsOpen, AllKept, AllMapped, IsCutWithin, truncated_by, span_below, queried_below, looked_range}
 use Rattle.cc_content.proofs.Allowed.{all_kept-resident, all_mapped-resident, starts-below, truncation-within, room-for}
 use Rattle.cc_content.proofs.DoneFacts.{IsDone, IsDone-good, history-called, valid-within, written-resident, written-fits, written-starts, zeroed-resident, zeroed-fits, zeroed-starts, stored-starts, finds-map, map-resizes, map-writes, map-zeroes, map-stores, map-discards, map-looks, map-stamps}
 use Rattle.cc_content.proofs.Orders.{order_of_use-distinct}
@@ -145,6 +147,19 @@ module _ (opening : Option (ℕ → List ℕ)) (past : List Entry) (h : List Eff
       looks-whole (call.MdlRead file at len) r at len done.room.within (record { blocks = refl }) done.filled
   looks-ahead (call.MdlWrite file at len) r done look =
       looks-whole (call.MdlWrite file at len) r at len done.room.within (record { blocks = refl }) done.filled
+  looks-ahead (call.Query asked) r done look = by (extent_of_query asked) refl
+    where
+      by : (extent : Option (ℕ × ℕ)) → extent_of_query asked ≡ extent
+          → LooksAt h pass (call.Query asked) r o (queried_below (size_of h) extent)
+      by None is =
+          record {
+            uses = record { blocks = ap (λ e. blocks_of_range (queried_range (size_of h) e)) is };
+            mapped = none-mapped o;
+          }
+      by (Some (at, n)) is =
+          looks-below (call.Query asked) r at n
+          (record { blocks = ap (λ e. blocks_of_range (queried_range (size_of h) e)) is })
+          (subst (λ e. IsFilled h (queried_range (size_of h) e)) is done.filled)
   looks-ahead (call.CopyWrite file at bytes) r done look = absurd (true≢false (sym look))
   looks-ahead (call.Zero file span) r done look = absurd (true≢false (sym look))
   looks-ahead (call.NcStore file page bytes) r done look = absurd (true≢false (sym look))

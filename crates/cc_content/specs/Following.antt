@@ -1,6 +1,7 @@
 -- When the contents of a stream may follow a done call.
 use Rattle.std.specs.Prelude.{◌≡◌, ℕ, ◌+◌, ◌≤◌, Bool, true, false, nat_le, min, if◌then◌else◌, List, ◌∷◌, Option, None, Some}
 use Rattle.cc_entry.specs.Place.{File, Range}
+use Rattle.cc_entry.specs.Queries.{extent_of_query}
 use Rattle.cc_entry.specs.declared.call.Call.{Call}
 use Rattle.cc_entry.specs.declared.call.Call.TheVariants as call
 use Rattle.cc_entry.specs.declared.reply.Reply.{Reply}
@@ -107,6 +108,11 @@ IsCutWithin other size = Unit {0}
 abbrev pub span_below : ℕ → ℕ → ℕ → Option Range
 span_below size at n = if nat_le at (min (at + n) size) then Some (cut_range size at n) else None
 
+-- the bytes that a query needs, given from where and how many, as far as they lie below the size
+abbrev pub queried_below : ℕ → Option (ℕ × ℕ) → Option Range
+queried_below size None = None
+queried_below size (Some (at, n)) = span_below size at n
+
 -- the range whose blocks a call uses that changes nothing, in a stream of this size
 abbrev pub looked_range : ℕ → Call → Reply → Option Range
 looked_range size (call.CopyRead file at len wait) r = span_below size at len
@@ -117,4 +123,5 @@ looked_range size (call.MdlRead file at len) r = span_below size at len
 looked_range size (call.MdlWrite file at len) r = span_below size at len
 looked_range size (call.AheadStep request) (reply.Whole false) = None
 looked_range size (call.AheadStep request) r = span_below size request.at request.len
+looked_range size (call.Query asked) r = queried_below size (extent_of_query asked)
 looked_range size other r = None

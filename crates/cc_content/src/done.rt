@@ -4,6 +4,7 @@ ghost use Rattle.std.specs.Prelude.{◌≡◌, ℕ, ◌+◌, ◌*◌, ◌^◌, �
 ghost use Rattle.std.specs.Option.{option_map};
 ghost use Rattle.cc_entry.specs.Pages.{whole_range};
 ghost use Rattle.cc_entry.specs.Place.{File};
+ghost use Rattle.cc_entry.specs.Queries.{extent_of_query};
 ghost use Rattle.cc_entry.specs.declared.place.FileSizes.{FileSizes};
 ghost use Rattle.cc_entry.specs.declared.call.Call.{Call};
 ghost use Rattle.cc_entry.specs.declared.call.Call.TheVariants as call;
@@ -18,13 +19,13 @@ ghost use Rattle.cc_model.specs.Touches.{size_of, valid_of, is_mapped};
 ghost use Rattle.cc_content.specs.Contents.{ContentsStand};
 ghost use Rattle.cc_content.specs.Done.{is_look, UsesBlocks, used_if};
 ghost use Rattle.cc_content.specs.Filling.{HasRoomToKeepPage};
-ghost use Rattle.cc_content.specs.Following.{MayFollowContents, IsFollowingContents, IsFollowingWrite, IsFollowable, takes_content_memory, Finds, FindsOpen, AllKept, AllMapped, IsCutWithin, span_below, looked_range};
+ghost use Rattle.cc_content.specs.Following.{MayFollowContents, IsFollowingContents, IsFollowingWrite, IsFollowable, takes_content_memory, Finds, FindsOpen, AllKept, AllMapped, IsCutWithin, span_below, queried_below, looked_range};
 ghost use Rattle.cc_content.specs.Owned.{changed_range, AllOwnedAmong, OwnsOnlyAmong, OwnsChanged, OwnsOnlyChanged, SameContents};
 ghost use Rattle.cc_resident.specs.Residents.{rest_of_page};
 
 use crate::changes;
 use crate::contents::Contents;
-use cc_entry::{Bytes, Call, NoMemory, Quota, Reply, Span};
+use cc_entry::{Bytes, Call, NoMemory, Query, Quota, Reply, Span};
 use cc_events::stored_end;
 use std::alloc::Global;
 use std::cmp::min;
@@ -382,19 +383,15 @@ fn is_look(call: &Call) -> bool
         | Call::MdlBytes { .. }
         | Call::NcRead { .. }
         | Call::NcWrite { .. }
-        | Call::State { .. }
         | Call::Flush { .. }
         | Call::Purge { .. }
         | Call::SetLog { .. }
-        | Call::DirtyPages { .. }
-        | Call::LsnForFile { .. }
-        | Call::IsDirtyData
         | Call::SetGranularity { .. }
         | Call::SetAttributes { .. }
         | Call::SetThreshold { .. }
         | Call::AskAhead { .. }
         | Call::AheadStep { .. }
-        | Call::CanWrite { .. } => true,
+        | Call::Query(_) => true,
     }
 }
 
@@ -413,8 +410,17 @@ fn looked_range(call: &Call, reply: &Reply, size: u64) -> Option<Span>
             Reply::Whole(false) => None,
             _ => span_below(request.at, request.len, size),
         },
+        Call::Query(query) => queried_below(query, size),
         _ => None,
     }
+}
+
+// The bytes that a query needs, as far as they lie below the size.
+fn queried_below(query: &Query, size: u64) -> Option<Span>
+    ensures { result ≡ queried_below size (extent_of_query query.now) }
+{
+    let (at, len) = query.extent()?;
+    span_below(at, len, size)
 }
 
 // `len` bytes from `at` on, as far as they lie below the size, where they begin there.

@@ -1,7 +1,7 @@
 //! What a crash may leave, and what of it no crash takes back.
 //!
 //! The functions have no body, and their contracts are laws. They follow from what a flush leaves (`FlushEnds` of `cc_calls`), from
-//! how a disk goes with its stream (`HasGone` of `cc_turns`) and from what a log holds (`Holds` of `cc_log`).
+//! how a disk goes with its stream (`HasGone` of `cc_turns`) and from what a log holds (`HoldsLogEntries` of `cc_log`).
 #![tactic(auto)]
 
 mod flushes;

@@ -5,6 +5,7 @@ use Rattle.std.specs.declared.option.Option.TheVariants.{Some, None}
 use Rattle.std.specs.List.{list_any, list_all, find, range_with_len}
 use Rattle.cc_entry.specs.Place.{File, Page, Range}
 use Rattle.cc_entry.specs.Pages.{has_page, block_of, blocks_of}
+use Rattle.cc_entry.specs.Queries.{extent_of_query}
 use Rattle.cc_entry.specs.declared.call.Call.{Call}
 use Rattle.cc_entry.specs.declared.call.Call.TheVariants as call
 use Rattle.cc_entry.specs.declared.entry.Entry.{Entry}
@@ -56,6 +57,7 @@ brings_in (call.PreparePin file at len zero exclusive) = true
 brings_in (call.MdlRead file at len) = true
 brings_in (call.MdlWrite file at len) = true
 brings_in (call.AheadStep request) = true
+brings_in (call.Query query) = is_some (extent_of_query query)
 brings_in other = false
 
 -- whether a call is a page of a noncached read

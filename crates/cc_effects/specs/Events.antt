@@ -59,7 +59,7 @@ abbrev pub holder_of : List Entry → ℕ → Option ℕ
 holder_of past hold = find (λ s. is_some (hold_at (holds_of (history past s)) hold)) (range_with_len 0 16)
 
 -- Under which stream a call is filed: that of the file that it names, or else that of its hold, where it is open. A
--- question for the dirty page table, or whether any page is dirty, is filed under none.
+-- query that names no file is filed under none.
 abbrev pub filed_under : List Entry → Call → Option ℕ
 filed_under past (call.PinMapped hold exclusive) = holder_of past hold
 filed_under past (call.MappedRead hold at len) = holder_of past hold

@@ -10,6 +10,7 @@ use Rattle.cc_model.specs.Numbers.{is_empty, is_among}
 use Rattle.cc_model.specs.History.{history}
 use Rattle.cc_model.specs.Holds.{holds_of}
 use Rattle.cc_model.specs.Cache.{all_streams}
+use Rattle.cc_model.specs.Queries.{refusals_of_query}
 
 -- The numbers of the refusals of a call. The end of a hold has none, nor has a noncached store, whose
 -- refusals are told by the end of the write.
@@ -39,20 +40,16 @@ refusals_of (call.NcRead file page) = 13 ∷ 1 ∷ 4 ∷ 6 ∷ 14 ∷ 15 ∷ 16 
 refusals_of (call.NcStore file page bytes) = []
 refusals_of (call.NcWrite file page) = 13 ∷ 1 ∷ 4 ∷ 6 ∷ 2 ∷ 3 ∷ 9 ∷ 10 ∷ 15 ∷ 16 ∷ 19 ∷ []
 refusals_of (call.SetSizes file allocation size) = 13 ∷ 1 ∷ 7 ∷ 8 ∷ 19 ∷ []
-refusals_of (call.State file) = 13 ∷ 1 ∷ 19 ∷ []
+refusals_of (call.Query query) = refusals_of_query query
 refusals_of (call.Flush file span) = 13 ∷ 1 ∷ 9 ∷ 15 ∷ 16 ∷ 19 ∷ []
 refusals_of (call.Purge file span) = 13 ∷ 1 ∷ 8 ∷ 15 ∷ 16 ∷ 19 ∷ []
 refusals_of (call.Discard file span) = 13 ∷ 1 ∷ 8 ∷ 22 ∷ 23 ∷ 19 ∷ []
 refusals_of (call.SetLog file handle) = 13 ∷ 1 ∷ 21 ∷ 19 ∷ []
-refusals_of (call.DirtyPages handle) = 13 ∷ 21 ∷ 19 ∷ []
-refusals_of (call.LsnForFile file) = 13 ∷ 1 ∷ 19 ∷ []
-refusals_of call.IsDirtyData = 13 ∷ 19 ∷ []
 refusals_of (call.SetGranularity file bytes) = 13 ∷ 1 ∷ 20 ∷ 19 ∷ []
 refusals_of (call.SetAttributes file no_read_ahead no_write_behind) = 13 ∷ 1 ∷ 19 ∷ []
 refusals_of (call.SetThreshold file pages) = 13 ∷ 1 ∷ 19 ∷ []
 refusals_of (call.AskAhead file at len) = 13 ∷ 1 ∷ 18 ∷ 19 ∷ []
 refusals_of (call.AheadStep request) = 13 ∷ 14 ∷ 15 ∷ 16 ∷ 19 ∷ []
-refusals_of (call.CanWrite file bytes) = 13 ∷ 1 ∷ 19 ∷ []
 
 -- whether a call may answer a refusal
 abbrev pub may_refuse : Call → CcError → Bool

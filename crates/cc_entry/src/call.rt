@@ -2,6 +2,7 @@
 
 use crate::bytes::Bytes;
 use crate::place::{FileId, FileSizes, Lsn, Quota, Request, Span};
+use crate::query::Query;
 
 /// A call with its arguments, as its entry in the journal keeps them. A hold is its id; `at`, `len` and
 /// sizes are in bytes, `page` is the page's number in the file's stream.
@@ -141,10 +142,8 @@ pub enum Call {
         allocation: u64,
         size: u64,
     },
-    /// A question for the stream's sizes and log.
-    State {
-        file: FileId,
-    },
+    /// A query: it only looks, and answers.
+    Query(Query),
     /// `CcFlushCache`; no span is the whole stream.
     Flush {
         file: FileId,
@@ -166,16 +165,6 @@ pub enum Call {
         file: FileId,
         handle: u8,
     },
-    /// `CcGetDirtyPages`.
-    DirtyPages {
-        handle: u8,
-    },
-    /// `CcGetLsnForFileObject`.
-    LsnForFile {
-        file: FileId,
-    },
-    /// `CcIsThereDirtyData`.
-    IsDirtyData,
     /// `CcSetReadAheadGranularity`.
     SetGranularity {
         file: FileId,
@@ -201,10 +190,5 @@ pub enum Call {
     /// One read-ahead request as the worker serves it.
     AheadStep {
         request: Request,
-    },
-    /// `CcCanIWrite`.
-    CanWrite {
-        file: FileId,
-        bytes: u64,
     },
 }

@@ -19,6 +19,7 @@ pub mod lists;
 pub mod lock;
 mod part;
 pub mod place;
+pub mod query;
 pub mod reply;
 pub mod runs;
 mod scan;
@@ -34,5 +35,6 @@ pub use lock::{Lock, LockCall};
 pub use place::{
     DirtyRow, FileId, FileSizes, FileState, Lsn, PageId, Quota, Request, Span, StreamId,
 };
+pub use query::{Query, Value};
 pub use reply::{Outcome, Reply};
 pub use runs::{Run, Runs};

@@ -3,7 +3,8 @@
 use crate::bytes::Bytes;
 use crate::error::CcError;
 use crate::lists::Rows;
-use crate::place::{FileState, Lsn, Request};
+use crate::place::Request;
+use crate::query::Value;
 
 /// What a call that is done answers.
 #[derive(Drop)]
@@ -13,12 +14,10 @@ pub enum Reply {
     Read(Bytes),
     /// The id of the hold.
     Hold(u64),
-    Flag(bool),
+    /// What it found.
+    Value(Value),
     /// The dirty page table of a log.
     Rows(Rows),
-    /// The least and the greatest LSN that is not yet written, where there is one.
-    Lsns(Option<(Lsn, Lsn)>),
-    State(FileState),
     /// The read-ahead that was asked for, where there is one.
     Ahead(Option<Request>),
     /// Of a read-ahead step: whether every page of the request, cut at the size, is resident.

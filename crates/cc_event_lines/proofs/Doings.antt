@@ -66,13 +66,10 @@ on-hold Q me bindings (action.AsyncRead file at len) none_first none_range none_
 on-hold Q me bindings action.Complete none_first none_range none_file none_written = refl
 on-hold Q me bindings action.Tick none_first none_range none_file none_written = refl
 on-hold Q me bindings (action.SetSizes file allocation size) none_first none_range none_file none_written = absurd (some-none _ none_file)
-on-hold Q me bindings (action.State file) none_first none_range none_file none_written = absurd (some-none _ none_file)
+on-hold Q me bindings (action.Query asked) none_first none_range none_file none_written = absurd (some-none _ none_file)
 on-hold Q me bindings (action.Flush file span) none_first none_range none_file none_written = absurd (some-none _ none_range)
 on-hold Q me bindings (action.Purge file span) none_first none_range none_file none_written = absurd (some-none _ none_range)
 on-hold Q me bindings (action.Discard file span) none_first none_range none_file none_written = absurd (some-none _ none_range)
-on-hold Q me bindings action.IsDirtyData none_first none_range none_file none_written = absurd (some-none _ none_file)
-on-hold Q me bindings (action.DirtyPages handle) none_first none_range none_file none_written = absurd (some-none _ none_file)
-on-hold Q me bindings (action.LsnForFile file) none_first none_range none_file none_written = absurd (some-none _ none_file)
 on-hold Q me bindings (action.SetLog file handle) none_first none_range none_file none_written = absurd (some-none _ none_file)
 on-hold Q me bindings (action.Append handle bytes) none_first none_range none_file none_written = absurd (some-none _ none_written)
 on-hold Q me bindings (action.LogFlush handle lsn) none_first none_range none_file none_written = absurd (some-none _ none_first)
@@ -88,7 +85,6 @@ on-hold Q me bindings (action.WriteBegin page) none_first none_range none_file n
 on-hold Q me bindings (action.WriteEnd page) none_first none_range none_file none_written = absurd (some-none _ none_first)
 on-hold Q me bindings (action.Sync stream) none_first none_range none_file none_written = absurd (some-none _ none_first)
 on-hold Q me bindings action.Scan none_first none_range none_file none_written = absurd (some-none _ none_first)
-on-hold Q me bindings (action.CanWrite file bytes) none_first none_range none_file none_written = absurd (some-none _ none_file)
 on-hold Q me bindings (action.Defer file bytes retrying) none_first none_range none_file none_written = absurd (some-none _ none_first)
 on-hold Q me bindings action.Post none_first none_range none_file none_written = absurd (some-none _ none_first)
 

@@ -1,12 +1,15 @@
 -- The events of a script's lines name streams that there are, and a line whose event is plain is no deferral.
-use Rattle.std.specs.Prelude.{◌≡◌, ℕ, ◌<◌, ◌≤◌, Bool, true, false, ◌||◌, List, refl}
+use Rattle.std.specs.Prelude.{◌≡◌, ℕ, ◌<◌, ◌≤◌, Bool, true, false, ◌||◌, List, refl, IfSome}
 use Rattle.std.specs.declared.option.Option.{Option}
 use Rattle.std.specs.declared.option.Option.TheVariants.{Some, None}
 use Rattle.std.proofs.Common.{arith}
+use Rattle.cc_entry.specs.Place.{File}
+use Rattle.cc_entry.specs.Queries.{file_of_query}
 use Rattle.cc_entry.specs.Kinds.{is_map, is_pin, is_repin, is_read_chain, is_write_chain}
 use Rattle.cc_entry.specs.declared.call.Call.{Call}
 use Rattle.cc_entry.specs.declared.call.Call.TheVariants as call
 use Rattle.cc_model.specs.Acts.{file_of}
+use Rattle.cc_script.specs.Within.{IsFileWithin}
 use Rattle.cc_script.specs.EventActions.{is_defer}
 use Rattle.cc_script.specs.declared.script.Action.{Action}
 use Rattle.cc_script.specs.declared.script.Action.TheVariants as action
@@ -75,13 +78,14 @@ doing-known disks me bindings (action.AsyncRead file at len) known = tt
 doing-known disks me bindings action.Complete known = tt
 doing-known disks me bindings action.Tick known = tt
 doing-known disks me bindings (action.SetSizes file allocation size) known = below _ _ _ known.1.stream known.2
-doing-known disks me bindings (action.State file) known = below _ _ _ known.1.stream known.2
+doing-known disks me bindings (action.Query asked) known = by (file_of_query asked) known.1
+  where
+    by : (named : Option File) → IfSome named (λ file. IsFileWithin known.0 file) → NamesOf disks named
+    by None named = tt
+    by (Some file) named = below _ _ _ named.stream known.2
 doing-known disks me bindings (action.Flush file span) known = below _ _ _ known.1.stream known.2
 doing-known disks me bindings (action.Purge file span) known = below _ _ _ known.1.stream known.2
 doing-known disks me bindings (action.Discard file span) known = below _ _ _ known.1.stream known.2
-doing-known disks me bindings action.IsDirtyData known = tt
-doing-known disks me bindings (action.DirtyPages handle) known = tt
-doing-known disks me bindings (action.LsnForFile file) known = below _ _ _ known.1.stream known.2
 doing-known disks me bindings (action.SetLog file handle) known = below _ _ _ known.1.stream known.2
 doing-known disks me bindings (action.Append handle bytes) known = tt
 doing-known disks me bindings (action.LogFlush handle lsn) known = tt
@@ -97,7 +101,6 @@ doing-known disks me bindings (action.WriteBegin page) known = below _ _ _ known
 doing-known disks me bindings (action.WriteEnd page) known = below _ _ _ known.1.stream known.2
 doing-known disks me bindings (action.Sync stream) known = below _ _ _ known.1 known.2
 doing-known disks me bindings action.Scan known = tt
-doing-known disks me bindings (action.CanWrite file bytes) known = below _ _ _ known.1.stream known.2
 doing-known disks me bindings (action.Defer file bytes retrying) known = below _ _ _ known.1.stream known.2
 doing-known disks me bindings action.Post known = tt
 

@@ -81,16 +81,12 @@ abbrev pub call_on_file : Action → Option Call
 call_on_file (action.Initialise file sizes quota temporary) = Some (call.Initialise file sizes quota temporary)
 call_on_file (action.Uninitialise file truncate) = Some (call.Uninitialise file truncate)
 call_on_file (action.SetSizes file allocation size) = Some (call.SetSizes file allocation size)
-call_on_file (action.State file) = Some (call.State file)
-call_on_file action.IsDirtyData = Some call.IsDirtyData
-call_on_file (action.DirtyPages handle) = Some (call.DirtyPages handle)
-call_on_file (action.LsnForFile file) = Some (call.LsnForFile file)
+call_on_file (action.Query asked) = Some (call.Query asked)
 call_on_file (action.SetLog file handle) = Some (call.SetLog file handle)
 call_on_file (action.SetGranularity file bytes) = Some (call.SetGranularity file bytes)
 call_on_file (action.SetAttributes file no_read_ahead no_write_behind) =
     Some (call.SetAttributes file no_read_ahead no_write_behind)
 call_on_file (action.SetThreshold file pages) = Some (call.SetThreshold file pages)
-call_on_file (action.CanWrite file bytes) = Some (call.CanWrite file bytes)
 call_on_file other = None
 
 -- a call or an event whose bytes are copied

@@ -185,10 +185,7 @@ fn call_on_file(action: &Action) -> Option<Call>
             allocation,
             size,
         }),
-        Action::State { file } => Some(Call::State { file }),
-        Action::IsDirtyData => Some(Call::IsDirtyData),
-        Action::DirtyPages { handle } => Some(Call::DirtyPages { handle }),
-        Action::LsnForFile { file } => Some(Call::LsnForFile { file }),
+        Action::Query(query) => Some(Call::Query(query)),
         Action::SetLog { file, handle } => Some(Call::SetLog { file, handle }),
         Action::SetGranularity { file, bytes } => Some(Call::SetGranularity { file, bytes }),
         Action::SetAttributes {
@@ -201,7 +198,6 @@ fn call_on_file(action: &Action) -> Option<Call>
             no_write_behind,
         }),
         Action::SetThreshold { file, pages } => Some(Call::SetThreshold { file, pages }),
-        Action::CanWrite { file, bytes } => Some(Call::CanWrite { file, bytes }),
         _ => None,
     }
 }

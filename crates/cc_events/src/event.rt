@@ -85,19 +85,15 @@ pub fn act(call: &Call) -> StreamEvent
         | Call::MdlBytes { .. }
         | Call::NcRead { .. }
         | Call::NcWrite { .. }
-        | Call::State { .. }
         | Call::Flush { .. }
         | Call::Purge { .. }
         | Call::SetLog { .. }
-        | Call::DirtyPages { .. }
-        | Call::LsnForFile { .. }
-        | Call::IsDirtyData
         | Call::SetGranularity { .. }
         | Call::SetAttributes { .. }
         | Call::SetThreshold { .. }
         | Call::AskAhead { .. }
         | Call::AheadStep { .. }
-        | Call::CanWrite { .. } => StreamEvent::Rests,
+        | Call::Query(_) => StreamEvent::Rests,
     }
 }
 

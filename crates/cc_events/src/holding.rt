@@ -28,10 +28,8 @@ pub fn id_in(reply: &Reply) -> u64
         Reply::Hold(id) => *id,
         Reply::Unit
         | Reply::Read(_)
-        | Reply::Flag(_)
+        | Reply::Value(_)
         | Reply::Rows(_)
-        | Reply::Lsns(_)
-        | Reply::State(_)
         | Reply::Ahead(_)
         | Reply::Whole(_) => 0,
     }
@@ -69,20 +67,16 @@ pub fn holding_by(call: &Call, id: u64) -> Holding
         | Call::NcStore { .. }
         | Call::NcWrite { .. }
         | Call::SetSizes { .. }
-        | Call::State { .. }
         | Call::Flush { .. }
         | Call::Purge { .. }
         | Call::Discard { .. }
         | Call::SetLog { .. }
-        | Call::DirtyPages { .. }
-        | Call::LsnForFile { .. }
-        | Call::IsDirtyData
         | Call::SetGranularity { .. }
         | Call::SetAttributes { .. }
         | Call::SetThreshold { .. }
         | Call::AskAhead { .. }
         | Call::AheadStep { .. }
-        | Call::CanWrite { .. } => Holding::Rests,
+        | Call::Query(_) => Holding::Rests,
     }
 }
 

@@ -86,8 +86,8 @@ impl<Q> Model for Journal<Q> {
 }
 
 impl<Q: PostRoutine> Journal<Q> {
-    /// An empty journal, recorded where its capacity is below 2 ^ 32, with room for all rows of the dirty page table and for 64 deferred writes. Answers `NoMemory`
-    /// where memory is wanting.
+    /// An empty journal, recorded where its capacity is below 2 ^ 32, with room for all rows of the dirty page table and for
+    /// 64 deferred writes. Answers `NoMemory` where memory is wanting.
     pub fn new(
         alloc: Global,
         capacity: u64,

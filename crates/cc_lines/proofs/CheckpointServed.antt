@@ -8,11 +8,13 @@ use Rattle.cc_entry.specs.declared.place.FileState.{FileState}
 use Rattle.cc_entry.specs.declared.answer.Answer.{Answer}
 use Rattle.cc_entry.specs.declared.answer.Answer.TheVariants as answer
 use Rattle.cc_entry.specs.declared.call.Call.TheVariants as call
+use Rattle.cc_entry.specs.declared.query.Query.TheVariants as query
 use Rattle.cc_entry.specs.declared.entry.Entry.{Entry}
 use Rattle.cc_entry.specs.declared.error.CcError.{CcError}
 use Rattle.cc_entry.specs.declared.error.CcError.TheVariants as error
 use Rattle.cc_entry.specs.declared.reply.Outcome.TheVariants as outcome
 use Rattle.cc_entry.specs.declared.reply.Reply.TheVariants as reply
+use Rattle.cc_entry.specs.declared.query.Value.TheVariants as value
 use Rattle.cc_script.specs.declared.script.Action.TheVariants as action
 use Rattle.cc_model.specs.Good.{IsGood}
 use Rattle.cc_model.specs.Setup.{Setup}
@@ -29,8 +31,8 @@ use Rattle.cc_lines.proofs.WordLines.{stand-on}
 
 module _ (u : Setup) (me id streams handle : ℕ) where
   asked-unchanged : (s : ℕ) (state : Option FileState) (old new : List Entry) → StateAsked u me s state old new → IsUnchanged me id old new
-  asked-unchanged s (Some state) old new left = unchanged-call u me id (call.State (first_object s)) (outcome.Done (reply.State state)) old new left refl
-  asked-unchanged s None old new left = unchanged-call u me id (call.State (first_object s)) (outcome.Failed error.NotCached) old new left refl
+  asked-unchanged s (Some state) old new left = unchanged-call u me id (call.Query (query.State (first_object s))) (outcome.Done (reply.Value (value.State state))) old new left refl
+  asked-unchanged s None old new left = unchanged-call u me id (call.Query (query.State (first_object s))) (outcome.Failed error.NotCached) old new left refl
 
   states-unchanged : (n : ℕ) (found : List ℕ) (old new : List Entry) → StatesAsked u me handle n found old new → IsUnchanged me id old new
   states-unchanged zero found old new left = unchanged-idle me id old new left.1
@@ -67,15 +69,15 @@ module _ (u : Setup) (me id streams handle : ℕ) where
       by (inl stopped) = states-unchanged stopped.n stopped.found old new stopped.asked
       by (inr refused) =
           unchanged-then me id old refused.between new (states-unchanged refused.n refused.found old refused.between refused.asked)
-          (unchanged-call u me id (call.State (first_object refused.n)) (outcome.Failed left.0) refused.between new refused.refused refl)
+          (unchanged-call u me id (call.Query (query.State (first_object refused.n))) (outcome.Failed left.0) refused.between new refused.refused refl)
   rows-unchanged rows answered old new (inr left) =
       unchanged-then me id old left.0 new (states-unchanged streams left.1 old left.0 left.2)
       (synced-unchanged left.1 (record_of_rows rows) answered left.0 new left.3)
 
   left-unchanged : (answered : Result ℕ CcError) (old new : List Entry) → CheckpointLeft u me streams handle answered old new → IsUnchanged me id old new
-  left-unchanged answered old new (inl left) = unchanged-call u me id (call.DirtyPages handle) (outcome.Failed left.0) old new left.2 refl
+  left-unchanged answered old new (inl left) = unchanged-call u me id (call.Query (query.DirtyPages handle)) (outcome.Failed left.0) old new left.2 refl
   left-unchanged answered old new (inr left) =
-      unchanged-then me id old left.0 new (unchanged-call u me id (call.DirtyPages handle) (outcome.Done (reply.Rows left.1)) old left.0 left.2 refl)
+      unchanged-then me id old left.0 new (unchanged-call u me id (call.Query (query.DirtyPages handle)) (outcome.Done (reply.Rows left.1)) old left.0 left.2 refl)
       (rows-unchanged left.1 answered left.0 new left.3)
 
   pub checkpoint-unchanged : (told : Answer) (old new : List Entry) → CheckpointAnswered u me streams handle told old new → IsUnchanged me id old new

@@ -113,7 +113,7 @@ module _ (u : Setup) (me entries : ℕ) (old new : List Entry) where
   grew-served bindings (action.MdlDone word) left = grew-hold (hold_named bindings word _) (λ id. call.EndHold id) left
   grew-served bindings (action.MdlAbort word) left = grew-hold (hold_named bindings word is_write_chain) (λ id. call.EndHold id) left
   grew-served bindings (action.SetSizes file allocation size) left = grew-call (call.SetSizes file allocation size) left
-  grew-served bindings (action.State file) left = grew-call (call.State file) left
+  grew-served bindings (action.Query asked) left = grew-call (call.Query asked) left
   grew-served bindings (action.Flush file span) left = grew-call (call.Flush file span) left.left
   grew-served bindings (action.Purge file span) left = grew-call (call.Purge file span) left
   grew-served bindings (action.Discard file span) left = grew-call (call.Discard file span) left
@@ -128,16 +128,12 @@ module _ (u : Setup) (me entries : ℕ) (old new : List Entry) where
       let kept = checkpoint-unchanged u me 0 streams handle full old new left in record { during = kept.during; grew = kept.grew }
   grew-served bindings (action.Lock file span exclusive) left = record { during = left.during; grew = left.grew }
   grew-served bindings (action.Unlock file id) left = record { during = left.during; grew = left.grew }
-  grew-served bindings action.IsDirtyData left = grew-call call.IsDirtyData left
-  grew-served bindings (action.DirtyPages handle) left = grew-call (call.DirtyPages handle) left
-  grew-served bindings (action.LsnForFile file) left = grew-call (call.LsnForFile file) left
   grew-served bindings (action.SetLog file handle) left = grew-call (call.SetLog file handle) left
   grew-served bindings (action.Append handle bytes) left = grew-append handle bytes left
   grew-served bindings (action.LogFlush handle lsn) left = grew-log_flush handle lsn left
   grew-served bindings (action.SetGranularity file bytes) left = grew-call (call.SetGranularity file bytes) left
   grew-served bindings (action.SetAttributes file no_read_ahead no_write_behind) left = grew-call (call.SetAttributes file no_read_ahead no_write_behind) left
   grew-served bindings (action.SetThreshold file pages) left = grew-call (call.SetThreshold file pages) left
-  grew-served bindings (action.CanWrite file bytes) left = grew-call (call.CanWrite file bytes) left
   grew-served bindings (action.Defer file bytes retrying) left = record { during = left.during; grew = left.grew }
   grew-served bindings action.Post left = grew-posts left.0 old left.1
   grew-served bindings action.Tick left =
@@ -194,7 +190,7 @@ module _ (u : Setup) (me done : ℕ) (cause : CcError) (old new : List Entry) wh
       absurd (never-call bindings word (λ its_kind. is_read_chain its_kind || is_write_chain its_kind) (λ id. call.EndHold id) left)
   grew-cut_off bindings (action.MdlAbort word) left = absurd (never-call bindings word is_write_chain (λ id. call.EndHold id) left)
   grew-cut_off bindings (action.SetSizes file allocation size) left = absurd left
-  grew-cut_off bindings (action.State file) left = absurd left
+  grew-cut_off bindings (action.Query asked) left = absurd left
   grew-cut_off bindings (action.Flush file span) left = absurd left.left
   grew-cut_off bindings (action.Purge file span) left = absurd left
   grew-cut_off bindings (action.Discard file span) left = absurd left
@@ -206,16 +202,12 @@ module _ (u : Setup) (me done : ℕ) (cause : CcError) (old new : List Entry) wh
   grew-cut_off bindings (action.Levels file) left = absurd left
   grew-cut_off bindings (action.Settle file) left = absurd left
   grew-cut_off bindings (action.Checkpoint streams handle) left = absurd left
-  grew-cut_off bindings action.IsDirtyData left = absurd left
-  grew-cut_off bindings (action.DirtyPages handle) left = absurd left
-  grew-cut_off bindings (action.LsnForFile file) left = absurd left
   grew-cut_off bindings (action.SetLog file handle) left = absurd left
   grew-cut_off bindings (action.Append handle bytes) left = absurd left
   grew-cut_off bindings (action.LogFlush handle lsn) left = absurd left
   grew-cut_off bindings (action.SetGranularity file bytes) left = absurd left
   grew-cut_off bindings (action.SetAttributes file no_read_ahead no_write_behind) left = absurd left
   grew-cut_off bindings (action.SetThreshold file pages) left = absurd left
-  grew-cut_off bindings (action.CanWrite file bytes) left = absurd left
   grew-cut_off bindings (action.Defer file bytes retrying) left = absurd left
   grew-cut_off bindings action.Post left = absurd left
   grew-cut_off bindings action.Tick left = absurd left

@@ -37,17 +37,13 @@ plain_call (action.CopyRead file at len wait) = Some (call.CopyRead file at len 
 plain_call (action.CopyWrite file at bytes) = Some (call.CopyWrite file at bytes)
 plain_call (action.Zero file span) = Some (call.Zero file span)
 plain_call (action.SetSizes file allocation size) = Some (call.SetSizes file allocation size)
-plain_call (action.State file) = Some (call.State file)
+plain_call (action.Query asked) = Some (call.Query asked)
 plain_call (action.Purge file span) = Some (call.Purge file span)
 plain_call (action.Discard file span) = Some (call.Discard file span)
-plain_call action.IsDirtyData = Some call.IsDirtyData
-plain_call (action.DirtyPages handle) = Some (call.DirtyPages handle)
-plain_call (action.LsnForFile file) = Some (call.LsnForFile file)
 plain_call (action.SetLog file handle) = Some (call.SetLog file handle)
 plain_call (action.SetGranularity file bytes) = Some (call.SetGranularity file bytes)
 plain_call (action.SetAttributes file no_read_ahead no_write_behind) = Some (call.SetAttributes file no_read_ahead no_write_behind)
 plain_call (action.SetThreshold file pages) = Some (call.SetThreshold file pages)
-plain_call (action.CanWrite file bytes) = Some (call.CanWrite file bytes)
 plain_call other = None
 
 some-same : (a b : Call) → Some a ≡ Some b → a ≡ b
@@ -64,17 +60,13 @@ module _ (u : Setup) (me : ℕ) (it : Call) (told : Answer) (old new : List Entr
   plain-unchanged (action.CopyWrite file at bytes) is id = answered-unchanged u me id (call.CopyWrite file at bytes) told old new (is-call _ is) refl
   plain-unchanged (action.Zero file span) is id = answered-unchanged u me id (call.Zero file span) told old new (is-call _ is) refl
   plain-unchanged (action.SetSizes file allocation size) is id = answered-unchanged u me id (call.SetSizes file allocation size) told old new (is-call _ is) refl
-  plain-unchanged (action.State file) is id = answered-unchanged u me id (call.State file) told old new (is-call _ is) refl
+  plain-unchanged (action.Query asked) is id = answered-unchanged u me id (call.Query asked) told old new (is-call _ is) refl
   plain-unchanged (action.Purge file span) is id = answered-unchanged u me id (call.Purge file span) told old new (is-call _ is) refl
   plain-unchanged (action.Discard file span) is id = answered-unchanged u me id (call.Discard file span) told old new (is-call _ is) refl
-  plain-unchanged action.IsDirtyData is id = answered-unchanged u me id call.IsDirtyData told old new (is-call _ is) refl
-  plain-unchanged (action.DirtyPages handle) is id = answered-unchanged u me id (call.DirtyPages handle) told old new (is-call _ is) refl
-  plain-unchanged (action.LsnForFile file) is id = answered-unchanged u me id (call.LsnForFile file) told old new (is-call _ is) refl
   plain-unchanged (action.SetLog file handle) is id = answered-unchanged u me id (call.SetLog file handle) told old new (is-call _ is) refl
   plain-unchanged (action.SetGranularity file bytes) is id = answered-unchanged u me id (call.SetGranularity file bytes) told old new (is-call _ is) refl
   plain-unchanged (action.SetAttributes file no_read_ahead no_write_behind) is id = answered-unchanged u me id (call.SetAttributes file no_read_ahead no_write_behind) told old new (is-call _ is) refl
   plain-unchanged (action.SetThreshold file pages) is id = answered-unchanged u me id (call.SetThreshold file pages) told old new (is-call _ is) refl
-  plain-unchanged (action.CanWrite file bytes) is id = answered-unchanged u me id (call.CanWrite file bytes) told old new (is-call _ is) refl
   plain-unchanged other is id = absurd (cc is)
 
   pub plain-served : (bindings : List Binding) (asked : Action) → plain_call asked ≡ Some it → Served u me bindings asked told old new
@@ -84,17 +76,13 @@ module _ (u : Setup) (me : ℕ) (it : Call) (told : Answer) (old new : List Entr
   plain-served bindings (action.CopyWrite file at bytes) is = is-call _ is
   plain-served bindings (action.Zero file span) is = is-call _ is
   plain-served bindings (action.SetSizes file allocation size) is = is-call _ is
-  plain-served bindings (action.State file) is = is-call _ is
+  plain-served bindings (action.Query asked) is = is-call _ is
   plain-served bindings (action.Purge file span) is = is-call _ is
   plain-served bindings (action.Discard file span) is = is-call _ is
-  plain-served bindings action.IsDirtyData is = is-call _ is
-  plain-served bindings (action.DirtyPages handle) is = is-call _ is
-  plain-served bindings (action.LsnForFile file) is = is-call _ is
   plain-served bindings (action.SetLog file handle) is = is-call _ is
   plain-served bindings (action.SetGranularity file bytes) is = is-call _ is
   plain-served bindings (action.SetAttributes file no_read_ahead no_write_behind) is = is-call _ is
   plain-served bindings (action.SetThreshold file pages) is = is-call _ is
-  plain-served bindings (action.CanWrite file bytes) is = is-call _ is
   plain-served bindings other is = absurd (cc is)
 
 -- such a line leaves the words as they were
@@ -105,17 +93,13 @@ plain-stand new (action.CopyRead file at len wait) it told bounds bindings names
 plain-stand new (action.CopyWrite file at bytes) it told bounds bindings names is stand = stand
 plain-stand new (action.Zero file span) it told bounds bindings names is stand = stand
 plain-stand new (action.SetSizes file allocation size) it told bounds bindings names is stand = stand
-plain-stand new (action.State file) it told bounds bindings names is stand = stand
+plain-stand new (action.Query asked) it told bounds bindings names is stand = stand
 plain-stand new (action.Purge file span) it told bounds bindings names is stand = stand
 plain-stand new (action.Discard file span) it told bounds bindings names is stand = stand
-plain-stand new action.IsDirtyData it told bounds bindings names is stand = stand
-plain-stand new (action.DirtyPages handle) it told bounds bindings names is stand = stand
-plain-stand new (action.LsnForFile file) it told bounds bindings names is stand = stand
 plain-stand new (action.SetLog file handle) it told bounds bindings names is stand = stand
 plain-stand new (action.SetGranularity file bytes) it told bounds bindings names is stand = stand
 plain-stand new (action.SetAttributes file no_read_ahead no_write_behind) it told bounds bindings names is stand = stand
 plain-stand new (action.SetThreshold file pages) it told bounds bindings names is stand = stand
-plain-stand new (action.CanWrite file bytes) it told bounds bindings names is stand = stand
 plain-stand new other it told bounds bindings names is stand = absurd (cc is)
 
 module _ (old new : Standing) (told : Answer) (names : NamesState) (full : IsFullTold new told) (went : WentOn old new) (good : IsGood old.setup new.seen) where

@@ -9,8 +9,8 @@ use Rattle.cc_entry.specs.declared.call.Call.{Call}
 use Rattle.cc_entry.specs.declared.call.Call.TheVariants as call
 use Rattle.cc_entry.specs.declared.entry.Entry.{Entry}
 use Rattle.cc_entry.specs.declared.error.CcError.{CcError}
-use Rattle.cc_entry.specs.declared.place.DirtyRow.{DirtyRow}
-use Rattle.cc_entry.specs.declared.place.FileState.{FileState}
+use Rattle.cc_entry.specs.declared.query.Query.{Query}
+use Rattle.cc_entry.specs.declared.reply.Reply.{Reply}
 use Rattle.cc_script.specs.declared.script.Action.{Action}
 use Rattle.cc_script.specs.declared.script.Action.TheVariants as action
 use Rattle.cc_model.specs.Good.{IsGood}
@@ -19,16 +19,17 @@ use Rattle.cc_effects.specs.Calls.{CallLeft}
 use Rattle.cc_effects.specs.LogCalls.{LogFlushLeft}
 use Rattle.cc_pieces.specs.Answered.{CallAnswered, FlushAnswered}
 use Rattle.cc_step.specs.Step.{most_asked}
-use Rattle.cc_calls.specs.Answers.{CallEnds, CanCall, IsFree, flag_outcome, lsns_outcome, outcome_of, rows_outcome, state_outcome}
+use Rattle.cc_calls.specs.Answers.{CallEnds, CanCall, IsFree, flag_outcome, outcome_of}
 use Rattle.cc_calls.specs.Flushes.{FlushEnds}
 use Rattle.cc_calls.specs.Logs.{LogEnds}
 use Rattle.cc_calls.specs.Pages.{ChangeEnds}
 use Rattle.cc_calls.specs.Discards.{DiscardEnds}
+use Rattle.cc_calls.specs.Queries.{AskEnds, reply_outcome}
 use Rattle.cc_calls.specs.Purges.{PurgeEnds}
 use Rattle.cc_turns.specs.Standing.{Standing}
 use Rattle.cc_writes.specs.Ways.{IsFull}
 use Rattle.cc_lines.specs.Holds.{NamesState}
-use Rattle.cc_lines.specs.Line.{CanServe, IsFullTold, LineServed, flag_told, lsns_told, rows_told, state_told, told_answer}
+use Rattle.cc_lines.specs.Line.{CanServe, IsFullTold, LineServed, flag_told, reply_answer, told_answer}
 use Rattle.cc_calls.proofs.Paging.{full-within, most_room, writing-within}
 use Rattle.cc_lines.proofs.WordLines.{answered-unchanged, full-told, stand-on, went-on}
 use Rattle.cc_lines.proofs.UseLines.{told-answered, told-full}
@@ -87,37 +88,21 @@ module _ (w : Standing) (asked : Action) (names : NamesState) (can : CanServe w 
 
 -- ---- a line that makes a call on no hold
 
-state-answered : (u : Setup) (me : ℕ) (it : Call) (ended : Result FileState CcError) (old new : List Entry) → CallLeft u me it (state_outcome ended) old new → CallAnswered u me it (state_told ended) old new
-state-answered u me it (Ok state) old new left = left
-state-answered u me it (Err e) old new left = left
-
 flag-answered : (u : Setup) (me : ℕ) (it : Call) (ended : Result Bool CcError) (old new : List Entry) → CallLeft u me it (flag_outcome ended) old new → CallAnswered u me it (flag_told ended) old new
 flag-answered u me it (Ok flag) old new left = left
 flag-answered u me it (Err e) old new left = left
-
-rows-answered : (u : Setup) (me : ℕ) (it : Call) (ended : Result (List DirtyRow) CcError) (old new : List Entry) → CallLeft u me it (rows_outcome ended) old new → CallAnswered u me it (rows_told ended) old new
-rows-answered u me it (Ok rows) old new left = left
-rows-answered u me it (Err e) old new left = left
-
-lsns-answered : (u : Setup) (me : ℕ) (it : Call) (ended : Result (Option (ℕ × ℕ)) CcError) (old new : List Entry) → CallLeft u me it (lsns_outcome ended) old new → CallAnswered u me it (lsns_told ended) old new
-lsns-answered u me it (Ok lsns) old new left = left
-lsns-answered u me it (Err e) old new left = left
-
-state-full : (n : ℕ) (w : Standing) (ended : Result FileState CcError) → n ≤ 3 → IsFull n w ended → IsFullTold w (state_told ended)
-state-full n w (Ok state) less full = tt
-state-full n w (Err e) less full = full-told n w e less full
 
 flag-full : (n : ℕ) (w : Standing) (ended : Result Bool CcError) → n ≤ 3 → IsFull n w ended → IsFullTold w (flag_told ended)
 flag-full n w (Ok flag) less full = tt
 flag-full n w (Err e) less full = full-told n w e less full
 
-rows-full : (n : ℕ) (w : Standing) (ended : Result (List DirtyRow) CcError) → n ≤ 3 → IsFull n w ended → IsFullTold w (rows_told ended)
-rows-full n w (Ok rows) less full = tt
-rows-full n w (Err e) less full = full-told n w e less full
+reply-answered : (u : Setup) (me : ℕ) (it : Call) (ended : Result Reply CcError) (old new : List Entry) → CallLeft u me it (reply_outcome ended) old new → CallAnswered u me it (reply_answer ended) old new
+reply-answered u me it (Ok r) old new left = left
+reply-answered u me it (Err e) old new left = left
 
-lsns-full : (n : ℕ) (w : Standing) (ended : Result (Option (ℕ × ℕ)) CcError) → n ≤ 3 → IsFull n w ended → IsFullTold w (lsns_told ended)
-lsns-full n w (Ok lsns) less full = tt
-lsns-full n w (Err e) less full = full-told n w e less full
+reply-full : (n : ℕ) (w : Standing) (ended : Result Reply CcError) → n ≤ 3 → IsFull n w ended → IsFullTold w (reply_answer ended)
+reply-full n w (Ok r) less full = tt
+reply-full n w (Err e) less full = full-told n w e less full
 
 module _ (old new : Standing) (names : NamesState) (asked : Action) (told : Answer) (good : IsGood old.setup old.seen) where
   -- a change of bytes that is not through a hold
@@ -168,30 +153,19 @@ module _ (old new : Standing) (names : NamesState) (asked : Action) (told : Answ
       (plain-line old new (told_answer ended) names (told-full 1 new ended (omega arith) ends.full) ends.goes_on ends.good asked (call.Discard file span) is
       (told-answered old.setup old.number (call.Discard file span) ended old.seen new.seen ends.left))
 
-  -- the questions
-  pub state-line : (it : Call) (ended : Result FileState CcError) → plain_call asked ≡ Some it → most_asked it ≤ 3 → told ≡ state_told ended → CallEnds state_outcome old new it ended → LineServed old new asked told names names
-  state-line it ended is less tells ends =
-      told-as old new asked told (state_told ended) names names tells
-      (plain-line old new (state_told ended) names (state-full (most_asked it) new ended less ends.full) (went-on old new ends.goes_on) (ends.good good) asked it is
-      (state-answered old.setup old.number it ended old.seen new.seen ends.left))
+  -- a query
+  pub query-line : (it : Query) (ended : Result Reply CcError) → plain_call asked ≡ Some (call.Query it) → told ≡ reply_answer ended → AskEnds old new it ended → LineServed old new asked told names names
+  query-line it ended is tells ends =
+      told-as old new asked told (reply_answer ended) names names tells
+      (plain-line old new (reply_answer ended) names (reply-full (most_room (call.Query it)) new ended (omega arith) (full-within (call.Query it) old new ended ends.full)) ends.pages.goes_on (ends.pages.good good) asked (call.Query it) is
+      (reply-answered old.setup old.number (call.Query it) ended old.seen new.seen ends.pages.left))
 
+  -- a call that answers a flag
   pub flag-line : (it : Call) (ended : Result Bool CcError) → plain_call asked ≡ Some it → most_asked it ≤ 3 → told ≡ flag_told ended → CallEnds flag_outcome old new it ended → LineServed old new asked told names names
   flag-line it ended is less tells ends =
       told-as old new asked told (flag_told ended) names names tells
       (plain-line old new (flag_told ended) names (flag-full (most_asked it) new ended less ends.full) (went-on old new ends.goes_on) (ends.good good) asked it is
       (flag-answered old.setup old.number it ended old.seen new.seen ends.left))
-
-  pub rows-line : (it : Call) (ended : Result (List DirtyRow) CcError) → plain_call asked ≡ Some it → most_asked it ≤ 3 → told ≡ rows_told ended → CallEnds rows_outcome old new it ended → LineServed old new asked told names names
-  rows-line it ended is less tells ends =
-      told-as old new asked told (rows_told ended) names names tells
-      (plain-line old new (rows_told ended) names (rows-full (most_asked it) new ended less ends.full) (went-on old new ends.goes_on) (ends.good good) asked it is
-      (rows-answered old.setup old.number it ended old.seen new.seen ends.left))
-
-  pub lsns-line : (it : Call) (ended : Result (Option (ℕ × ℕ)) CcError) → plain_call asked ≡ Some it → most_asked it ≤ 3 → told ≡ lsns_told ended → CallEnds lsns_outcome old new it ended → LineServed old new asked told names names
-  lsns-line it ended is less tells ends =
-      told-as old new asked told (lsns_told ended) names names tells
-      (plain-line old new (lsns_told ended) names (lsns-full (most_asked it) new ended less ends.full) (went-on old new ends.goes_on) (ends.good good) asked it is
-      (lsns-answered old.setup old.number it ended old.seen new.seen ends.left))
 
   -- a flush of a log
   pub flushed-line : (handle lsn : ℕ) (ended : Result (Unit {0}) CcError) → told ≡ told_answer ended → LogEnds old new (LogFlushLeft old.setup old.number handle lsn) ended → LineServed old new (action.LogFlush handle lsn) told names names

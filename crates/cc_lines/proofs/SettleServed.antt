@@ -7,6 +7,7 @@ use Rattle.cc_entry.specs.declared.place.FileState.{FileState}
 use Rattle.cc_entry.specs.declared.answer.Answer.{Answer}
 use Rattle.cc_entry.specs.declared.answer.Answer.TheVariants as answer
 use Rattle.cc_entry.specs.declared.call.Call.TheVariants as call
+use Rattle.cc_entry.specs.declared.query.Query.TheVariants as query
 use Rattle.cc_entry.specs.declared.entry.End.{End}
 use Rattle.cc_entry.specs.declared.entry.End.TheVariants as how
 use Rattle.cc_entry.specs.declared.entry.Entry.{Entry}
@@ -16,6 +17,7 @@ use Rattle.cc_entry.specs.declared.error.CcError.TheVariants as error
 use Rattle.cc_entry.specs.declared.reply.Outcome.{Outcome}
 use Rattle.cc_entry.specs.declared.reply.Outcome.TheVariants as outcome
 use Rattle.cc_entry.specs.declared.reply.Reply.TheVariants as reply
+use Rattle.cc_entry.specs.declared.query.Value.TheVariants as value
 use Rattle.cc_script.specs.declared.script.Action.TheVariants as action
 use Rattle.cc_model.specs.Good.{IsGood}
 use Rattle.cc_model.specs.Setup.{Setup}
@@ -63,20 +65,20 @@ module _ (u : Setup) (me id : ℕ) (file : File) where
       by (inr synced) = synced-some-unchanged first how.Failed old new synced
   stopped-unchanged first other old new left = absurd left
 
-  state-unchanged : (ended : Outcome) (old new : List Entry) → CallLeft u me (call.State file) ended old new → IsUnchanged me id old new
-  state-unchanged ended old new left = unchanged-call u me id (call.State file) ended old new left refl
+  state-unchanged : (ended : Outcome) (old new : List Entry) → CallLeft u me (call.Query (query.State file)) ended old new → IsUnchanged me id old new
+  state-unchanged ended old new left = unchanged-call u me id (call.Query (query.State file)) ended old new left refl
 
   flush-unchanged : (ended : Outcome) (old new : List Entry) → CallLeft u me (call.Flush file None) ended old new → IsUnchanged me id old new
   flush-unchanged ended old new left = unchanged-call u me id (call.Flush file None) ended old new left refl
 
   flushed-unchanged : (told : FileState) (begun old new : List Entry) → StreamHasFlushed u me file told begun old new → IsUnchanged me id old new
   flushed-unchanged told begun old new is =
-      unchanged-then me id old is.stated new (state-unchanged (outcome.Done (reply.State told)) old is.stated is.state)
+      unchanged-then me id old is.stated new (state-unchanged (outcome.Done (reply.Value (value.State told))) old is.stated is.state)
       (unchanged-then me id is.stated begun new (unchanged-idle me id is.stated begun is.idle) (flush-unchanged (outcome.Done reply.Unit) begun new is.flush))
 
   unflushed-unchanged : (e : CcError) (old new : List Entry) → IsUnflushed u me file e old new → IsUnchanged me id old new
   unflushed-unchanged e old new is =
-      unchanged-then me id old is.stated new (state-unchanged (outcome.Done (reply.State is.told)) old is.stated is.state)
+      unchanged-then me id old is.stated new (state-unchanged (outcome.Done (reply.Value (value.State is.told))) old is.stated is.state)
       (unchanged-then me id is.stated is.begun new (unchanged-idle me id is.stated is.begun is.idle) (flush-unchanged (outcome.Failed e) is.begun new is.flush))
 
   pub settle-unchanged : (answered : Result FileState CcError) (old new : List Entry) → SettleLeft u me file answered old new → IsUnchanged me id old new
@@ -90,7 +92,7 @@ module _ (u : Setup) (me id : ℕ) (file : File) where
       (stopped-unchanged _ e is.flushed new is.stopped)
 
   pub settled-unchanged : (told : Answer) (old new : List Entry) → SettleAnswered u me file told old new → IsUnchanged me id old new
-  settled-unchanged (answer.Given (reply.State state)) old new left = settle-unchanged (Ok state) old new left
+  settled-unchanged (answer.Given (reply.Value (value.State state))) old new left = settle-unchanged (Ok state) old new left
   settled-unchanged (answer.Refused e) old new left = settle-unchanged (Err e) old new left
   settled-unchanged other old new left = absurd left
 

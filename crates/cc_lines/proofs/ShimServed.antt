@@ -8,6 +8,7 @@ use Rattle.cc_entry.specs.declared.answer.Answer.TheVariants as answer
 use Rattle.cc_entry.specs.declared.error.CcError.{CcError}
 use Rattle.cc_entry.specs.declared.error.CcError.TheVariants as error
 use Rattle.cc_entry.specs.declared.reply.Reply.TheVariants as reply
+use Rattle.cc_entry.specs.declared.query.Value.TheVariants as value
 use Rattle.cc_script.specs.declared.bound.Bound.{Bound}
 use Rattle.cc_script.specs.declared.script.Action.TheVariants as action
 use Rattle.cc_script.specs.declared.script.ReadPath.{ReadPath}
@@ -92,7 +93,7 @@ module _ (old new : Standing) (told : Answer) (names : NamesState) (full : IsFul
   lock-unchanged file range exclusive other left hold = absurd left
 
   unlock-unchanged : (file : File) (id : ℕ) (told : Answer) → UnlockAnswered old.number file id told old.seen new.seen → (hold : ℕ) → IsUnchanged old.number hold old.seen new.seen
-  unlock-unchanged file id (answer.Given (reply.Flag gone)) left hold = unchanged-only old.number hold _ old.seen new.seen left refl
+  unlock-unchanged file id (answer.Given (reply.Value (value.Flag gone))) left hold = unchanged-only old.number hold _ old.seen new.seen left refl
   unlock-unchanged file id (answer.Refused (error.JournalFull entries)) left hold = unchanged-idle old.number hold old.seen new.seen left
   unlock-unchanged file id (answer.Refused error.NoMemory) left hold = unchanged-idle old.number hold old.seen new.seen left
   unlock-unchanged file id (answer.Refused other) left hold = absurd left

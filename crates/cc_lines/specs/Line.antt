@@ -1,17 +1,18 @@
 -- What a line of a script asks, and what it leaves.
-use Rattle.std.specs.Prelude.{◌≡◌, ℕ, Bool, ◌<◌, ◌≤◌, ◌⊎◌, List, [], ◌∷◌, length, Result, Ok, Err}
+use Rattle.std.specs.Prelude.{◌≡◌, ℕ, Bool, ◌<◌, ◌≤◌, ◌⊎◌, List, [], ◌∷◌, length, Result, Ok, Err, IfSome}
 use Rattle.std.specs.declared.option.Option.{Option}
 use Rattle.std.specs.declared.option.Option.TheVariants.{Some}
+use Rattle.cc_entry.specs.Queries.{file_of_query}
 use Rattle.cc_entry.specs.Place.{File, Page}
 use Rattle.cc_entry.specs.declared.place.Request.{Request}
-use Rattle.cc_entry.specs.declared.place.DirtyRow.{DirtyRow}
-use Rattle.cc_entry.specs.declared.place.FileState.{FileState}
 use Rattle.cc_entry.specs.declared.answer.AheadDone.{AheadDone}
 use Rattle.cc_entry.specs.declared.answer.AsyncStart.{AsyncStart}
 use Rattle.cc_entry.specs.declared.answer.Answer.{Answer}
 use Rattle.cc_entry.specs.declared.answer.Answer.TheVariants as answer
 use Rattle.cc_entry.specs.declared.error.CcError.{CcError}
+use Rattle.cc_entry.specs.declared.reply.Reply.{Reply}
 use Rattle.cc_entry.specs.declared.reply.Reply.TheVariants as reply
+use Rattle.cc_entry.specs.declared.query.Value.TheVariants as value
 use Rattle.cc_entry.specs.declared.call.Call.{Call}
 use Rattle.cc_entry.specs.declared.hold.HoldKind.{HoldKind}
 use Rattle.cc_pieces.specs.Answered.{AheadAnswered, CallAnswered}
@@ -63,7 +64,6 @@ IsServable streams (action.MdlStore word at bytes) = Unit {0}
 IsServable streams (action.MdlDone word) = Unit {0}
 IsServable streams (action.MdlAbort word) = Unit {0}
 IsServable streams (action.SetSizes file allocation size) = file.stream < streams
-IsServable streams (action.State file) = file.stream < streams
 IsServable streams (action.Flush file span) = file.stream < streams
 IsServable streams (action.Purge file span) = file.stream < streams
 IsServable streams (action.Discard file span) = file.stream < streams
@@ -77,9 +77,7 @@ IsServable streams (action.Unlock file id) = file.stream < streams
 IsServable streams (action.Levels file) = file.stream < streams
 IsServable streams (action.Settle file) = file.stream < streams
 IsServable streams (action.Checkpoint count handle) = (count ≤ streams) × (count ≤ 16)
-IsServable streams action.IsDirtyData = Unit {0}
-IsServable streams (action.DirtyPages handle) = Unit {0}
-IsServable streams (action.LsnForFile file) = file.stream < streams
+IsServable streams (action.Query asked) = IfSome (file_of_query asked) (λ file. file.stream < streams)
 IsServable streams (action.SetLog file handle) = file.stream < streams
 IsServable streams (action.Append handle bytes) = Unit {0}
 IsServable streams (action.LogFlush handle lsn) = Unit {0}
@@ -100,7 +98,6 @@ IsServable streams (action.WriteBegin page) = ⊥
 IsServable streams (action.WriteEnd page) = ⊥
 IsServable streams (action.Sync stream) = ⊥
 IsServable streams action.Scan = ⊥
-IsServable streams (action.CanWrite file bytes) = file.stream < streams
 IsServable streams (action.Defer file bytes retrying) = file.stream < streams
 IsServable streams action.Post = Unit {0}
 
@@ -211,23 +208,14 @@ abbrev pub told_answer : Result (Unit {0}) CcError → Answer
 told_answer (Ok done) = answer.Given reply.Unit
 told_answer (Err e) = answer.Refused e
 
--- the answer of a line that asks for the state of a stream, and for a flag
-abbrev pub state_told : Result FileState CcError → Answer
-state_told (Ok state) = answer.Given (reply.State state)
-state_told (Err e) = answer.Refused e
+-- the answer of a line that makes a query, and of one that asks for a flag
+abbrev pub reply_answer : Result Reply CcError → Answer
+reply_answer (Ok r) = answer.Given r
+reply_answer (Err e) = answer.Refused e
 
 abbrev pub flag_told : Result Bool CcError → Answer
-flag_told (Ok flag) = answer.Given (reply.Flag flag)
+flag_told (Ok flag) = answer.Given (reply.Value (value.Flag flag))
 flag_told (Err e) = answer.Refused e
-
--- the answer of a line that asks for rows of the dirty page table, or for LSNs
-abbrev pub rows_told : Result (List DirtyRow) CcError → Answer
-rows_told (Ok rows) = answer.Given (reply.Rows rows)
-rows_told (Err e) = answer.Refused e
-
-abbrev pub lsns_told : Result (Option (ℕ × ℕ)) CcError → Answer
-lsns_told (Ok lsns) = answer.Given (reply.Lsns lsns)
-lsns_told (Err e) = answer.Refused e
 
 -- the answer of a line that asks for read-ahead, and of one that asks for a step of it
 abbrev pub ask_told : Result (Option Request) CcError → Answer

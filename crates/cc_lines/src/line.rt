@@ -7,7 +7,7 @@ ghost use Rattle.cc_pieces.specs.Queue.{is_queue_action};
 ghost use Rattle.cc_turns.specs.Standing.{Standing};
 ghost use Rattle.cc_calls.specs.Answers.{CanCall, IsFree};
 ghost use Rattle.cc_calls.specs.Pages.{StaysGood, WentOn};
-ghost use Rattle.cc_lines.specs.Line.{AnyServed, CanServe, IsFullTold, LineEnds, LineServed, flag_told, lsns_told, rows_told, state_told, told_answer};
+ghost use Rattle.cc_lines.specs.Line.{AnyServed, CanServe, IsFullTold, LineEnds, LineServed, flag_told, reply_answer, told_answer};
 ghost use Rattle.cc_lines.specs.Queues.{queues_of};
 ghost use Rattle.std.specs.Prelude.{◌≡◌, false};
 
@@ -26,11 +26,11 @@ use crate::shim_lines::{levels, lock, read_along, unlock, update_logged, write_e
 use crate::throttle_lines::{Fresh, defer_write, post_all};
 use crate::tick_line::serve_tick;
 use cc_calls::{
-    can_i_write, copy_read, copy_write, dirty_pages, discard, file_state, flush, initialize,
-    is_dirty_data, log_append, log_flush, lsn_for_file, purge, set_attributes, set_file_sizes,
-    set_granularity, set_log_handle, set_threshold, uninitialize, zero_data,
+    ask, copy_read, copy_write, discard, flush, initialize, log_append, log_flush, purge,
+    set_attributes, set_file_sizes, set_granularity, set_log_handle, set_threshold, uninitialize,
+    zero_data,
 };
-use cc_entry::{Answer, Bytes, BytesRoom, CcError, FileId, FileState, Lsn, Reply, Rows};
+use cc_entry::{Answer, Bytes, BytesRoom, CcError, FileId, Reply, Value};
 use cc_script::Action;
 use cc_traits::Gate;
 use cc_turns::Turns;
@@ -162,7 +162,7 @@ where
             allocation,
             size,
         } => answered(set_file_sizes(alloc, turns, *file, *allocation, *size)),
-        Action::State { file } => state(file_state(alloc, turns, *file)),
+        Action::Query(query) => replied(ask(alloc, turns, *query)),
         Action::Flush { file, span } => answered(flush(alloc, turns, *file, *span)),
         Action::Purge { file, span } => answered(purge(alloc, turns, *file, *span)),
         Action::Discard { file, span } => answered(discard(alloc, turns, *file, *span)),
@@ -187,9 +187,6 @@ where
         Action::Checkpoint { streams, handle } => {
             make_checkpoint(alloc, turns, *streams, *handle)
         }
-        Action::IsDirtyData => flag(is_dirty_data(turns)),
-        Action::DirtyPages { handle } => rows(dirty_pages(alloc, turns, *handle)),
-        Action::LsnForFile { file } => lsns(lsn_for_file(alloc, turns, *file)),
         Action::SetLog { file, handle } => answered(set_log_handle(alloc, turns, *file, *handle)),
         Action::Append { handle, bytes } => append(alloc, turns, *handle, bytes),
         Action::LogFlush { handle, lsn } => answered(log_flush(turns, *handle, *lsn)),
@@ -204,7 +201,6 @@ where
         Action::SetThreshold { file, pages } => {
             answered(set_threshold(alloc, turns, *file, *pages))
         }
-        Action::CanWrite { file, bytes } => flag(can_i_write(alloc, turns, *file, *bytes)),
         Action::Defer {
             file,
             bytes,
@@ -239,12 +235,12 @@ pub(crate) fn answered(ended: Result<(), CcError>) -> Answer
     }
 }
 
-// The answer of a line that asks for the state of a stream.
-fn state(ended: Result<FileState, CcError>) -> Answer
-    ensures { result ≡ state_told ended }
+// The answer of a line that makes a query.
+fn replied(ended: Result<Reply, CcError>) -> Answer
+    ensures { result ≡ reply_answer ended }
 {
     match ended {
-        Ok(state) => Answer::Given(Reply::State(state)),
+        Ok(reply) => Answer::Given(reply),
         Err(error) => Answer::Refused(error),
     }
 }
@@ -254,27 +250,7 @@ fn flag(ended: Result<bool, CcError>) -> Answer
     ensures { result ≡ flag_told ended }
 {
     match ended {
-        Ok(flag) => Answer::Given(Reply::Flag(flag)),
-        Err(error) => Answer::Refused(error),
-    }
-}
-
-// The answer of a line that asks for the dirty page table of a log.
-fn rows(ended: Result<Rows, CcError>) -> Answer
-    ensures { result ≡ rows_told ended }
-{
-    match ended {
-        Ok(rows) => Answer::Given(Reply::Rows(rows)),
-        Err(error) => Answer::Refused(error),
-    }
-}
-
-// The answer of a line that asks for the LSNs of a stream.
-fn lsns(ended: Result<Option<(Lsn, Lsn)>, CcError>) -> Answer
-    ensures { result ≡ lsns_told ended }
-{
-    match ended {
-        Ok(lsns) => Answer::Given(Reply::Lsns(lsns)),
+        Ok(flag) => Answer::Given(Reply::Value(Value::Flag(flag))),
         Err(error) => Answer::Refused(error),
     }
 }

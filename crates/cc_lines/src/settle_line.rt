@@ -5,7 +5,7 @@ ghost use Rattle.cc_calls.specs.Answers.{CanCall};
 ghost use Rattle.cc_calls.specs.Pages.{StaysGood, WentOn};
 ghost use Rattle.cc_lines.specs.Line.{IsFullTold};
 
-use cc_entry::{Answer, FileId, Reply};
+use cc_entry::{Answer, FileId, Reply, Value};
 use cc_stored::settle;
 use cc_turns::Turns;
 use std::alloc::Global;
@@ -21,7 +21,7 @@ pub(crate) fn settle_stream<T: Turns>(alloc: Global, turns: &mut T, file: FileId
     ensures good { StaysGood (T.standing turns.old) (T.standing turns.new) }
 {
     match settle(alloc, turns, file) {
-        Ok(state) => Answer::Given(Reply::State(state)),
+        Ok(state) => Answer::Given(Reply::Value(Value::State(state))),
         Err(error) => Answer::Refused(error),
     }
 }

@@ -9,7 +9,7 @@ ghost use Rattle.cc_calls.specs.Pages.{StaysGood, WentOn};
 ghost use Rattle.cc_lines.specs.Line.{IsFullTold, WasFullTold};
 
 use cc_calls::index_levels;
-use cc_entry::{Answer, Bytes, BytesRoom, CcError, FileId, Reply, Span};
+use cc_entry::{Answer, Bytes, BytesRoom, CcError, FileId, Reply, Span, Value};
 use cc_script::ReadPath;
 use cc_shim::{lock_range, locked_read, locked_update, locked_write, unlock_range};
 use cc_turns::Turns;
@@ -117,7 +117,7 @@ pub(crate) fn unlock<T: Turns>(turns: &mut T, file: FileId, id: u64) -> Answer
     ensures good { StaysGood (T.standing turns.old) (T.standing turns.new) }
 {
     match unlock_range(turns, file, id) {
-        Ok(gone) => Answer::Given(Reply::Flag(gone)),
+        Ok(gone) => Answer::Given(Reply::Value(Value::Flag(gone))),
         Err(error) => Answer::Refused(error),
     }
 }

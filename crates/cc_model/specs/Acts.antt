@@ -3,6 +3,7 @@ use Rattle.std.specs.Prelude.{ℕ, ◌+◌, Bool, true, false, List}
 use Rattle.std.specs.declared.option.Option.{Option}
 use Rattle.std.specs.declared.option.Option.TheVariants.{Some, None}
 use Rattle.cc_entry.specs.Place.{File, Range}
+use Rattle.cc_entry.specs.Queries.{file_of_query}
 use Rattle.cc_entry.specs.declared.place.FileSizes.{FileSizes}
 use Rattle.cc_entry.specs.declared.call.Call.{Call}
 use Rattle.cc_entry.specs.declared.call.Call.TheVariants as call
@@ -50,20 +51,16 @@ act_of (call.NcRead file page) = Looks
 act_of (call.NcStore file page bytes) = Stores page bytes
 act_of (call.NcWrite file page) = Looks
 act_of (call.SetSizes file allocation size) = Resizes allocation size
-act_of (call.State file) = Looks
+act_of (call.Query query) = Looks
 act_of (call.Flush file span) = Looks
 act_of (call.Purge file span) = Looks
 act_of (call.Discard file span) = Discards span
 act_of (call.SetLog file handle) = Looks
-act_of (call.DirtyPages handle) = Looks
-act_of (call.LsnForFile file) = Looks
-act_of call.IsDirtyData = Looks
 act_of (call.SetGranularity file bytes) = Looks
 act_of (call.SetAttributes file no_read_ahead no_write_behind) = Looks
 act_of (call.SetThreshold file pages) = Looks
 act_of (call.AskAhead file at len) = Looks
 act_of (call.AheadStep request) = Looks
-act_of (call.CanWrite file bytes) = Looks
 
 -- the file object that a call names
 abbrev pub file_of : Call → Option File
@@ -90,17 +87,13 @@ file_of (call.NcRead file page) = Some file
 file_of (call.NcStore file page bytes) = Some file
 file_of (call.NcWrite file page) = Some file
 file_of (call.SetSizes file allocation size) = Some file
-file_of (call.State file) = Some file
+file_of (call.Query query) = file_of_query query
 file_of (call.Flush file span) = Some file
 file_of (call.Purge file span) = Some file
 file_of (call.Discard file span) = Some file
 file_of (call.SetLog file handle) = Some file
-file_of (call.DirtyPages handle) = None
-file_of (call.LsnForFile file) = Some file
-file_of call.IsDirtyData = None
 file_of (call.SetGranularity file bytes) = Some file
 file_of (call.SetAttributes file no_read_ahead no_write_behind) = Some file
 file_of (call.SetThreshold file pages) = Some file
 file_of (call.AskAhead file at len) = Some file
 file_of (call.AheadStep request) = Some request.file
-file_of (call.CanWrite file bytes) = Some file

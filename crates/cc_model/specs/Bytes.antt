@@ -1,7 +1,11 @@
 -- The plain file: what a byte is, and what a read answers.
-use Rattle.std.specs.Prelude.{ℕ, ◌+◌, ◌-◌, ◌*◌, ◌/◌, ◌%◌, Bool, true, false, ◌&&◌, ◌||◌, ◌==◌, nat_lt, List, [], ◌∷◌, length, map, min, slice_index, if◌then◌else◌}
+use Rattle.std.specs.Prelude.{◌≡◌, ℕ, ◌<◌, ◌≤◌, ◌+◌, ◌-◌, ◌*◌, ◌/◌, ◌%◌, Bool, true, false, ◌&&◌, ◌||◌, ◌==◌, nat_lt, List, [], ◌∷◌, length, map, min, slice_index, if◌then◌else◌}
 use Rattle.std.specs.List.{range_with_len}
+use Rattle.std.specs.declared.option.Option.{Option}
+use Rattle.std.specs.declared.option.Option.TheVariants.{Some, None}
 use Rattle.cc_entry.specs.Pages.{has_byte}
+use Rattle.cc_entry.specs.declared.reply.Reply.{Reply}
+use Rattle.cc_entry.specs.declared.reply.Reply.TheVariants as reply
 use Rattle.cc_model.specs.History.{Effect, Did, CameIn, WentOut, Began, Ended, Synced}
 use Rattle.cc_model.specs.Acts.{act_of, Opens, Closes, Resizes, Writes, Zeroes, Stores, Stamps, Discards, Looks}
 use Rattle.cc_model.specs.Ranges.{span_has}
@@ -78,3 +82,16 @@ page_size = 4096
 -- the bytes of a page
 unfoldable pub page_bytes : (ℕ → List ℕ) → List Effect → ℕ → List ℕ
 page_bytes pages h p = map (byte_of pages h) (range_with_len (4096 * p) page_size)
+
+-- What is known of a read's answer over a disk that doesn't tell its opening pages: how many bytes it
+-- answers, and that each of them from the valid data length on is zero.
+pub record IsUntoldRead (h : List Effect) (at n : ℕ) (r : Reply) : Type 0 where
+  pub bytes : List ℕ
+  pub is : r ≡ reply.Read bytes
+  pub long : length bytes ≡ answer_length h at n
+  pub zeros : (k : ℕ) → k < length bytes → valid_of h ≤ at + k → slice_index bytes k ≡ 0
+
+-- A read answers the plain file's bytes; where the disk tells them not, what is known without it.
+abbrev pub Reads : Option (ℕ → List ℕ) → List Effect → ℕ → ℕ → Reply → Type 0
+Reads None h at n r = IsUntoldRead h at n r
+Reads (Some pages) h at n r = r ≡ reply.Read (answer pages h at n)

@@ -21,8 +21,8 @@ serves_range pass of_kind at n (Some hold) =
     (hold.pass == pass && of_kind hold.kind) && (nat_le hold.at at && nat_le (at + n) (hold.at + hold.len))
 
 -- A call that names a file is filed under the file's stream. One that names a hold is filed where that
--- hold is open, was made by this pass, is of the kind that the call needs and has the range. The two
--- calls that name neither are filed under no stream.
+-- hold is open, was made by this pass, is of the kind that the call needs and has the range. A query
+-- that names no file is filed under no stream.
 abbrev pub IsFiled : List Hold → ℕ → Option ℕ → Call → Option File → Type 0
 IsFiled holds pass stream (call.PinMapped hold exclusive) file = serves pass is_map (hold_at holds hold) ≡ true
 IsFiled holds pass stream (call.MappedRead hold at len) file = serves_range pass is_map at len (hold_at holds hold) ≡ true
@@ -36,7 +36,6 @@ IsFiled holds pass stream (call.MdlBytes hold at len) file =
     serves_range pass is_read_chain at len (hold_at holds hold) ≡ true
 IsFiled holds pass stream (call.MdlStore hold at bytes) file =
     serves_range pass is_write_chain at (length bytes) (hold_at holds hold) ≡ true
-IsFiled holds pass stream (call.DirtyPages handle) file = stream ≡ None
-IsFiled holds pass stream call.IsDirtyData file = stream ≡ None
+IsFiled holds pass stream (call.Query query) None = stream ≡ None
 IsFiled holds pass stream other None = ⊥
 IsFiled holds pass stream other (Some file) = stream ≡ Some file.stream

@@ -53,10 +53,8 @@ abbrev pub id_of : Reply → ℕ
 id_of (reply.Hold id) = id
 id_of reply.Unit = 0
 id_of (reply.Read bytes) = 0
-id_of (reply.Flag flag) = 0
+id_of (reply.Value value) = 0
 id_of (reply.Rows rows) = 0
-id_of (reply.Lsns lsns) = 0
-id_of (reply.State state) = 0
 id_of (reply.Ahead request) = 0
 id_of (reply.Whole whole) = 0
 

@@ -18,6 +18,7 @@ pub mod ReadAhead
 pub mod Cache
 pub mod Pick
 pub mod Throttle
+pub mod Queries
 pub mod Passes
 pub mod Faults
 pub mod Reasons

@@ -4,6 +4,7 @@ use Rattle.cc_entry.specs.Pages.{has_page, whole_range}
 use Rattle.std.specs.declared.option.Option.{Option}
 use Rattle.std.specs.declared.option.Option.TheVariants.{Some, None}
 use Rattle.cc_entry.specs.Place.{Range}
+use Rattle.cc_entry.specs.Queries.{extent_of_query}
 use Rattle.cc_entry.specs.declared.call.Call.{Call}
 use Rattle.cc_entry.specs.declared.call.Call.TheVariants as call
 use Rattle.cc_entry.specs.declared.reply.Reply.{Reply}
@@ -13,6 +14,16 @@ use Rattle.cc_model.specs.Sizes.{stored_range}
 -- n bytes from `at` on, as far as they lie below the size
 abbrev pub cut_range : ℕ → ℕ → ℕ → Range
 cut_range size at n = record { from = at; to = min (at + n) size }
+
+-- the range of a query, given from where and how many bytes it needs, if it needs any
+abbrev pub queried_range : ℕ → Option (ℕ × ℕ) → Option Range
+queried_range size None = None
+queried_range size (Some (at, n)) = Some (cut_range size at n)
+
+-- the first page of it, also where it is empty
+abbrev pub first_queried : Option (ℕ × ℕ) → ℕ
+first_queried None = 0
+first_queried (Some (at, n)) = at / 4096
 
 -- the range of a call on a stream of this size
 abbrev pub range_of : ℕ → Call → Option Range
@@ -40,19 +51,15 @@ range_of size (call.Repin hold) = None
 range_of size (call.MdlBytes hold at len) = None
 range_of size (call.MdlStore hold at bytes) = None
 range_of size (call.SetSizes file allocation to) = None
-range_of size (call.State file) = None
+range_of size (call.Query query) = queried_range size (extent_of_query query)
 range_of size (call.Flush file span) = None
 range_of size (call.Purge file span) = None
 range_of size (call.Discard file span) = None
 range_of size (call.SetLog file handle) = None
-range_of size (call.DirtyPages handle) = None
-range_of size (call.LsnForFile file) = None
-range_of size call.IsDirtyData = None
 range_of size (call.SetGranularity file bytes) = None
 range_of size (call.SetAttributes file no_read_ahead no_write_behind) = None
 range_of size (call.SetThreshold file pages) = None
 range_of size (call.AskAhead file at len) = None
-range_of size (call.CanWrite file bytes) = None
 
 -- whether a done call with this reply leaves the use of its blocks as it was: the two noncached calls
 -- that look at the disk, and a read-ahead that brought nothing in
@@ -105,16 +112,12 @@ first_page (call.Repin hold) = 0
 first_page (call.MdlBytes hold at len) = 0
 first_page (call.MdlStore hold at bytes) = 0
 first_page (call.SetSizes file allocation size) = 0
-first_page (call.State file) = 0
+first_page (call.Query query) = first_queried (extent_of_query query)
 first_page (call.SetLog file handle) = 0
-first_page (call.DirtyPages handle) = 0
-first_page (call.LsnForFile file) = 0
-first_page call.IsDirtyData = 0
 first_page (call.SetGranularity file bytes) = 0
 first_page (call.SetAttributes file no_read_ahead no_write_behind) = 0
 first_page (call.SetThreshold file pages) = 0
 first_page (call.AskAhead file at len) = 0
-first_page (call.CanWrite file bytes) = 0
 
 -- whether a page is of a span, where none is the whole stream
 abbrev pub span_has : Option Range → ℕ → Bool

@@ -7,6 +7,7 @@ use Rattle.cc_entry.specs.Place.{File}
 use Rattle.cc_entry.specs.declared.place.FileSizes.{FileSizes}
 use Rattle.cc_entry.specs.declared.call.Call.{Call}
 use Rattle.cc_entry.specs.declared.call.Call.TheVariants as call
+use Rattle.cc_entry.specs.Queries.{log_of_query}
 use Rattle.cc_entry.specs.declared.error.CcError.{CcError}
 use Rattle.cc_entry.specs.declared.error.CcError.TheVariants as error
 use Rattle.cc_model.specs.Setup.{Setup}
@@ -76,9 +77,14 @@ abbrev pub bad_granularity : Call → Option CcError
 bad_granularity (call.SetGranularity file bytes) = refuse_if (not (is_granularity bytes)) error.BadGranularity
 bad_granularity other = None
 
+-- a log, where one is named, is one of the setup's
+abbrev pub missing_log : Setup → Option ℕ → Option CcError
+missing_log u None = None
+missing_log u (Some handle) = refuse_if (nat_le u.logs handle) (error.NoLog handle)
+
 abbrev pub no_log : Setup → Call → Option CcError
-no_log u (call.SetLog file handle) = refuse_if (nat_le u.logs handle) (error.NoLog handle)
-no_log u (call.DirtyPages handle) = refuse_if (nat_le u.logs handle) (error.NoLog handle)
+no_log u (call.SetLog file handle) = missing_log u (Some handle)
+no_log u (call.Query query) = missing_log u (log_of_query query)
 no_log u other = None
 
 abbrev pub past_size : ℕ → ℕ → Option CcError

@@ -1,45 +1,26 @@
 -- What a call that is done answers.
-use Rattle.std.specs.Prelude.{◌≡◌, ℕ, suc, ◌+◌, ◌*◌, ◌<◌, ◌≤◌, Bool, not, ◌&&◌, nat_le, List, ◌∷◌, length, slice_index}
+use Rattle.std.specs.Prelude.{◌≡◌, ℕ, suc, ◌*◌, Bool, not, ◌&&◌, nat_le, List, ◌∷◌}
 use Rattle.std.specs.declared.option.Option.{Option}
-use Rattle.std.specs.declared.option.Option.TheVariants.{Some, None}
 use Rattle.cc_entry.specs.declared.call.Call.{Call}
 use Rattle.cc_entry.specs.declared.call.Call.TheVariants as call
-use Rattle.cc_entry.specs.declared.place.FileState.{FileState}
 use Rattle.cc_entry.specs.declared.place.Request.{Request}
 use Rattle.cc_entry.specs.declared.reply.Reply.{Reply}
 use Rattle.cc_entry.specs.declared.reply.Reply.TheVariants as reply
+use Rattle.cc_entry.specs.declared.query.Value.TheVariants as value
 use Rattle.cc_entry.specs.declared.entry.Entry.{Entry}
 use Rattle.cc_model.specs.Setup.{Setup}
 use Rattle.cc_model.specs.History.{Effect, Did}
 use Rattle.cc_model.specs.Holds.{holds_of}
-use Rattle.cc_model.specs.Touches.{size_of, valid_of, is_mapped, dirty_pages}
-use Rattle.cc_model.specs.Bytes.{answer, answer_length}
-use Rattle.cc_model.specs.Settings.{allocation_of, log_of, quota_of}
+use Rattle.cc_model.specs.Touches.{size_of, is_mapped}
+use Rattle.cc_model.specs.Settings.{quota_of}
 use Rattle.cc_model.specs.Ranges.{cut_range}
-use Rattle.cc_model.specs.Stamps.{lsns_over, dirty_table}
 use Rattle.cc_model.specs.ReadAhead.{ahead_of}
-use Rattle.cc_model.specs.Cache.{holds_made, is_any_dirty}
-use Rattle.cc_model.specs.Throttle.{may_go, pages_for}
+use Rattle.cc_model.specs.Cache.{holds_made}
+use Rattle.cc_model.specs.Queries.{IsQueryReply}
 use Rattle.cc_model.specs.Reasons.{is_open}
 use Rattle.cc_model.specs.Views.{needed_blocks}
-
--- What is known of a read's answer over a disk that doesn't tell its opening pages: how many bytes it
--- answers, and that each of them from the valid data length on is zero.
-pub record IsUntoldRead (h : List Effect) (at n : ℕ) (r : Reply) : Type 0 where
-  pub bytes : List ℕ
-  pub is : r ≡ reply.Read bytes
-  pub long : length bytes ≡ answer_length h at n
-  pub zeros : (k : ℕ) → k < length bytes → valid_of h ≤ at + k → slice_index bytes k ≡ 0
-
--- A read answers the plain file's bytes; where the disk tells them not, what is known without it.
-abbrev pub Reads : Option (ℕ → List ℕ) → List Effect → ℕ → ℕ → Reply → Type 0
-Reads None h at n r = IsUntoldRead h at n r
-Reads (Some pages) h at n r = r ≡ reply.Read (answer pages h at n)
-
--- the sizes and the log of a stream
-abbrev pub state_of : List Effect → FileState
-state_of h =
-    record { sizes = record { allocation = allocation_of h; size = size_of h; valid = valid_of h }; log = log_of h }
+-- what is known of a read's answer
+pub use Rattle.cc_model.specs.Bytes.{IsUntoldRead, Reads}
 
 -- whether a read-ahead brings in every page of its request below the size: its object is open, and its
 -- blocks fit the quota beside those of open holds
@@ -62,15 +43,10 @@ IsReply u past told h pass (call.MdlRead file at len) r = r ≡ reply.Hold (suc 
 IsReply u past told h pass (call.MdlWrite file at len) r = r ≡ reply.Hold (suc (holds_made past))
 IsReply u past told h pass (call.PinMapped hold exclusive) r = r ≡ reply.Hold hold
 IsReply u past told h pass (call.Uninitialise file truncate) r =
-    r ≡ reply.Flag (not (is_mapped (Did pass (call.Uninitialise file truncate) r ∷ h)))
-IsReply u past told h pass (call.DirtyPages handle) r = r ≡ reply.Rows (dirty_table past handle)
-IsReply u past told h pass (call.LsnForFile file) r =
-    r ≡ reply.Lsns (lsns_over h (dirty_pages h))
-IsReply u past told h pass call.IsDirtyData r = r ≡ reply.Flag (is_any_dirty past)
-IsReply u past told h pass (call.State file) r = r ≡ reply.State (state_of h)
+    r ≡ reply.Value (value.Flag (not (is_mapped (Did pass (call.Uninitialise file truncate) r ∷ h))))
+IsReply u past told h pass (call.Query query) r = IsQueryReply u past told h query r
 IsReply u past told h pass (call.AskAhead file at len) r = r ≡ reply.Ahead (ahead_of h file at len)
 IsReply u past told h pass (call.AheadStep request) r = r ≡ reply.Whole (is_whole h request)
-IsReply u past told h pass (call.CanWrite file bytes) r = r ≡ reply.Flag (may_go u past file.stream (pages_for bytes))
 IsReply u past told h pass (call.Initialise file sizes quota temporary) r = r ≡ reply.Unit
 IsReply u past told h pass (call.CopyWrite file at bytes) r = r ≡ reply.Unit
 IsReply u past told h pass (call.Zero file span) r = r ≡ reply.Unit

@@ -211,8 +211,7 @@ filed-stream holds pass stream (call.EndHold named) file is filed = absurd (cc)
 filed-stream holds pass stream (call.Repin named) file is filed = absurd (cc)
 filed-stream holds pass stream (call.MdlBytes named at len) file is filed = absurd (cc)
 filed-stream holds pass stream (call.MdlStore named at bytes) file is filed = absurd (cc)
-filed-stream holds pass stream (call.DirtyPages handle) file is filed = absurd (cc)
-filed-stream holds pass stream call.IsDirtyData file is filed = absurd (cc)
+filed-stream holds pass stream (call.Query asked) file is filed = subst (λ (named : Option File). IsFiled holds pass stream (call.Query asked) named) is filed
 filed-stream holds pass stream other file is filed = filed ∙ ap Some (ap (λ (f : File). f.stream) (some-is _ file is))
 
 -- the hold that a done call makes that names a file, whatever is open

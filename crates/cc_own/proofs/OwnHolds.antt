@@ -151,6 +151,4 @@ filed-grows u me s (call.EndHold named) later past good others filed = grown u m
 filed-grows u me s (call.Repin named) later past good others filed = grown u me s named _ later past good others filed
 filed-grows u me s (call.MdlBytes named at len) later past good others filed = grown-range u me s named _ at len later past good others filed
 filed-grows u me s (call.MdlStore named at bytes) later past good others filed = grown-range u me s named _ at (length bytes) later past good others filed
-filed-grows u me s (call.DirtyPages handle) later past good others filed = absurd (cc filed)
-filed-grows u me s call.IsDirtyData later past good others filed = absurd (cc filed)
 filed-grows u me s other later past good others filed = filed

@@ -7,12 +7,14 @@ use Rattle.std.proofs.Common.{arith, inl, inr, subst, sym}
 use Rattle.cc_entry.specs.declared.place.DirtyRow.{DirtyRow}
 use Rattle.cc_entry.specs.declared.place.FileState.{FileState}
 use Rattle.cc_entry.specs.declared.call.Call.TheVariants as call
+use Rattle.cc_entry.specs.declared.query.Query.TheVariants as query
 use Rattle.cc_entry.specs.declared.answer.Answer.{Answer}
 use Rattle.cc_entry.specs.declared.answer.Answer.TheVariants as answer
 use Rattle.cc_entry.specs.declared.entry.Entry.{Entry}
 use Rattle.cc_entry.specs.declared.error.CcError.{CcError}
 use Rattle.cc_entry.specs.declared.error.CcError.TheVariants as error
 use Rattle.cc_entry.specs.declared.reply.Reply.TheVariants as reply
+use Rattle.cc_entry.specs.declared.query.Value.TheVariants as value
 use Rattle.cc_entry.specs.declared.reply.Outcome.TheVariants as outcome
 use Rattle.cc_model.specs.Setup.{Setup}
 use Rattle.cc_effects.specs.Moments.{IsIdle}
@@ -45,9 +47,9 @@ module _ (u : Setup) (me streams handle : ℕ) where
   module _ (older old : List Entry) (idle : IsIdle me older old) where
     left-checkpoint-before : (answered : Result ℕ CcError) (new : List Entry) → CheckpointLeft u me streams handle answered old new → CheckpointLeft u me streams handle answered older new
     left-checkpoint-before answered new (inl left) =
-        inl (left.0, left.1, left-before u me (call.DirtyPages handle) (outcome.Failed left.0) older old new idle left.2)
+        inl (left.0, left.1, left-before u me (call.Query (query.DirtyPages handle)) (outcome.Failed left.0) older old new idle left.2)
     left-checkpoint-before answered new (inr left) =
-        inr (left.0, left.1, left-before u me (call.DirtyPages handle) (outcome.Done (reply.Rows left.1)) older old left.0 idle left.2, left.3)
+        inr (left.0, left.1, left-before u me (call.Query (query.DirtyPages handle)) (outcome.Done (reply.Rows left.1)) older old left.0 idle left.2, left.3)
 
     pub checkpoint-before : (told : Answer) (new : List Entry) → CheckpointAnswered u me streams handle told old new → CheckpointAnswered u me streams handle told older new
     checkpoint-before (answer.NewLsn lsn) new left = left-checkpoint-before (Ok lsn) new left
@@ -57,8 +59,8 @@ module _ (u : Setup) (me streams handle : ℕ) where
   -- what others placed after
   module _ (new newer : List Entry) (idle : IsIdle me new newer) where
     asked-after : (s : ℕ) (state : Option FileState) (old : List Entry) → StateAsked u me s state old new → StateAsked u me s state old newer
-    asked-after s (Some state) old left = left-after u me (call.State (first_object s)) (outcome.Done (reply.State state)) old new newer left idle
-    asked-after s None old left = left-after u me (call.State (first_object s)) (outcome.Failed error.NotCached) old new newer left idle
+    asked-after s (Some state) old left = left-after u me (call.Query (query.State (first_object s))) (outcome.Done (reply.Value (value.State state))) old new newer left idle
+    asked-after s None old left = left-after u me (call.Query (query.State (first_object s))) (outcome.Failed error.NotCached) old new newer left idle
 
     states-after : (n : ℕ) (found : List ℕ) (old : List Entry) → StatesAsked u me handle n found old new → StatesAsked u me handle n found old newer
     states-after zero found old left = (left.0, idle-then me old new newer left.1 idle)
@@ -86,7 +88,7 @@ module _ (u : Setup) (me streams handle : ℕ) where
           below = is.below;
           asked = is.asked;
           other = is.other;
-          refused = left-after u me (call.State (first_object is.n)) (outcome.Failed e) is.between new newer is.refused idle;
+          refused = left-after u me (call.Query (query.State (first_object is.n))) (outcome.Failed e) is.between new newer is.refused idle;
         })
 
     rows-logged-after : (rows : List DirtyRow) (answered : Result ℕ CcError) (old : List Entry) → RowsLogged u me streams handle rows answered old new → RowsLogged u me streams handle rows answered old newer
@@ -95,7 +97,7 @@ module _ (u : Setup) (me streams handle : ℕ) where
 
     left-checkpoint-after : (answered : Result ℕ CcError) (old : List Entry) → CheckpointLeft u me streams handle answered old new → CheckpointLeft u me streams handle answered old newer
     left-checkpoint-after answered old (inl left) =
-        inl (left.0, left.1, left-after u me (call.DirtyPages handle) (outcome.Failed left.0) old new newer left.2 idle)
+        inl (left.0, left.1, left-after u me (call.Query (query.DirtyPages handle)) (outcome.Failed left.0) old new newer left.2 idle)
     left-checkpoint-after answered old (inr left) = inr (left.0, left.1, left.2, rows-logged-after left.1 answered left.0 left.3)
 
     pub checkpoint-after : (told : Answer) (old : List Entry) → CheckpointAnswered u me streams handle told old new → CheckpointAnswered u me streams handle told old newer

@@ -1,20 +1,25 @@
 -- A read, a write or an update that is told of a lock in its way has the test that tells it: the calls behind a test are told of
 -- none.
-use Rattle.std.specs.Prelude.{◌≡◌, ℕ, zero, suc, ◌/◌, ◌%◌, ◌==◌, ◌&&◌, Bool, true, false, nat_lt, List, length, Result, Err, refl, if◌then◌else◌, ◌⊎◌}
+use Rattle.std.specs.Prelude.{◌≡◌, ℕ, zero, suc, ◌/◌, ◌%◌, ◌==◌, ◌&&◌, Bool, true, false, is_some, nat_lt, List, length, Result, Err, refl, if◌then◌else◌, ◌⊎◌}
 use Rattle.std.specs.declared.option.Option.{Option}
 use Rattle.std.specs.declared.option.Option.TheVariants.{Some, None}
 use Rattle.std.proofs.Common.{sym, subst, inl, inr}
 use Rattle.std.proofs.lemmas.Option.{same_Some}
+use Rattle.cc_entry.specs.Errors.{number_of}
 use Rattle.cc_entry.specs.Place.{File, Range}
+use Rattle.cc_entry.specs.Queries.{extent_of_query, file_of_query, log_of_query}
 use Rattle.cc_entry.specs.declared.answer.Answer.TheVariants as answer
 use Rattle.cc_entry.specs.declared.call.Call.{Call}
 use Rattle.cc_entry.specs.declared.call.Call.TheVariants as call
+use Rattle.cc_entry.specs.declared.query.Query.TheVariants as query
 use Rattle.cc_entry.specs.declared.entry.Entry.{Entry}
 use Rattle.cc_entry.specs.declared.error.CcError.{CcError}
 use Rattle.cc_entry.specs.declared.error.CcError.TheVariants as error
 use Rattle.cc_entry.specs.declared.place.FileState.{FileState}
 use Rattle.cc_entry.specs.declared.reply.Outcome.TheVariants as outcome
 use Rattle.cc_script.specs.declared.script.ReadPath.{ReadPath}
+use Rattle.cc_model.specs.Numbers.{is_among}
+use Rattle.cc_model.specs.Queries.{refusals_where}
 use Rattle.cc_model.specs.Setup.{Setup}
 use Rattle.cc_effects.specs.Calls.{CallLeft, IsOvertaken, IsRefused}
 use Rattle.cc_effects.specs.LogCalls.{AppendLeft}
@@ -33,6 +38,17 @@ IsOther other = Unit {0}
 calm-other : (e : CcError) → is_calm e ≡ true → IsOther e
 calm-other (error.LockConflict id) calm = absurd (cc calm)
 calm-other other calm = tt
+
+-- no query is refused for a lock
+never-listed_where : (on_file on_log paged : Bool) (id : ℕ) → is_among (number_of (error.LockConflict id)) (refusals_where on_file on_log paged) ≡ true → ⊥
+never-listed_where true true true id listed = absurd (cc listed)
+never-listed_where true true false id listed = absurd (cc listed)
+never-listed_where true false true id listed = absurd (cc listed)
+never-listed_where true false false id listed = absurd (cc listed)
+never-listed_where false true true id listed = absurd (cc listed)
+never-listed_where false true false id listed = absurd (cc listed)
+never-listed_where false false true id listed = absurd (cc listed)
+never-listed_where false false false id listed = absurd (cc listed)
 
 -- no call is refused for a lock
 never-listed : (it : Call) (id : ℕ) → may_refuse it (error.LockConflict id) ≡ true → ⊥
@@ -61,20 +77,17 @@ never-listed (call.NcRead file page) id listed = absurd (cc listed)
 never-listed (call.NcStore file page bytes) id listed = absurd (cc listed)
 never-listed (call.NcWrite file page) id listed = absurd (cc listed)
 never-listed (call.SetSizes file allocation size) id listed = absurd (cc listed)
-never-listed (call.State file) id listed = absurd (cc listed)
+never-listed (call.Query asked) id listed =
+    never-listed_where (is_some (file_of_query asked)) (is_some (log_of_query asked)) (is_some (extent_of_query asked)) id listed
 never-listed (call.Flush file span) id listed = absurd (cc listed)
 never-listed (call.Purge file span) id listed = absurd (cc listed)
 never-listed (call.Discard file span) id listed = absurd (cc listed)
 never-listed (call.SetLog file handle) id listed = absurd (cc listed)
-never-listed (call.DirtyPages handle) id listed = absurd (cc listed)
-never-listed (call.LsnForFile file) id listed = absurd (cc listed)
-never-listed call.IsDirtyData id listed = absurd (cc listed)
 never-listed (call.SetGranularity file bytes) id listed = absurd (cc listed)
 never-listed (call.SetAttributes file no_read_ahead no_write_behind) id listed = absurd (cc listed)
 never-listed (call.SetThreshold file pages) id listed = absurd (cc listed)
 never-listed (call.AskAhead file at len) id listed = absurd (cc listed)
 never-listed (call.AheadStep request) id listed = absurd (cc listed)
-never-listed (call.CanWrite file bytes) id listed = absurd (cc listed)
 
 call-other : (u : Setup) (me : ℕ) (it : Call) (e : CcError) (old new : List Entry) → CallLeft u me it (outcome.Failed e) old new → IsOther e
 call-other u me it (error.LockConflict id) old new left = by left
@@ -152,7 +165,7 @@ module _ {A : Type 0} (u : Setup) (me : ℕ) (file : File) (range : Range) (writ
   found-tells None old new calm left = admitted-tells old new left
 
   locked-tells : (by : FileState → Option CcError) (old new : List Entry) → ((state : FileState) → IsCalm (by state)) → LockedLeft u me file range write by Left (Err (error.LockConflict id)) old new → (between : List Entry) × Test between new
-  locked-tells by old new calm (inl left) = absurd (apart left.0 (call-other u me (call.State file) left.0 old new left.2) left.1)
+  locked-tells by old new calm (inl left) = absurd (apart left.0 (call-other u me (call.Query (query.State file)) left.0 old new left.2) left.1)
   locked-tells by old new calm (inr left) = (left.0, found-tells (by left.1) left.0 new (calm left.1) left.3)
 
 module _ (u : Setup) (me : ℕ) (file : File) (id : ℕ) (old new : List Entry) where

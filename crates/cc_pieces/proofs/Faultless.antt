@@ -12,6 +12,7 @@ use Rattle.cc_entry.specs.declared.answer.Answer.TheVariants as answer
 use Rattle.cc_entry.specs.declared.answer.LineReply.{LineReply}
 use Rattle.cc_entry.specs.declared.call.Call.{Call}
 use Rattle.cc_entry.specs.declared.call.Call.TheVariants as call
+use Rattle.cc_entry.specs.declared.query.Query.TheVariants as query
 use Rattle.cc_entry.specs.declared.entry.End.{End}
 use Rattle.cc_entry.specs.declared.entry.End.TheVariants as how
 use Rattle.cc_entry.specs.declared.entry.Entry.{Entry}
@@ -23,6 +24,7 @@ use Rattle.cc_entry.specs.declared.error.CcError.TheVariants as error
 use Rattle.cc_entry.specs.declared.hold.HoldKind.{HoldKind}
 use Rattle.cc_entry.specs.declared.reply.Outcome.TheVariants as outcome
 use Rattle.cc_entry.specs.declared.reply.Reply.TheVariants as reply
+use Rattle.cc_entry.specs.declared.query.Value.TheVariants as value
 use Rattle.cc_script.specs.declared.script.Action.{Action}
 use Rattle.cc_script.specs.declared.script.Action.TheVariants as action
 use Rattle.cc_format.specs.declared.record.StreamRecord.{StreamRecord}
@@ -345,7 +347,7 @@ lock-none me file range exclusive (answer.Refused other) old new left = absurd l
 lock-none me file range exclusive other old new left = absurd left
 
 unlock-none : (me : ℕ) (file : File) (id : ℕ) (told : Answer) (old new : List Entry) → UnlockAnswered me file id told old new → tells_fault told ≡ false
-unlock-none me file id (answer.Given (reply.Flag gone)) old new left = refl
+unlock-none me file id (answer.Given (reply.Value (value.Flag gone))) old new left = refl
 unlock-none me file id (answer.Refused (error.JournalFull entries)) old new left = refl
 unlock-none me file id (answer.Refused error.NoMemory) old new left = refl
 unlock-none me file id (answer.Refused other) old new left = absurd left
@@ -384,12 +386,12 @@ load-none me s error.NoMemory old new left none = refl
 load-none me s other old new left none = absurd left
 
 pub settle-none : (u : Setup) (me : ℕ) (file : File) (e : CcError) (old new : List Entry) → SettleLeft u me file (Err e) old new → ShowsNone new → is_fault e ≡ false
-settle-none u me file e old new (inl left) none = failed-tells-none u me (call.State file) e old new left none
+settle-none u me file e old new (inl left) none = failed-tells-none u me (call.Query (query.State file)) e old new left none
 settle-none u me file e old new (inr (inl is)) none = failed-tells-none u me (call.Flush file None) e is.begun new is.flush none
 settle-none u me file e old new (inr (inr is)) none = stopped-none me file.stream _ e is.flushed new is.stopped none
 
 settled-none : (u : Setup) (me : ℕ) (file : File) (told : Answer) (old new : List Entry) → SettleAnswered u me file told old new → ShowsNone new → tells_fault told ≡ false
-settled-none u me file (answer.Given (reply.State state)) old new left none = refl
+settled-none u me file (answer.Given (reply.Value (value.State state))) old new left none = refl
 settled-none u me file (answer.Refused e) old new left none = settle-none u me file e old new left none
 settled-none u me file other old new left none = absurd left
 
@@ -416,12 +418,12 @@ module _ (u : Setup) (me streams handle : ℕ) where
     where
       by : AskingStopped u me handle streams left.0 old new ⊎ StateRefused u me handle streams left.0 old new → is_fault left.0 ≡ false
       by (inl stopped) = ap is_fault stopped.wanting
-      by (inr refused) = failed-tells-none u me (call.State (first_object refused.n)) left.0 refused.between new refused.refused none
+      by (inr refused) = failed-tells-none u me (call.Query (query.State (first_object refused.n))) left.0 refused.between new refused.refused none
   rows-logged-none rows e old new (inr left) none = synced-logged-none left.1 (record_of_rows rows) e left.0 new left.3 none
 
   checkpoint-none : (told : Answer) (old new : List Entry) → CheckpointAnswered u me streams handle told old new → ShowsNone new → tells_fault told ≡ false
   checkpoint-none (answer.NewLsn lsn) old new left none = refl
-  checkpoint-none (answer.Refused e) old new (inl left) none = same-none e left.0 left.1 (failed-tells-none u me (call.DirtyPages handle) left.0 old new left.2 none)
+  checkpoint-none (answer.Refused e) old new (inl left) none = same-none e left.0 left.1 (failed-tells-none u me (call.Query (query.DirtyPages handle)) left.0 old new left.2 none)
   checkpoint-none (answer.Refused e) old new (inr left) none = rows-logged-none left.1 e left.0 new left.3 none
   checkpoint-none other old new left none = absurd left
 
@@ -478,7 +480,7 @@ served-none u me bindings (action.MdlDone word) told old new left none =
     hold-line-none u me bindings word (λ its_kind. is_read_chain its_kind || is_write_chain its_kind) (λ id. call.EndHold id) told old new left none
 served-none u me bindings (action.MdlAbort word) told old new left none = hold-line-none u me bindings word is_write_chain (λ id. call.EndHold id) told old new left none
 served-none u me bindings (action.SetSizes file allocation size) told old new left none = answered-none u me (call.SetSizes file allocation size) told old new left none
-served-none u me bindings (action.State file) told old new left none = answered-none u me (call.State file) told old new left none
+served-none u me bindings (action.Query asked) told old new left none = answered-none u me (call.Query asked) told old new left none
 served-none u me bindings (action.Flush file span) told old new left none = answered-none u me (call.Flush file span) told old new left.left none
 served-none u me bindings (action.Purge file span) told old new left none = answered-none u me (call.Purge file span) told old new left none
 served-none u me bindings (action.Discard file span) told old new left none = answered-none u me (call.Discard file span) told old new left none
@@ -492,9 +494,6 @@ served-none u me bindings (action.Unlock file id) told old new left none = unloc
 served-none u me bindings (action.Levels file) told old new left none = levels-none me file told old new left
 served-none u me bindings (action.Settle file) told old new left none = settled-none u me file told old new left none
 served-none u me bindings (action.Checkpoint streams handle) told old new left none = checkpoint-none u me streams handle told old new left none
-served-none u me bindings action.IsDirtyData told old new left none = answered-none u me call.IsDirtyData told old new left none
-served-none u me bindings (action.DirtyPages handle) told old new left none = answered-none u me (call.DirtyPages handle) told old new left none
-served-none u me bindings (action.LsnForFile file) told old new left none = answered-none u me (call.LsnForFile file) told old new left none
 served-none u me bindings (action.SetLog file handle) told old new left none = answered-none u me (call.SetLog file handle) told old new left none
 served-none u me bindings (action.Append handle bytes) told old new left none = append-none u me handle bytes told old new left none
 served-none u me bindings (action.LogFlush handle lsn) told old new left none = log-flush-none u me handle lsn told old new left none
@@ -502,7 +501,6 @@ served-none u me bindings (action.SetGranularity file bytes) told old new left n
 served-none u me bindings (action.SetAttributes file no_read_ahead no_write_behind) told old new left none =
     answered-none u me (call.SetAttributes file no_read_ahead no_write_behind) told old new left none
 served-none u me bindings (action.SetThreshold file pages) told old new left none = answered-none u me (call.SetThreshold file pages) told old new left none
-served-none u me bindings (action.CanWrite file bytes) told old new left none = answered-none u me (call.CanWrite file bytes) told old new left none
 served-none u me bindings (action.Defer file bytes retrying) told old new left none = defer-none me file bytes retrying told old new left
 served-none u me bindings action.Post told old new left none = posts-none u me told old new left
 served-none u me bindings (action.AskAhead file at len) told old new left none = answered-none u me (call.AskAhead file at len) told old new left none

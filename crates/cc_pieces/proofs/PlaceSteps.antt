@@ -1,12 +1,13 @@
 -- The place of a pass at the read-ahead queue, line by line: what one line leaves there and in the journal, several lines after
 -- one another, and what follows for a whole run.
-use Rattle.std.specs.Prelude.{◌≡◌, ℕ, zero, suc, ◌+◌, ◌-◌, ◌^◌, ◌≤◌, Bool, true, false, ◌||◌, min, List, [], ◌∷◌, ◌++◌, length, reverse, cond, refl, ◌⊎◌, if◌then◌else◌}
+use Rattle.std.specs.Prelude.{◌≡◌, ℕ, zero, suc, ◌+◌, ◌-◌, ◌^◌, ◌≤◌, Bool, true, false, ◌||◌, min, List, [], ◌∷◌, ◌++◌, length, reverse, cond, refl, ◌⊎◌, if◌then◌else◌, IfSome}
 use Rattle.std.specs.declared.option.Option.{Option}
 use Rattle.std.specs.declared.option.Option.TheVariants.{Some, None}
 use Rattle.std.specs.List.{count_by}
 use Rattle.std.proofs.Common.{sym, ap, arith, ◌∙◌, inl, inr, append_assoc, eq-eqb}
 use Rattle.std.proofs.lemmas.List.{append-nil, length-append, reverse-append}
 use Rattle.std.proofs.lemmas.List.Sums.{count_by-le-length, sum_by-append}
+use Rattle.cc_entry.specs.Queries.{file_of_query}
 use Rattle.cc_entry.specs.Place.{File}
 use Rattle.cc_entry.specs.declared.answer.Answer.{Answer}
 use Rattle.cc_entry.specs.declared.answer.Answer.TheVariants as answer
@@ -102,16 +103,18 @@ on-any (action.Levels file) = tt
 on-any (action.Settle file) = tt
 on-any (action.Checkpoint streams handle) = λ s low. tt
 on-any (action.SetSizes file allocation size) = tt
-on-any (action.State file) = tt
+on-any (action.Query asked) = by (file_of_query asked)
+  where
+    by : (named : Option File) → IfSome named (λ file. Unit {0})
+    by None = tt
+    by (Some file) = tt
 on-any (action.Flush file span) = tt
 on-any (action.Purge file span) = tt
 on-any (action.Discard file span) = tt
-on-any (action.LsnForFile file) = tt
 on-any (action.SetLog file handle) = tt
 on-any (action.SetGranularity file bytes) = tt
 on-any (action.SetAttributes file ahead behind) = tt
 on-any (action.SetThreshold file pages) = tt
-on-any (action.CanWrite file bytes) = tt
 on-any (action.Defer file bytes retrying) = tt
 on-any (action.AskAhead file at len) = tt
 on-any (action.AsyncRead file at len) = tt

@@ -5,6 +5,7 @@ use Rattle.std.proofs.Common.{inl, inr}
 use Rattle.cc_entry.specs.Place.{File}
 use Rattle.cc_entry.specs.declared.place.FileState.{FileState}
 use Rattle.cc_entry.specs.declared.call.Call.TheVariants as call
+use Rattle.cc_entry.specs.declared.query.Query.TheVariants as query
 use Rattle.cc_entry.specs.declared.answer.Answer.{Answer}
 use Rattle.cc_entry.specs.declared.answer.Answer.TheVariants as answer
 use Rattle.cc_entry.specs.declared.entry.End.{End}
@@ -14,6 +15,7 @@ use Rattle.cc_entry.specs.declared.entry.Entry.TheVariants as entry
 use Rattle.cc_entry.specs.declared.error.CcError.{CcError}
 use Rattle.cc_entry.specs.declared.error.CcError.TheVariants as error
 use Rattle.cc_entry.specs.declared.reply.Reply.TheVariants as reply
+use Rattle.cc_entry.specs.declared.query.Value.TheVariants as value
 use Rattle.cc_entry.specs.declared.reply.Outcome.TheVariants as outcome
 use Rattle.cc_model.specs.Setup.{Setup}
 use Rattle.cc_effects.specs.Moments.{IsIdle}
@@ -28,7 +30,7 @@ module _ (u : Setup) (me : ℕ) (file : File) (older old : List Entry) (idle : I
   has-flushed-before : (told : FileState) (begun new : List Entry) → StreamHasFlushed u me file told begun old new → StreamHasFlushed u me file told begun older new
   has-flushed-before told begun new is = record {
     stated = is.stated;
-    state = left-before u me (call.State file) (outcome.Done (reply.State told)) older old is.stated idle is.state;
+    state = left-before u me (call.Query (query.State file)) (outcome.Done (reply.Value (value.State told))) older old is.stated idle is.state;
     idle = is.idle;
     flush = is.flush;
   }
@@ -37,7 +39,7 @@ module _ (u : Setup) (me : ℕ) (file : File) (older old : List Entry) (idle : I
   unflushed-before e new is = record {
     told = is.told;
     stated = is.stated;
-    state = left-before u me (call.State file) (outcome.Done (reply.State is.told)) older old is.stated idle is.state;
+    state = left-before u me (call.Query (query.State file)) (outcome.Done (reply.Value (value.State is.told))) older old is.stated idle is.state;
     begun = is.begun;
     idle = is.idle;
     flush = is.flush;
@@ -62,12 +64,12 @@ module _ (u : Setup) (me : ℕ) (file : File) (older old : List Entry) (idle : I
     allocation = is.allocation;
     log = is.log;
   }
-  settle-before (Err e) new (inl left) = inl (left-before u me (call.State file) (outcome.Failed e) older old new idle left)
+  settle-before (Err e) new (inl left) = inl (left-before u me (call.Query (query.State file)) (outcome.Failed e) older old new idle left)
   settle-before (Err e) new (inr (inl is)) = inr (inl (unflushed-before e new is))
   settle-before (Err e) new (inr (inr is)) = inr (inr (unrecorded-before e new is))
 
   pub settled-before : (told : Answer) (new : List Entry) → SettleAnswered u me file told old new → SettleAnswered u me file told older new
-  settled-before (answer.Given (reply.State state)) new left = settle-before (Ok state) new left
+  settled-before (answer.Given (reply.Value (value.State state))) new left = settle-before (Ok state) new left
   settled-before (answer.Refused e) new left = settle-before (Err e) new left
   settled-before other new left = absurd left
 
@@ -142,11 +144,11 @@ module _ (me : ℕ) (new newer : List Entry) (idle : IsIdle me new newer) where
       allocation = is.allocation;
       log = is.log;
     }
-    settle-after (Err e) old (inl left) = inl (left-after u me (call.State file) (outcome.Failed e) old new newer left idle)
+    settle-after (Err e) old (inl left) = inl (left-after u me (call.Query (query.State file)) (outcome.Failed e) old new newer left idle)
     settle-after (Err e) old (inr (inl is)) = inr (inl (unflushed-after e old is))
     settle-after (Err e) old (inr (inr is)) = inr (inr (unrecorded-after e old is))
 
     pub settled-after : (told : Answer) (old : List Entry) → SettleAnswered u me file told old new → SettleAnswered u me file told old newer
-    settled-after (answer.Given (reply.State state)) old left = settle-after (Ok state) old left
+    settled-after (answer.Given (reply.Value (value.State state))) old left = settle-after (Ok state) old left
     settled-after (answer.Refused e) old left = settle-after (Err e) old left
     settled-after other old left = absurd left

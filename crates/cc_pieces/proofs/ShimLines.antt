@@ -8,6 +8,7 @@ use Rattle.cc_entry.specs.Place.{File, Range}
 use Rattle.cc_entry.specs.declared.place.FileState.{FileState}
 use Rattle.cc_entry.specs.declared.call.Call.{Call}
 use Rattle.cc_entry.specs.declared.call.Call.TheVariants as call
+use Rattle.cc_entry.specs.declared.query.Query.TheVariants as query
 use Rattle.cc_entry.specs.declared.answer.Answer.{Answer}
 use Rattle.cc_entry.specs.declared.answer.Answer.TheVariants as answer
 use Rattle.cc_entry.specs.declared.entry.Entry.{Entry}
@@ -16,6 +17,7 @@ use Rattle.cc_entry.specs.declared.error.CcError.{CcError}
 use Rattle.cc_entry.specs.declared.error.CcError.TheVariants as error
 use Rattle.cc_entry.specs.declared.reply.Reply.{Reply}
 use Rattle.cc_entry.specs.declared.reply.Reply.TheVariants as reply
+use Rattle.cc_entry.specs.declared.query.Value.TheVariants as value
 use Rattle.cc_entry.specs.declared.reply.Outcome.TheVariants as outcome
 use Rattle.cc_script.specs.declared.script.ReadPath.{ReadPath}
 use Rattle.cc_script.specs.declared.script.ReadPath.TheVariants.{Cached, Mapped, Pinned, Descriptor, Noncached}
@@ -225,13 +227,13 @@ module _ (u : Setup) (me : ℕ) (file : File) (Done : Option ℕ → List Entry 
   follow-parts path over (r ∷ rs) (Err e) old new (inr left) =
       f.after None e old left.0 new (follow-part path over r left.1 old left.0 left.2) (follow-parts path over rs (Err e) left.0 new left.3)
 
-  follow-state : (own : Option ℕ) (state : FileState) (old new : List Entry) → CallLeft u me (call.State file) (outcome.Done (reply.State state)) old new → Done own old new
-  follow-state own state old new left = f.done own (call.State file) (reply.State state) old new refl left
+  follow-state : (own : Option ℕ) (state : FileState) (old new : List Entry) → CallLeft u me (call.Query (query.State file)) (outcome.Done (reply.Value (value.State state))) old new → Done own old new
+  follow-state own state old new left = f.done own (call.Query (query.State file)) (reply.Value (value.State state)) old new refl left
 
   follow-held : (path : HoldPath) → GoesOver file path → (parts : Range → List Range) (at len : ℕ) (answered : Result (List ℕ) CcError) (old new : List Entry) → HeldPartsLeft u me file path parts at len answered old new → Ended None answered old new
   follow-held path over parts at len (Ok bytes) old new left =
       f.joins None old left.0 new (follow-state None left.1 old left.0 left.2) (follow-parts path over _ (Ok bytes) left.0 new left.3)
-  follow-held path over parts at len (Err e) old new (inl left) = f.failed None (call.State file) e old new refl left
+  follow-held path over parts at len (Err e) old new (inl left) = f.failed None (call.Query (query.State file)) e old new refl left
   follow-held path over parts at len (Err e) old new (inr left) =
       f.after None e old left.0 new (follow-state None left.1 old left.0 left.2) (follow-parts path over _ (Err e) left.0 new left.3)
 
@@ -256,7 +258,7 @@ module _ (u : Setup) (me : ℕ) (file : File) (Done : Option ℕ → List Entry 
   follow-told_write at bytes state answered old new (inr left) = follow-calls None (write_calls file at bytes state) answered old new (all-written file at bytes state) left.1
 
   follow-short : (at : ℕ) (bytes : List ℕ) (answered : Result (Unit {0}) CcError) (old new : List Entry) → ShortWriteLeft u me file at bytes answered old new → Ended None answered old new
-  follow-short at bytes answered old new (inl left) = ended-refused None left.0 answered old new left.1 (f.failed None (call.State file) left.0 old new refl left.2)
+  follow-short at bytes answered old new (inl left) = ended-refused None left.0 answered old new left.1 (f.failed None (call.Query (query.State file)) left.0 old new refl left.2)
   follow-short at bytes answered old new (inr left) =
       ended-after None answered old left.0 new (follow-state None left.1 old left.0 left.2) (follow-told_write at bytes left.1 answered left.0 new left.3)
 
@@ -284,7 +286,7 @@ module _ (u : Setup) (me : ℕ) (file : File) (Done : Option ℕ → List Entry 
 
   follow-pinned : (id at : ℕ) (bytes : List ℕ) (answered : Result ℕ CcError) (old new : List Entry) → PinnedUpdateLeft u me file id at bytes answered old new → Ended (Some id) answered old new
   follow-pinned id at bytes answered old new (inl left) =
-      ended-refused (Some id) left.0 answered old new left.1 (f.failed (Some id) (call.State file) left.0 old new refl left.2)
+      ended-refused (Some id) left.0 answered old new left.1 (f.failed (Some id) (call.Query (query.State file)) left.0 old new refl left.2)
   follow-pinned id at bytes answered old new (inr left) =
       ended-after (Some id) answered old left.0 new (follow-state (Some id) left.1 old left.0 left.2) (follow-told_update id at bytes left.1.log left.1.sizes.valid answered left.0 new left.3)
 
@@ -315,7 +317,7 @@ module _ (u : Setup) (me : ℕ) (file : File) (Done : Option ℕ → List Entry 
       follow-found None answered old new calm left = follow-admitted answered old new left
 
       follow-locked : (by : FileState → Option CcError) (answered : Result A CcError) (old new : List Entry) → ((state : FileState) → IsCalm (by state)) → LockedLeft u me file range write by Left answered old new → Ended None answered old new
-      follow-locked by answered old new calm (inl left) = ended-refused None left.0 answered old new left.1 (f.failed None (call.State file) left.0 old new refl left.2)
+      follow-locked by answered old new calm (inl left) = ended-refused None left.0 answered old new left.1 (f.failed None (call.Query (query.State file)) left.0 old new refl left.2)
       follow-locked by answered old new calm (inr left) =
           ended-after None answered old left.0 new (follow-state None left.1 old left.0 left.2) (follow-found (by left.1) answered left.0 new (calm left.1) left.3)
 

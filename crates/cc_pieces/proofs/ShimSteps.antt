@@ -7,12 +7,14 @@ use Rattle.cc_entry.specs.Place.{File, Range}
 use Rattle.cc_entry.specs.declared.place.FileState.{FileState}
 use Rattle.cc_entry.specs.declared.call.Call.{Call}
 use Rattle.cc_entry.specs.declared.call.Call.TheVariants as call
+use Rattle.cc_entry.specs.declared.query.Query.TheVariants as query
 use Rattle.cc_entry.specs.declared.answer.Answer.{Answer}
 use Rattle.cc_entry.specs.declared.answer.Answer.TheVariants as answer
 use Rattle.cc_entry.specs.declared.entry.Entry.{Entry}
 use Rattle.cc_entry.specs.declared.error.CcError.{CcError}
 use Rattle.cc_entry.specs.declared.error.CcError.TheVariants as error
 use Rattle.cc_entry.specs.declared.reply.Reply.TheVariants as reply
+use Rattle.cc_entry.specs.declared.query.Value.TheVariants as value
 use Rattle.cc_entry.specs.declared.reply.Outcome.TheVariants as outcome
 use Rattle.cc_script.specs.declared.script.ReadPath.{ReadPath}
 use Rattle.cc_script.specs.declared.script.ReadPath.TheVariants.{Cached, Mapped, Pinned, Descriptor, Noncached}
@@ -53,11 +55,11 @@ module _ (u : Setup) (me : ℕ) (older old : List Entry) (idle : IsIdle me older
 
   module _ (file : File) where
     state-before : (state : FileState) (new : List Entry) → StateLeft u me file state old new → StateLeft u me file state older new
-    state-before state new left = left-before u me (call.State file) (outcome.Done (reply.State state)) older old new idle left
+    state-before state new left = left-before u me (call.Query (query.State file)) (outcome.Done (reply.Value (value.State state))) older old new idle left
 
     held-before : (path : HoldPath) (parts : Range → List Range) (at len : ℕ) (answered : Result (List ℕ) CcError) (new : List Entry) → HeldPartsLeft u me file path parts at len answered old new → HeldPartsLeft u me file path parts at len answered older new
     held-before path parts at len (Ok bytes) new left = (left.0, left.1, state-before left.1 left.0 left.2, left.3)
-    held-before path parts at len (Err e) new (inl left) = inl (left-before u me (call.State file) (outcome.Failed e) older old new idle left)
+    held-before path parts at len (Err e) new (inl left) = inl (left-before u me (call.Query (query.State file)) (outcome.Failed e) older old new idle left)
     held-before path parts at len (Err e) new (inr left) = inr (left.0, left.1, state-before left.1 left.0 left.2, left.3)
 
     path-before : (path : ReadPath) (at len : ℕ) (answered : Result (List ℕ) CcError) (new : List Entry) → PathReadLeft u me file path at len answered old new → PathReadLeft u me file path at len answered older new
@@ -76,7 +78,7 @@ module _ (u : Setup) (me : ℕ) (older old : List Entry) (idle : IsIdle me older
 
     written-before : (at : ℕ) (bytes : List ℕ) (long : Bool) (answered : Result (Unit {0}) CcError) (new : List Entry) → WriteTested u me file at bytes long answered old new → WriteTested u me file at bytes long answered older new
     written-before at bytes true answered new left = (left.0, idle-then me older old new idle left.1)
-    written-before at bytes false answered new (inl left) = inl (left.0, left.1, left-before u me (call.State file) (outcome.Failed left.0) older old new idle left.2)
+    written-before at bytes false answered new (inl left) = inl (left.0, left.1, left-before u me (call.Query (query.State file)) (outcome.Failed left.0) older old new idle left.2)
     written-before at bytes false answered new (inr left) = inr (left.0, left.1, state-before left.1 left.0 left.2, left.3)
 
     updated-before : (at : ℕ) (bytes : List ℕ) (answered : Result ℕ CcError) (new : List Entry) → UpdateLeft u me file at bytes answered old new → UpdateLeft u me file at bytes answered older new
@@ -87,7 +89,7 @@ module _ (u : Setup) (me : ℕ) (older old : List Entry) (idle : IsIdle me older
 
     -- what is tested against the locks first begins by the state
     locked-before : {A : Type 0} (range : Range) (write : Bool) (by : FileState → Option CcError) (Left : Result A CcError → Between) (answered : Result A CcError) (new : List Entry) → LockedLeft u me file range write by Left answered old new → LockedLeft u me file range write by Left answered older new
-    locked-before range write by Left answered new (inl left) = inl (left.0, left.1, left-before u me (call.State file) (outcome.Failed left.0) older old new idle left.2)
+    locked-before range write by Left answered new (inl left) = inl (left.0, left.1, left-before u me (call.Query (query.State file)) (outcome.Failed left.0) older old new idle left.2)
     locked-before range write by Left answered new (inr left) = inr (left.0, left.1, state-before left.1 left.0 left.2, left.3)
 
     pub read-before : (path : ReadPath) (at len : ℕ) (told : Answer) (new : List Entry) → LockedReadAnswered u me file path at len told old new → LockedReadAnswered u me file path at len told older new
@@ -114,7 +116,7 @@ module _ (u : Setup) (me : ℕ) (older old : List Entry) (idle : IsIdle me older
     lock-before range exclusive other new left = absurd left
 
     pub unlock-before : (id : ℕ) (told : Answer) (new : List Entry) → UnlockAnswered me file id told old new → UnlockAnswered me file id told older new
-    unlock-before id (answer.Given (reply.Flag gone)) new left = only-before me _ older old new idle left
+    unlock-before id (answer.Given (reply.Value (value.Flag gone))) new left = only-before me _ older old new idle left
     unlock-before id (answer.Refused (error.JournalFull entries)) new left = idle-then me older old new idle left
     unlock-before id (answer.Refused error.NoMemory) new left = idle-then me older old new idle left
     unlock-before id (answer.Refused other) new left = absurd left
@@ -150,7 +152,7 @@ module _ (u : Setup) (me : ℕ) (new newer : List Entry) (idle : IsIdle me new n
   module _ (file : File) where
     held-after : (path : HoldPath) (parts : Range → List Range) (at len : ℕ) (answered : Result (List ℕ) CcError) (old : List Entry) → HeldPartsLeft u me file path parts at len answered old new → HeldPartsLeft u me file path parts at len answered old newer
     held-after path parts at len (Ok bytes) old left = (left.0, left.1, left.2, parts-after path _ (Ok bytes) left.0 left.3)
-    held-after path parts at len (Err e) old (inl left) = inl (left-after u me (call.State file) (outcome.Failed e) old new newer left idle)
+    held-after path parts at len (Err e) old (inl left) = inl (left-after u me (call.Query (query.State file)) (outcome.Failed e) old new newer left idle)
     held-after path parts at len (Err e) old (inr left) = inr (left.0, left.1, left.2, parts-after path _ (Err e) left.0 left.3)
 
     path-after : (path : ReadPath) (at len : ℕ) (answered : Result (List ℕ) CcError) (old : List Entry) → PathReadLeft u me file path at len answered old new → PathReadLeft u me file path at len answered old newer
@@ -173,7 +175,7 @@ module _ (u : Setup) (me : ℕ) (new newer : List Entry) (idle : IsIdle me new n
 
     written-after : (at : ℕ) (bytes : List ℕ) (long : Bool) (answered : Result (Unit {0}) CcError) (old : List Entry) → WriteTested u me file at bytes long answered old new → WriteTested u me file at bytes long answered old newer
     written-after at bytes true answered old left = (left.0, idle-then me old new newer left.1 idle)
-    written-after at bytes false answered old (inl left) = inl (left.0, left.1, left-after u me (call.State file) (outcome.Failed left.0) old new newer left.2 idle)
+    written-after at bytes false answered old (inl left) = inl (left.0, left.1, left-after u me (call.Query (query.State file)) (outcome.Failed left.0) old new newer left.2 idle)
     written-after at bytes false answered old (inr left) = inr (left.0, left.1, left.2, told_write-after at bytes left.1 answered left.0 left.3)
 
     updated-after : (at : ℕ) (bytes : List ℕ) (answered : Result ℕ CcError) (old : List Entry) → UpdateLeft u me file at bytes answered old new → UpdateLeft u me file at bytes answered old newer
@@ -197,7 +199,7 @@ module _ (u : Setup) (me : ℕ) (new newer : List Entry) (idle : IsIdle me new n
       found-after None answered old left = admitted-after answered old left
 
       locked-after : (by : FileState → Option CcError) (answered : Result A CcError) (old : List Entry) → LockedLeft u me file range write by Left answered old new → LockedLeft u me file range write by Left answered old newer
-      locked-after by answered old (inl left) = inl (left.0, left.1, left-after u me (call.State file) (outcome.Failed left.0) old new newer left.2 idle)
+      locked-after by answered old (inl left) = inl (left.0, left.1, left-after u me (call.Query (query.State file)) (outcome.Failed left.0) old new newer left.2 idle)
       locked-after by answered old (inr left) = inr (left.0, left.1, left.2, found-after (by left.1) answered left.0 left.3)
 
     locked_read-after : (path : ReadPath) (at len : ℕ) (answered : Result (List ℕ) CcError) (old : List Entry) → LockedReadLeft u me file path at len answered old new → LockedReadLeft u me file path at len answered old newer
@@ -239,7 +241,7 @@ module _ (u : Setup) (me : ℕ) (new newer : List Entry) (idle : IsIdle me new n
     lock-after range exclusive other old left = absurd left
 
     pub unlock-after : (id : ℕ) (told : Answer) (old : List Entry) → UnlockAnswered me file id told old new → UnlockAnswered me file id told old newer
-    unlock-after id (answer.Given (reply.Flag gone)) old left = only-after me _ old new newer left idle
+    unlock-after id (answer.Given (reply.Value (value.Flag gone))) old left = only-after me _ old new newer left idle
     unlock-after id (answer.Refused (error.JournalFull entries)) old left = idle-then me old new newer left idle
     unlock-after id (answer.Refused error.NoMemory) old left = idle-then me old new newer left idle
     unlock-after id (answer.Refused other) old left = absurd left

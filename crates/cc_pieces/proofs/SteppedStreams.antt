@@ -1,10 +1,12 @@
 -- The journal of a script of steps is of the streams of its script, and where it shows no failure no answer tells one.
-use Rattle.std.specs.Prelude.{◌≡◌, ℕ, suc, ◌+◌, ◌<◌, ◌≤◌, Bool, true, false, ◌==◌, ◌&&◌, ◌||◌, nat_le, List, [], ◌∷◌, ◌++◌, length, refl, if◌then◌else◌}
+use Rattle.std.specs.Prelude.{◌≡◌, ℕ, suc, ◌+◌, ◌<◌, ◌≤◌, Bool, true, false, ◌==◌, ◌&&◌, ◌||◌, nat_le, List, [], ◌∷◌, ◌++◌, length, refl, if◌then◌else◌, IfSome}
 use Rattle.std.specs.declared.option.Option.{Option}
 use Rattle.std.specs.declared.option.Option.TheVariants.{Some, None}
 use Rattle.std.specs.List.{AllByRecursion, cons_option, list_any}
 use Rattle.std.proofs.Common.{sym, ap, arith, subst, ◌∙◌, inl, inr, append_assoc}
 use Rattle.std.proofs.lemmas.Option.{same_Some}
+use Rattle.cc_entry.specs.Place.{File}
+use Rattle.cc_entry.specs.Queries.{file_of_query}
 use Rattle.cc_entry.specs.Kinds.{is_map, is_pin, is_repin, is_read_chain, is_write_chain}
 use Rattle.cc_entry.specs.declared.answer.Answer.{Answer}
 use Rattle.cc_entry.specs.declared.answer.Answer.TheVariants as answer
@@ -369,8 +371,11 @@ module _ (u : Setup) (n : ℕ) where
   doing-below me bindings (action.AsyncRead file at len) below = tt
   doing-below me bindings action.Complete below = tt
   doing-below me bindings action.Tick below = tt
-  doing-below me bindings action.IsDirtyData below = tt
-  doing-below me bindings (action.DirtyPages handle) below = tt
+  doing-below me bindings (action.Query asked) below = by (file_of_query asked) below
+    where
+      by : (named : Option File) → IfSome named (λ file. file.stream < n) → IsFileBelow n named
+      by None below = tt
+      by (Some file) below = below
   doing-below me bindings (action.Append handle bytes) below = tt
   doing-below me bindings (action.LogFlush handle lsn) below = tt
   doing-below me bindings action.Scan below = tt

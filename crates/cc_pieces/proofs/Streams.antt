@@ -10,6 +10,7 @@ use Rattle.std.proofs.lemmas.Option.{same_Some}
 use Rattle.cc_entry.specs.Place.{File}
 use Rattle.cc_entry.specs.declared.call.Call.{Call}
 use Rattle.cc_entry.specs.declared.call.Call.TheVariants as call
+use Rattle.cc_entry.specs.declared.query.Query.TheVariants as query
 use Rattle.cc_entry.specs.declared.hold.HoldKind.TheVariants as kind
 use Rattle.cc_entry.specs.Pages.{has_page}
 use Rattle.cc_entry.specs.declared.reply.Reply.{Reply}
@@ -272,8 +273,8 @@ filed-blank n me s (call.EndHold hold) filed below = absurd (cc filed)
 filed-blank n me s (call.Repin hold) filed below = absurd (cc filed)
 filed-blank n me s (call.MdlBytes hold at len) filed below = absurd (cc filed)
 filed-blank n me s (call.MdlStore hold at bytes) filed below = absurd (cc filed)
-filed-blank n me s (call.DirtyPages handle) filed below = absurd (cc filed)
-filed-blank n me s call.IsDirtyData filed below = absurd (cc filed)
+filed-blank n me s (call.Query (query.DirtyPages handle)) filed below = absurd (cc filed)
+filed-blank n me s (call.Query query.IsDirtyData) filed below = absurd (cc filed)
 filed-blank n me s other filed below = some-below s _ n filed below
 
 -- a call whose file is of one of the first streams, where it is no read-ahead step and no copied read

@@ -1,10 +1,11 @@
 -- What a line of a caller leaves, entry by entry: what may be said of each entry that a call places is true of each own entry
 -- of the line's piece.
-use Rattle.std.specs.Prelude.{◌≡◌, ℕ, zero, suc, ◌+◌, ◌*◌, ◌/◌, ◌<◌, Bool, true, false, ◌||◌, List, [], ◌∷◌, ◌++◌, length, ◌≤◌, map, take, drop, Result, Ok, Err, refl, ◌⊎◌}
+use Rattle.std.specs.Prelude.{◌≡◌, ℕ, zero, suc, ◌+◌, ◌*◌, ◌/◌, ◌<◌, Bool, true, false, ◌||◌, List, [], ◌∷◌, ◌++◌, length, ◌≤◌, map, take, drop, Result, Ok, Err, refl, ◌⊎◌, IfSome}
 use Rattle.std.specs.declared.option.Option.{Option}
 use Rattle.std.specs.declared.option.Option.TheVariants.{Some, None}
 use Rattle.std.specs.List.{AllByRecursion}
 use Rattle.std.proofs.Common.{arith, sym, subst, inl, inr}
+use Rattle.cc_entry.specs.Queries.{file_of_query}
 use Rattle.cc_entry.specs.Place.{File, Page, Range}
 use Rattle.cc_entry.specs.declared.place.DirtyRow.{DirtyRow}
 use Rattle.cc_entry.specs.declared.place.FileState.{FileState}
@@ -13,6 +14,7 @@ use Rattle.cc_entry.specs.declared.answer.Answer.TheVariants as answer
 use Rattle.cc_entry.specs.declared.answer.AsyncStart.TheVariants as start
 use Rattle.cc_entry.specs.declared.call.Call.{Call}
 use Rattle.cc_entry.specs.declared.call.Call.TheVariants as call
+use Rattle.cc_entry.specs.declared.query.Query.TheVariants as query
 use Rattle.cc_entry.specs.declared.entry.End.{End}
 use Rattle.cc_entry.specs.declared.entry.End.TheVariants as how
 use Rattle.cc_entry.specs.declared.entry.Entry.{Entry}
@@ -24,6 +26,7 @@ use Rattle.cc_entry.specs.declared.reply.Outcome.{Outcome}
 use Rattle.cc_entry.specs.declared.reply.Outcome.TheVariants as outcome
 use Rattle.cc_entry.specs.declared.reply.Reply.{Reply}
 use Rattle.cc_entry.specs.declared.reply.Reply.TheVariants as reply
+use Rattle.cc_entry.specs.declared.query.Value.TheVariants as value
 use Rattle.cc_entry.specs.Kinds.{is_map, is_pin, is_repin, is_read_chain, is_write_chain}
 use Rattle.cc_script.specs.declared.script.Action.{Action}
 use Rattle.cc_script.specs.declared.script.Action.TheVariants as action
@@ -139,16 +142,14 @@ IsActionOn On (action.Levels file) = On file
 IsActionOn On (action.Settle file) = On file
 IsActionOn On (action.Checkpoint streams _) = (s : ℕ) → s < streams → On (first_object s)
 IsActionOn On (action.SetSizes file _ _) = On file
-IsActionOn On (action.State file) = On file
+IsActionOn On (action.Query asked) = IfSome (file_of_query asked) On
 IsActionOn On (action.Flush file _) = On file
 IsActionOn On (action.Purge file _) = On file
 IsActionOn On (action.Discard file _) = On file
-IsActionOn On (action.LsnForFile file) = On file
 IsActionOn On (action.SetLog file _) = On file
 IsActionOn On (action.SetGranularity file _) = On file
 IsActionOn On (action.SetAttributes file _ _) = On file
 IsActionOn On (action.SetThreshold file _) = On file
-IsActionOn On (action.CanWrite file _) = On file
 IsActionOn On (action.Defer file _ _) = On file
 IsActionOn On (action.AskAhead file _ _) = On file
 IsActionOn On (action.AsyncRead file _ _) = On file
@@ -439,7 +440,7 @@ module _ (u : Setup) (Stays : List Entry → Entry → Type 0) (Fits : List Entr
   walk-lock me file range exclusive other old new left = absurd left
 
   walk-unlock : (me : ℕ) (file : File) (id : ℕ) (told : Answer) (old new : List Entry) → UnlockAnswered me file id told old new → Walked Stays me old new
-  walk-unlock me file id (answer.Given (reply.Flag gone)) old new left = walked-only Stays me _ old new left ((keeps me).unlocked file id gone)
+  walk-unlock me file id (answer.Given (reply.Value (value.Flag gone))) old new left = walked-only Stays me _ old new left ((keeps me).unlocked file id gone)
   walk-unlock me file id (answer.Refused (error.JournalFull entries)) old new left = walked-idle Stays me old new left
   walk-unlock me file id (answer.Refused error.NoMemory) old new left = walked-idle Stays me old new left
   walk-unlock me file id (answer.Refused other) old new left = absurd left
@@ -486,20 +487,20 @@ module _ (u : Setup) (Stays : List Entry → Entry → Type 0) (Fits : List Entr
         by (inr synced) = walk-synced-some first how.Failed old new synced
     walk-stopped first other old new left = absurd left
 
-    walk-state : (ended : Outcome) (old new : List Entry) → CallLeft u me (call.State file) ended old new → Walked Stays me old new
-    walk-state ended old new left = walk-call me (call.State file) ended old new ((keeps me).on_file (call.State file) file old on refl refl) left
+    walk-state : (ended : Outcome) (old new : List Entry) → CallLeft u me (call.Query (query.State file)) ended old new → Walked Stays me old new
+    walk-state ended old new left = walk-call me (call.Query (query.State file)) ended old new ((keeps me).on_file (call.Query (query.State file)) file old on refl refl) left
 
     walk-flush : (ended : Outcome) (old new : List Entry) → CallLeft u me (call.Flush file None) ended old new → Walked Stays me old new
     walk-flush ended old new left = walk-call me (call.Flush file None) ended old new ((keeps me).on_file (call.Flush file None) file old on refl refl) left
 
     walk-flushed : (told : FileState) (begun old new : List Entry) → StreamHasFlushed u me file told begun old new → Walked Stays me old new
     walk-flushed told begun old new is =
-        walked-then Stays me old is.stated new (walk-state (outcome.Done (reply.State told)) old is.stated is.state)
+        walked-then Stays me old is.stated new (walk-state (outcome.Done (reply.Value (value.State told))) old is.stated is.state)
         (walked-then Stays me is.stated begun new (walked-idle Stays me is.stated begun is.idle) (walk-flush (outcome.Done reply.Unit) begun new is.flush))
 
     walk-unflushed : (e : CcError) (old new : List Entry) → IsUnflushed u me file e old new → Walked Stays me old new
     walk-unflushed e old new is =
-        walked-then Stays me old is.stated new (walk-state (outcome.Done (reply.State is.told)) old is.stated is.state)
+        walked-then Stays me old is.stated new (walk-state (outcome.Done (reply.Value (value.State is.told))) old is.stated is.state)
         (walked-then Stays me is.stated is.begun new (walked-idle Stays me is.stated is.begun is.idle) (walk-flush (outcome.Failed e) is.begun new is.flush))
 
     pub walk-settle : (answered : Result FileState CcError) (old new : List Entry) → SettleLeft u me file answered old new → Walked Stays me old new
@@ -513,7 +514,7 @@ module _ (u : Setup) (Stays : List Entry → Entry → Type 0) (Fits : List Entr
         (walk-stopped _ e is.flushed new is.stopped)
 
     walk-settled : (told : Answer) (old new : List Entry) → SettleAnswered u me file told old new → Walked Stays me old new
-    walk-settled (answer.Given (reply.State state)) old new left = walk-settle (Ok state) old new left
+    walk-settled (answer.Given (reply.Value (value.State state))) old new left = walk-settle (Ok state) old new left
     walk-settled (answer.Refused e) old new left = walk-settle (Err e) old new left
     walk-settled other old new left = absurd left
 
@@ -523,8 +524,8 @@ module _ (u : Setup) (Stays : List Entry → Entry → Type 0) (Fits : List Entr
     walk-first it s ended old new low of plain left = walk-call me it ended old new ((keeps me).on_file it (first_object s) old (on s low) of plain) left
 
     walk-asked : (s : ℕ) (state : Option FileState) (old new : List Entry) → s < streams → StateAsked u me s state old new → Walked Stays me old new
-    walk-asked s (Some state) old new low left = walk-first (call.State (first_object s)) s (outcome.Done (reply.State state)) old new low refl refl left
-    walk-asked s None old new low left = walk-first (call.State (first_object s)) s (outcome.Failed error.NotCached) old new low refl refl left
+    walk-asked s (Some state) old new low left = walk-first (call.Query (query.State (first_object s))) s (outcome.Done (reply.Value (value.State state))) old new low refl refl left
+    walk-asked s None old new low left = walk-first (call.Query (query.State (first_object s))) s (outcome.Failed error.NotCached) old new low refl refl left
 
     walk-states : (n : ℕ) (found : List ℕ) (old new : List Entry) → n ≤ streams → StatesAsked u me handle n found old new → Walked Stays me old new
     walk-states zero found old new low left = walked-idle Stays me old new left.1
@@ -562,17 +563,17 @@ module _ (u : Setup) (Stays : List Entry → Entry → Type 0) (Fits : List Entr
         by (inr refused) =
             let low = refused.below in
             walked-then Stays me old refused.between new (walk-states refused.n refused.found old refused.between (omega (arith, low)) refused.asked)
-            (walk-first (call.State (first_object refused.n)) refused.n (outcome.Failed left.0) refused.between new low refl refl refused.refused)
+            (walk-first (call.Query (query.State (first_object refused.n))) refused.n (outcome.Failed left.0) refused.between new low refl refl refused.refused)
     walk-rows-logged rows answered old new (inr left) =
         walked-then Stays me old left.0 new (walk-states streams left.1 old left.0 (omega arith) left.2)
         (walk-synced-logged left.1 (record_of_rows rows) answered left.0 new (found-below u me handle streams left.1 old left.0 left.2) left.3)
 
     walk-checkpoint-left : (answered : Result ℕ CcError) (old new : List Entry) → CheckpointLeft u me streams handle answered old new → Walked Stays me old new
     walk-checkpoint-left answered old new (inl left) =
-        walk-call me (call.DirtyPages handle) (outcome.Failed left.0) old new ((keeps me).on_none (call.DirtyPages handle) old refl refl) left.2
+        walk-call me (call.Query (query.DirtyPages handle)) (outcome.Failed left.0) old new ((keeps me).on_none (call.Query (query.DirtyPages handle)) old refl refl) left.2
     walk-checkpoint-left answered old new (inr left) =
         walked-then Stays me old left.0 new
-        (walk-call me (call.DirtyPages handle) (outcome.Done (reply.Rows left.1)) old left.0 ((keeps me).on_none (call.DirtyPages handle) old refl refl) left.2)
+        (walk-call me (call.Query (query.DirtyPages handle)) (outcome.Done (reply.Rows left.1)) old left.0 ((keeps me).on_none (call.Query (query.DirtyPages handle)) old refl refl) left.2)
         (walk-rows-logged left.1 answered left.0 new left.3)
 
     walk-checkpoint : (told : Answer) (old new : List Entry) → CheckpointAnswered u me streams handle told old new → Walked Stays me old new
@@ -669,7 +670,11 @@ module _ (u : Setup) (Stays : List Entry → Entry → Type 0) (Fits : List Entr
   walk-served me bindings (action.MdlAbort word) told old new plain on left =
       walk-hold-line me bindings word is_write_chain (λ id. call.EndHold id) told old new (λ id. (keeps me).on_none (call.EndHold id) old refl refl) left
   walk-served me bindings (action.SetSizes file allocation size) told old new plain on left = walk-answered me (call.SetSizes file allocation size) told old new ((keeps me).on_file (call.SetSizes file allocation size) file old on refl refl) left
-  walk-served me bindings (action.State file) told old new plain on left = walk-answered me (call.State file) told old new ((keeps me).on_file (call.State file) file old on refl refl) left
+  walk-served me bindings (action.Query asked) told old new plain on left = walk-answered me (call.Query asked) told old new (by (file_of_query asked) refl on) left
+    where
+      by : (named : Option File) → file_of_query asked ≡ named → IfSome named On → Fits old (call.Query asked)
+      by None is on = (keeps me).on_none (call.Query asked) old is refl
+      by (Some file) is on = (keeps me).on_file (call.Query asked) file old on is refl
   walk-served me bindings (action.Flush file span) told old new plain on left = walk-answered me (call.Flush file span) told old new ((keeps me).on_file (call.Flush file span) file old on refl refl) left.left
   walk-served me bindings (action.Purge file span) told old new plain on left = walk-answered me (call.Purge file span) told old new ((keeps me).on_file (call.Purge file span) file old on refl refl) left
   walk-served me bindings (action.Discard file span) told old new plain on left = walk-answered me (call.Discard file span) told old new ((keeps me).on_file (call.Discard file span) file old on refl refl) left
@@ -686,9 +691,6 @@ module _ (u : Setup) (Stays : List Entry → Entry → Type 0) (Fits : List Entr
   walk-served me bindings (action.Levels file) told old new plain on left = walk-levels me file told old new left
   walk-served me bindings (action.Settle file) told old new plain on left = walk-settled me file on told old new left
   walk-served me bindings (action.Checkpoint streams handle) told old new plain on left = walk-checkpoint me handle streams on told old new left
-  walk-served me bindings action.IsDirtyData told old new plain on left = walk-answered me call.IsDirtyData told old new ((keeps me).on_none call.IsDirtyData old refl refl) left
-  walk-served me bindings (action.DirtyPages handle) told old new plain on left = walk-answered me (call.DirtyPages handle) told old new ((keeps me).on_none (call.DirtyPages handle) old refl refl) left
-  walk-served me bindings (action.LsnForFile file) told old new plain on left = walk-answered me (call.LsnForFile file) told old new ((keeps me).on_file (call.LsnForFile file) file old on refl refl) left
   walk-served me bindings (action.SetLog file handle) told old new plain on left = walk-answered me (call.SetLog file handle) told old new ((keeps me).on_file (call.SetLog file handle) file old on refl refl) left
   walk-served me bindings (action.Append handle bytes) told old new plain on left = walk-append me handle bytes told old new left
   walk-served me bindings (action.LogFlush handle lsn) told old new plain on left = walk-log-flush me handle lsn told old new left
@@ -696,7 +698,6 @@ module _ (u : Setup) (Stays : List Entry → Entry → Type 0) (Fits : List Entr
   walk-served me bindings (action.SetAttributes file no_read_ahead no_write_behind) told old new plain on left =
       walk-answered me (call.SetAttributes file no_read_ahead no_write_behind) told old new ((keeps me).on_file (call.SetAttributes file no_read_ahead no_write_behind) file old on refl refl) left
   walk-served me bindings (action.SetThreshold file pages) told old new plain on left = walk-answered me (call.SetThreshold file pages) told old new ((keeps me).on_file (call.SetThreshold file pages) file old on refl refl) left
-  walk-served me bindings (action.CanWrite file bytes) told old new plain on left = walk-answered me (call.CanWrite file bytes) told old new ((keeps me).on_file (call.CanWrite file bytes) file old on refl refl) left
   walk-served me bindings (action.Defer file bytes retrying) told old new plain on left = walk-defer me file bytes retrying told old new left
   walk-served me bindings action.Post told old new plain on left = walk-posts me told old new left
   walk-served me bindings action.Tick told old new plain on left = walk-tick me told old new left

@@ -9,6 +9,7 @@ use Rattle.cc_entry.specs.declared.call.Call.TheVariants as call
 use Rattle.cc_entry.specs.declared.error.CcError.{CcError}
 use Rattle.cc_entry.specs.declared.error.CcError.TheVariants as error
 use Rattle.cc_entry.specs.declared.reply.Reply.TheVariants as reply
+use Rattle.cc_entry.specs.declared.query.Value.TheVariants as value
 use Rattle.cc_entry.specs.declared.reply.Outcome.{Outcome}
 use Rattle.cc_entry.specs.declared.reply.Outcome.TheVariants as outcome
 use Rattle.cc_entry.specs.declared.answer.AsyncStart.TheVariants as start
@@ -128,7 +129,7 @@ LevelsAnswered levels me file other old new = ⊥
 
 -- the settling of a stream
 abbrev pub SettleAnswered : Setup → ℕ → File → Answer → Between
-SettleAnswered u me file (answer.Given (reply.State state)) old new = SettleLeft u me file (Ok state) old new
+SettleAnswered u me file (answer.Given (reply.Value (value.State state))) old new = SettleLeft u me file (Ok state) old new
 SettleAnswered u me file (answer.Refused e) old new = SettleLeft u me file (Err e) old new
 SettleAnswered u me file other old new = ⊥
 

@@ -8,6 +8,7 @@ use Rattle.cc_entry.specs.declared.place.DirtyRow.{DirtyRow}
 use Rattle.cc_entry.specs.declared.place.FileState.{FileState}
 use Rattle.cc_entry.specs.declared.call.Call.{Call}
 use Rattle.cc_entry.specs.declared.call.Call.TheVariants as call
+use Rattle.cc_entry.specs.declared.query.Query.TheVariants as query
 use Rattle.cc_entry.specs.declared.error.CcError.{CcError}
 use Rattle.cc_entry.specs.declared.error.CcError.TheVariants as error
 use Rattle.cc_entry.specs.declared.reply.Reply.TheVariants as reply
@@ -39,7 +40,7 @@ record_of_rows rows = checkpoint_record (map oldest_row rows)
 -- the state of a stream was asked, and told so; none where the stream is not open
 abbrev pub StateAsked : Setup → ℕ → ℕ → Option FileState → Between
 StateAsked u me stream (Some state) old new = StateLeft u me (first_object stream) state old new
-StateAsked u me stream None old new = CallLeft u me (call.State (first_object stream)) (outcome.Failed error.NotCached) old new
+StateAsked u me stream None old new = CallLeft u me (call.Query (query.State (first_object stream))) (outcome.Failed error.NotCached) old new
 
 abbrev pub state_has_log : ℕ → Option FileState → Bool
 state_has_log handle None = false
@@ -66,7 +67,7 @@ pub record StateRefused (u : Setup) (me handle streams : ℕ) (e : CcError) (old
   pub below : n < streams
   pub asked : StatesAsked u me handle n found old between
   pub other : e ≢ error.NotCached
-  pub refused : CallLeft u me (call.State (first_object n)) (outcome.Failed e) between new
+  pub refused : CallLeft u me (call.Query (query.State (first_object n))) (outcome.Failed e) between new
 
 -- memory was wanting behind some that were asked
 pub record AskingStopped (u : Setup) (me handle streams : ℕ) (e : CcError) (old new : List Entry) : Type 0 where
@@ -113,10 +114,10 @@ RowsLogged u me streams handle rows answered old new =
 -- a checkpoint of a log of a run that has so many streams
 abbrev pub CheckpointLeft : Setup → ℕ → ℕ → ℕ → Result ℕ CcError → Between
 CheckpointLeft u me streams handle answered old new =
-    ((e : CcError) × (answered ≡ Err e) × CallLeft u me (call.DirtyPages handle) (outcome.Failed e) old new)
+    ((e : CcError) × (answered ≡ Err e) × CallLeft u me (call.Query (query.DirtyPages handle)) (outcome.Failed e) old new)
     ⊎ ((between : List Entry)
     × (rows : List DirtyRow)
-    × CallLeft u me (call.DirtyPages handle) (outcome.Done (reply.Rows rows)) old between
+    × CallLeft u me (call.Query (query.DirtyPages handle)) (outcome.Done (reply.Rows rows)) old between
     × RowsLogged u me streams handle rows answered between new)
 
 -- a line that makes one

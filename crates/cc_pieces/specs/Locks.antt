@@ -7,12 +7,14 @@ use Rattle.cc_entry.specs.Place.{File, Range}
 use Rattle.cc_entry.specs.declared.answer.Answer.{Answer}
 use Rattle.cc_entry.specs.declared.answer.Answer.TheVariants as answer
 use Rattle.cc_entry.specs.declared.call.Call.TheVariants as call
+use Rattle.cc_entry.specs.declared.query.Query.TheVariants as query
 use Rattle.cc_entry.specs.declared.entry.Entry.{Entry}
 use Rattle.cc_entry.specs.declared.entry.Entry.TheVariants as entry
 use Rattle.cc_entry.specs.declared.error.CcError.{CcError}
 use Rattle.cc_entry.specs.declared.error.CcError.TheVariants as error
 use Rattle.cc_entry.specs.declared.place.FileState.{FileState}
 use Rattle.cc_entry.specs.declared.reply.Reply.TheVariants as reply
+use Rattle.cc_entry.specs.declared.query.Value.TheVariants as value
 use Rattle.cc_entry.specs.declared.reply.Outcome.TheVariants as outcome
 use Rattle.cc_script.specs.declared.script.ReadPath.{ReadPath}
 use Rattle.cc_model.specs.Reasons.{crosses_blocks, past_size, past_valid, refuse_if}
@@ -44,7 +46,7 @@ LockAnswered me file range exclusive (answer.Refused e) old new = LockLeft me fi
 LockAnswered me file range exclusive other old new = ⊥
 
 abbrev pub UnlockAnswered : ℕ → File → ℕ → Answer → Between
-UnlockAnswered me file id (answer.Given (reply.Flag gone)) old new = UnlockLeft me file id (Ok gone) old new
+UnlockAnswered me file id (answer.Given (reply.Value (value.Flag gone))) old new = UnlockLeft me file id (Ok gone) old new
 UnlockAnswered me file id (answer.Refused e) old new = UnlockLeft me file id (Err e) old new
 UnlockAnswered me file id other old new = ⊥
 
@@ -81,7 +83,7 @@ abbrev pub LockedLeft :
     {A : Type 0} → Setup → ℕ → File → Range → Bool → (FileState → Option CcError) → (Result A CcError → Between) → Result A CcError
     → Between
 LockedLeft u me file range write refused Left answered old new =
-    ((e : CcError) × (answered ≡ Err e) × CallLeft u me (call.State file) (outcome.Failed e) old new)
+    ((e : CcError) × (answered ≡ Err e) × CallLeft u me (call.Query (query.State file)) (outcome.Failed e) old new)
     ⊎ ((between : List Entry)
     × (state : FileState)
     × StateLeft u me file state old between

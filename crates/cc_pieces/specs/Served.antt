@@ -45,7 +45,7 @@ Served u me bindings (action.MdlDone word) told old new = ChainDoneLine u me bin
 Served u me bindings (action.MdlAbort word) told old new = ChainAbortLine u me bindings word told old new
 Served u me bindings (action.SetSizes file allocation size) told old new =
     CallAnswered u me (call.SetSizes file allocation size) told old new
-Served u me bindings (action.State file) told old new = CallAnswered u me (call.State file) told old new
+Served u me bindings (action.Query asked) told old new = CallAnswered u me (call.Query asked) told old new
 Served u me bindings (action.Flush file span) told old new = FlushAnswered u me file span told old new
 Served u me bindings (action.Purge file span) told old new = CallAnswered u me (call.Purge file span) told old new
 Served u me bindings (action.Discard file span) told old new = CallAnswered u me (call.Discard file span) told old new
@@ -59,9 +59,6 @@ Served u me bindings (action.Unlock file id) told old new = UnlockAnswered me fi
 Served u me bindings (action.Levels file) told old new = LevelsAnswered levels_of me file told old new
 Served u me bindings (action.Settle file) told old new = SettleAnswered u me file told old new
 Served u me bindings (action.Checkpoint streams handle) told old new = CheckpointAnswered u me streams handle told old new
-Served u me bindings action.IsDirtyData told old new = CallAnswered u me call.IsDirtyData told old new
-Served u me bindings (action.DirtyPages handle) told old new = CallAnswered u me (call.DirtyPages handle) told old new
-Served u me bindings (action.LsnForFile file) told old new = CallAnswered u me (call.LsnForFile file) told old new
 Served u me bindings (action.SetLog file handle) told old new = CallAnswered u me (call.SetLog file handle) told old new
 Served u me bindings (action.Append handle bytes) told old new = AppendAnswered u me handle bytes told old new
 Served u me bindings (action.LogFlush handle lsn) told old new = LogFlushAnswered u me handle lsn told old new
@@ -69,7 +66,6 @@ Served u me bindings (action.SetGranularity file bytes) told old new = CallAnswe
 Served u me bindings (action.SetAttributes file no_read_ahead no_write_behind) told old new =
     CallAnswered u me (call.SetAttributes file no_read_ahead no_write_behind) told old new
 Served u me bindings (action.SetThreshold file pages) told old new = CallAnswered u me (call.SetThreshold file pages) told old new
-Served u me bindings (action.CanWrite file bytes) told old new = CallAnswered u me (call.CanWrite file bytes) told old new
 Served u me bindings (action.Defer file bytes retrying) told old new = DeferAnswered me file bytes retrying told old new
 Served u me bindings action.Post told old new = PostsAnswered u me told old new
 Served u me bindings (action.AskAhead file at len) told old new = CallAnswered u me (call.AskAhead file at len) told old new

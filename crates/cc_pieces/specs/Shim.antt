@@ -9,9 +9,11 @@ use Rattle.cc_entry.specs.Pages.{blocks_of}
 use Rattle.cc_entry.specs.declared.place.FileState.{FileState}
 use Rattle.cc_entry.specs.declared.call.Call.{Call}
 use Rattle.cc_entry.specs.declared.call.Call.TheVariants as call
+use Rattle.cc_entry.specs.declared.query.Query.TheVariants as query
 use Rattle.cc_entry.specs.declared.error.CcError.{CcError}
 use Rattle.cc_entry.specs.declared.error.CcError.TheVariants as error
 use Rattle.cc_entry.specs.declared.reply.Reply.TheVariants as reply
+use Rattle.cc_entry.specs.declared.query.Value.TheVariants as value
 use Rattle.cc_entry.specs.declared.reply.Outcome.TheVariants as outcome
 use Rattle.cc_entry.specs.declared.entry.Entry.{Entry}
 use Rattle.cc_script.specs.declared.script.ReadPath.{ReadPath}
@@ -36,7 +38,7 @@ CallsLeft u me (it ∷ more) (Err e) old new =
 
 -- the sizes and the log of the stream were asked, and told so
 abbrev pub StateLeft : Setup → ℕ → File → FileState → Between
-StateLeft u me file state old new = CallLeft u me (call.State file) (outcome.Done (reply.State state)) old new
+StateLeft u me file state old new = CallLeft u me (call.Query (query.State file)) (outcome.Done (reply.Value (value.State state))) old new
 
 -- How a path that holds what it reads makes a hold of a range and reads its bytes.
 pub record HoldPath : Type 0 where
@@ -121,7 +123,7 @@ HeldPartsLeft u me file path parts at len (Ok bytes) old new =
     × StateLeft u me file state old between
     × PartsLeft u me path (parts (cut_range state.sizes.size at len)) (Ok bytes) between new
 HeldPartsLeft u me file path parts at len (Err e) old new =
-    CallLeft u me (call.State file) (outcome.Failed e) old new
+    CallLeft u me (call.Query (query.State file)) (outcome.Failed e) old new
     ⊎ ((between : List Entry)
     × (state : FileState)
     × StateLeft u me file state old between
@@ -189,7 +191,7 @@ ToldWriteLeft u me file at bytes state answered old new =
 -- a write of no more bytes than the limit
 abbrev pub ShortWriteLeft : Setup → ℕ → File → ℕ → List ℕ → Result (Unit {0}) CcError → Between
 ShortWriteLeft u me file at bytes answered old new =
-    ((e : CcError) × (answered ≡ Err e) × CallLeft u me (call.State file) (outcome.Failed e) old new)
+    ((e : CcError) × (answered ≡ Err e) × CallLeft u me (call.Query (query.State file)) (outcome.Failed e) old new)
     ⊎ ((between : List Entry)
     × (state : FileState)
     × StateLeft u me file state old between
@@ -236,7 +238,7 @@ ToldUpdateLeft u me file id at bytes (Some handle) valid answered old new =
 -- an update under its pin: the sizes and the log are asked first
 abbrev pub PinnedUpdateLeft : Setup → ℕ → File → ℕ → ℕ → List ℕ → Result ℕ CcError → Between
 PinnedUpdateLeft u me file id at bytes answered old new =
-    ((e : CcError) × (answered ≡ Err e) × CallLeft u me (call.State file) (outcome.Failed e) old new)
+    ((e : CcError) × (answered ≡ Err e) × CallLeft u me (call.Query (query.State file)) (outcome.Failed e) old new)
     ⊎ ((between : List Entry)
     × (state : FileState)
     × StateLeft u me file state old between

@@ -12,6 +12,7 @@ ghost use Rattle.cc_script.specs.declared.script.ReadPath.{ReadPath};
 ghost use Rattle.cc_entry.specs.Place.{File};
 ghost use Rattle.cc_entry.specs.declared.call.Call.TheVariants as call;
 ghost use Rattle.cc_entry.specs.declared.reply.Reply.TheVariants as reply;
+ghost use Rattle.cc_entry.specs.declared.query.Value.TheVariants as value;
 ghost use Rattle.cc_entry.specs.declared.reply.Outcome.TheVariants as outcome;
 ghost use Rattle.cc_entry.specs.declared.answer.Answer.{Answer};
 ghost use Rattle.cc_entry.specs.declared.answer.Answer.TheVariants as answer;
@@ -107,12 +108,12 @@ pub fn uninitialise_tells_whether_the_map_went()
     ensures { (u : Setup) (limit me : ℕ) (bindings : List Binding) (file : File) (truncate : Option ℕ) (gone : Bool)
         (old new newer : List Entry) →
         IsGood u (newer ++ new) →
-        Explains u limit me bindings (action.Uninitialise file truncate) (answer.Given (reply.Flag gone)) old new →
+        Explains u limit me bindings (action.Uninitialise file truncate) (answer.Given (reply.Value (value.Flag gone))) old new →
         (nth : ℕ) × (later : List Entry) × (earlier : List Entry)
         × (new ≡ later
-        ++ (entry.Call me nth (Some file.stream) (call.Uninitialise file truncate) (outcome.Done (reply.Flag gone))
+        ++ (entry.Call me nth (Some file.stream) (call.Uninitialise file truncate) (outcome.Done (reply.Value (value.Flag gone)))
         ∷ (earlier ++ old)))
-        × (gone ≡ not (is_mapped (Did me (call.Uninitialise file truncate) (reply.Flag gone) ∷ history (earlier ++ old) file.stream))) }
+        × (gone ≡ not (is_mapped (Did me (call.Uninitialise file truncate) (reply.Value (value.Flag gone)) ∷ history (earlier ++ old) file.stream))) }
 {}
 
 /// A line that reads, writes or updates and is told of a lock in its way has the test that tells it, of its own range, as its

@@ -14,12 +14,8 @@ ok-given : (streams : List StreamLine) (r : Reply) → is_ok (answer.Given r) �
 ok-given streams reply.Unit = refl
 ok-given streams (reply.Read bytes) = refl
 ok-given streams (reply.Hold id) = refl
-ok-given streams (reply.Flag true) = refl
-ok-given streams (reply.Flag false) = refl
+ok-given streams (reply.Value found) = refl
 ok-given streams (reply.Rows rows) = refl
-ok-given streams (reply.Lsns (Some lsns)) = refl
-ok-given streams (reply.Lsns None) = refl
-ok-given streams (reply.State state) = refl
 ok-given streams (reply.Ahead (Some request)) = refl
 ok-given streams (reply.Ahead None) = refl
 ok-given streams (reply.Whole whole) = refl
@@ -51,12 +47,8 @@ refused-given : (streams : List StreamLine) (r : Reply) → is_refused (answer.G
 refused-given streams reply.Unit = refl
 refused-given streams (reply.Read bytes) = refl
 refused-given streams (reply.Hold id) = refl
-refused-given streams (reply.Flag true) = refl
-refused-given streams (reply.Flag false) = refl
+refused-given streams (reply.Value found) = refl
 refused-given streams (reply.Rows rows) = refl
-refused-given streams (reply.Lsns (Some lsns)) = refl
-refused-given streams (reply.Lsns None) = refl
-refused-given streams (reply.State state) = refl
 refused-given streams (reply.Ahead (Some request)) = refl
 refused-given streams (reply.Ahead None) = refl
 refused-given streams (reply.Whole whole) = refl

@@ -5,7 +5,6 @@ use Rattle.cc_entry.specs.Errors.{number_of, name_of}
 use Rattle.cc_entry.specs.declared.error.CcError.{CcError}
 use Rattle.cc_entry.specs.declared.error.CcError.TheVariants as error
 use Rattle.cc_entry.specs.declared.place.DirtyRow.{DirtyRow}
-use Rattle.cc_entry.specs.declared.place.FileState.{FileState}
 use Rattle.cc_entry.specs.declared.place.Request.{Request}
 use Rattle.cc_entry.specs.declared.answer.AheadDone.{AheadDone}
 use Rattle.cc_entry.specs.declared.answer.AsyncStart.{AsyncStart}
@@ -18,7 +17,8 @@ use Rattle.cc_entry.specs.declared.reply.Reply.{Reply}
 use Rattle.cc_entry.specs.declared.reply.Reply.TheVariants as reply
 use Rattle.cc_script.specs.declared.script.StreamLine.{StreamLine}
 use Rattle.cc_print.specs.Append.{◌&◌}
-use Rattle.cc_print.specs.Words.{file_text, page_text, bytes_text}
+use Rattle.cc_print.specs.Words.{page_text, request_text, bytes_text}
+use Rattle.cc_print.specs.Queries.{value_text}
 
 -- the numbers of a refusal, each behind a space
 abbrev pub error_numbers : CcError → List ℕ
@@ -63,27 +63,6 @@ rows_text streams rows = flat_map (λ row. row_text streams row) rows
 abbrev pub counted_rows : List StreamLine → List DirtyRow → List ℕ
 counted_rows streams rows = (codes "ok rows " ++ decimal (length rows)) ++ rows_text streams rows
 
-abbrev pub lsns_text : Option (ℕ × ℕ) → List ℕ
-lsns_text (Some lsns) = codes "ok lsns " & decimal lsns.0 & codes " " & decimal lsns.1
-lsns_text None = codes "ok none"
-
--- a number, as that of a log or an LSN; `-` where there is none
-abbrev pub number_or_dash : Option ℕ → List ℕ
-number_or_dash (Some n) = decimal n
-number_or_dash None = codes "-"
-
-abbrev pub state_text : FileState → List ℕ
-state_text state =
-    codes "ok state " & decimal state.sizes.allocation
-    & codes " " & decimal state.sizes.size
-    & codes " " & decimal state.sizes.valid
-    & codes " " & number_or_dash state.log
-
--- a read-ahead request: its file, place and length
-abbrev pub request_text : List StreamLine → Request → List ℕ
-request_text streams request =
-    codes "ahead " & file_text streams request.file & codes " " & decimal request.at & codes " " & decimal request.len
-
 -- a read-ahead request with what stands behind it, if there is one
 abbrev pub ahead_text : List StreamLine → Option Request → List ℕ → List ℕ
 ahead_text streams (Some request) behind = codes "ok " & request_text streams request & behind
@@ -98,19 +77,13 @@ abbrev pub stepped_text : List StreamLine → Option AheadDone → List ℕ
 stepped_text streams (Some done) = ahead_text streams (Some done.request) (whole_word done.whole)
 stepped_text streams None = ahead_text streams None []
 
-abbrev pub flag_text : Bool → List ℕ
-flag_text true = codes "ok true"
-flag_text false = codes "ok false"
-
 -- what a call answered that is done
 abbrev pub reply_text : List StreamLine → Reply → List ℕ
 reply_text streams reply.Unit = codes "ok"
 reply_text streams (reply.Read bytes) = codes "ok " & bytes_text bytes
 reply_text streams (reply.Hold id) = codes "ok hold " & decimal id
-reply_text streams (reply.Flag flag) = flag_text flag
+reply_text streams (reply.Value found) = codes "ok " & value_text found
 reply_text streams (reply.Rows rows) = counted_rows streams rows
-reply_text streams (reply.Lsns lsns) = lsns_text lsns
-reply_text streams (reply.State state) = state_text state
 reply_text streams (reply.Ahead ahead) = ahead_text streams ahead []
 reply_text streams (reply.Whole whole) = codes "ok" & whole_word whole
 

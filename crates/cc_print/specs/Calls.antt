@@ -6,20 +6,12 @@ use Rattle.cc_entry.specs.declared.call.Call.{Call}
 use Rattle.cc_entry.specs.declared.call.Call.TheVariants as call
 use Rattle.cc_script.specs.declared.script.StreamLine.{StreamLine}
 use Rattle.cc_print.specs.Append.{◌&◌}
-use Rattle.cc_print.specs.Words.{file_text, word_if, number_if, span_if, bytes_text}
-use Rattle.cc_print.specs.Answers.{request_text}
-
--- a verb and a file
-abbrev pub of_file : List ℕ → List StreamLine → File → List ℕ → List ℕ
-of_file verb streams file behind = verb & codes " " & file_text streams file & behind
+use Rattle.cc_print.specs.Words.{file_text, of_file, of_file_number, word_if, number_if, span_if, request_text, bytes_text}
+use Rattle.cc_print.specs.Queries.{query_text}
 
 -- a verb, a file and a range, if there is one
 abbrev pub of_file_span : List ℕ → List StreamLine → File → Option Range → List ℕ
 of_file_span verb streams file span = of_file verb streams file (span_if span)
-
--- a verb, a file and a number
-abbrev pub of_file_number : List ℕ → List StreamLine → File → ℕ → List ℕ
-of_file_number verb streams file number = verb & codes " " & file_text streams file & codes " " & decimal number
 
 -- a verb, a file and two numbers
 abbrev pub of_file_numbers : List ℕ → List StreamLine → File → ℕ → ℕ → List ℕ → List ℕ
@@ -94,18 +86,14 @@ call_text streams (call.NcRead file page) = of_file_number (codes "ncread") stre
 call_text streams (call.NcStore file page bytes) = of_file_bytes (codes "ncstore") streams file page bytes
 call_text streams (call.NcWrite file page) = of_file_number (codes "ncwrite") streams file page
 call_text streams (call.SetSizes file allocation size) = of_file_numbers (codes "sizes") streams file allocation size []
-call_text streams (call.State file) = of_file (codes "state") streams file []
+call_text streams (call.Query asked) = query_text streams asked
 call_text streams (call.Flush file span) = of_file_span (codes "flush") streams file span
 call_text streams (call.Purge file span) = of_file_span (codes "purge") streams file span
 call_text streams (call.Discard file span) = of_file_span (codes "discard") streams file span
 call_text streams (call.SetLog file handle) = of_file_number (codes "setlog") streams file handle
-call_text streams (call.DirtyPages handle) = codes "dirty " & decimal handle
-call_text streams (call.LsnForFile file) = of_file (codes "lsns") streams file []
-call_text streams call.IsDirtyData = codes "isdirty"
 call_text streams (call.SetGranularity file bytes) = of_file_number (codes "granularity") streams file bytes
 call_text streams (call.SetAttributes file no_read_ahead no_write_behind) =
     of_file_numbers (codes "attributes") streams file (digit_of no_read_ahead) (digit_of no_write_behind) []
 call_text streams (call.SetThreshold file pages) = of_file_number (codes "fthreshold") streams file pages
 call_text streams (call.AskAhead file at len) = of_file_numbers (codes "ask") streams file at len []
 call_text streams (call.AheadStep request) = request_text streams request
-call_text streams (call.CanWrite file bytes) = of_file_number (codes "canwrite") streams file bytes

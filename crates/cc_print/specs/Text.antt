@@ -9,8 +9,8 @@ use Rattle.cc_script.specs.declared.script.ActionLine.{ActionLine}
 use Rattle.cc_script.specs.declared.script.Script.{Script}
 use Rattle.cc_print.specs.Append.{◌&◌}
 use Rattle.cc_print.specs.declared.table.TableRow.{TableRow}
-use Rattle.cc_print.specs.Words.{page_text}
-use Rattle.cc_print.specs.Answers.{number_or_dash, answer_text}
+use Rattle.cc_print.specs.Words.{page_text, number_or_dash}
+use Rattle.cc_print.specs.Answers.{answer_text}
 use Rattle.cc_print.specs.Entries.{entry_text}
 use Rattle.cc_print.specs.Trace.{newline, trace_line}
 

@@ -2,12 +2,12 @@
 
 ghost use Rattle.std.specs.Prelude.{◌≡◌, ◌++◌, OnOk, codes, string_bytes};
 ghost use Rattle.cc_print.specs.Words.{bytes_text};
-ghost use Rattle.cc_print.specs.Answers.{error_numbers, error_text, row_text, rows_text, counted_rows, lsns_text, number_or_dash, state_text, request_text, ahead_text, whole_word, stepped_text, reply_text, ids_text, more_ids, tick_text, started_text, completed_text, answer_text};
+ghost use Rattle.cc_print.specs.Answers.{error_numbers, error_text, row_text, rows_text, counted_rows, ahead_text, whole_word, stepped_text, reply_text, ids_text, more_ids, tick_text, started_text, completed_text, answer_text};
 
-use crate::words::{push_bytes, push_file, push_page};
+use crate::query::push_value;
+use crate::words::{push_bytes, push_page, push_request};
 use cc_entry::{
-    AheadDone, Answer, AsyncDone, AsyncStart, Bytes, CcError, DirtyRow, FileState, Lsn, Reply,
-    Request, Tick,
+    AheadDone, Answer, AsyncDone, AsyncStart, Bytes, CcError, DirtyRow, Reply, Request, Tick,
 };
 use cc_script::StreamLine;
 use std::alloc::AllocError;
@@ -88,74 +88,6 @@ fn push_counted_rows(
     push_rows(text, streams, rows)
 }
 
-fn push_lsns(text: &mut String, lsns: Option<(Lsn, Lsn)>) -> Result<(), AllocError>
-    ensures { OnOk result (string_bytes text.new ≡ string_bytes text.old ++ lsns_text lsns) }
-{
-    match lsns {
-        Some((oldest, newest)) => {
-            let oldest = oldest.number();
-            let newest = newest.number();
-            write!(text, "ok lsns {oldest} {newest}")
-        }
-        None => text.push_str("ok none"),
-    }
-}
-
-/// A number, as that of a log or an LSN; `-` where there is none.
-pub(crate) fn push_number_or_dash(text: &mut String, number: Option<u64>) -> Result<(), AllocError>
-    ensures { OnOk result (string_bytes text.new ≡ string_bytes text.old ++ number_or_dash number) }
-{
-    match number {
-        Some(n) => write!(text, "{n}"),
-        None => text.push_str("-"),
-    }
-}
-
-/// The number of an LSN, where there is one.
-pub(crate) fn lsn_number(lsn: Option<Lsn>) -> Option<u64>
-    ensures { result ≡ lsn }
-{
-    match lsn {
-        Some(lsn) => Some(lsn.number()),
-        None => None,
-    }
-}
-
-fn log_number(log: Option<u8>) -> Option<u64>
-    ensures { result ≡ log }
-{
-    match log {
-        Some(handle) => Some(u64::from(handle)),
-        None => None,
-    }
-}
-
-fn push_state(text: &mut String, state: FileState) -> Result<(), AllocError>
-    ensures { OnOk result (string_bytes text.new ≡ string_bytes text.old ++ state_text state) }
-{
-    let allocation = state.sizes.allocation;
-    let size = state.sizes.size;
-    let valid = state.sizes.valid;
-    write!(text, "ok state {allocation} {size} {valid} ")?;
-    push_number_or_dash(text, log_number(state.log))
-}
-
-/// A read-ahead request: its file, place and length.
-pub(crate) fn push_request(
-    text: &mut String,
-    streams: &[StreamLine],
-    request: Request,
-) -> Result<(), AllocError>
-    ensures { OnOk result
-        (string_bytes text.new ≡ string_bytes text.old ++ request_text streams.now request) }
-{
-    let at = request.at;
-    let len = request.len;
-    text.push_str("ahead ")?;
-    push_file(text, streams, request.file)?;
-    write!(text, " {at} {len}")
-}
-
 fn push_ahead(
     text: &mut String,
     streams: &[StreamLine],
@@ -208,11 +140,11 @@ pub(crate) fn push_reply(
         Reply::Unit => text.push_str("ok"),
         Reply::Read(bytes) => push_read(text, bytes),
         Reply::Hold(id) => write!(text, "ok hold {id}"),
-        Reply::Flag(true) => text.push_str("ok true"),
-        Reply::Flag(false) => text.push_str("ok false"),
+        Reply::Value(value) => {
+            text.push_str("ok ")?;
+            push_value(text, value)
+        }
         Reply::Rows(rows) => push_counted_rows(text, streams, rows.as_slice()),
-        Reply::Lsns(lsns) => push_lsns(text, *lsns),
-        Reply::State(state) => push_state(text, *state),
         Reply::Ahead(ahead) => push_ahead(text, streams, *ahead, ""),
         Reply::Whole(whole) => {
             let how = whole_word(*whole);

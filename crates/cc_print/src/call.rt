@@ -2,41 +2,16 @@
 
 ghost use Rattle.std.specs.Prelude.{◌≡◌, ◌++◌, OnOk, codes, string_bytes};
 ghost use Rattle.cc_print.specs.Words.{file_text, number_if};
-ghost use Rattle.cc_print.specs.Calls.{of_file, of_file_span, of_file_number, of_file_numbers, of_file_bytes, of_hold, of_hold_numbers, of_hold_bytes, initialise_text, prepare_text, digit_of, call_text};
+ghost use Rattle.cc_print.specs.Calls.{of_file_span, of_file_numbers, of_file_bytes, of_hold, of_hold_numbers, of_hold_bytes, initialise_text, prepare_text, digit_of, call_text};
 
-use crate::answer::{lsn_number, push_request};
-use crate::words::{push_bytes, push_file, push_number_if, push_span_if, word_if};
+use crate::query::push_query;
+use crate::words::{
+    lsn_number, push_bytes, push_file, push_number_if, push_of_file, push_of_file_number,
+    push_request, push_span_if, push_verb, word_if,
+};
 use cc_entry::{Bytes, Call, FileId, FileSizes, Quota, Span};
 use cc_script::StreamLine;
 use std::alloc::AllocError;
-
-fn push_verb(
-    text: &mut String,
-    verb: &str,
-    streams: &[StreamLine],
-    file: FileId,
-) -> Result<(), AllocError>
-    ensures { OnOk result
-        (string_bytes text.new ≡ string_bytes text.old ++ (verb.now ++ (codes " " ++ file_text streams.now file))) }
-{
-    text.push_str(verb)?;
-    text.push_str(" ")?;
-    push_file(text, streams, file)
-}
-
-fn push_of_file(
-    text: &mut String,
-    verb: &str,
-    streams: &[StreamLine],
-    file: FileId,
-    behind: &str,
-) -> Result<(), AllocError>
-    ensures { OnOk result
-        (string_bytes text.new ≡ string_bytes text.old ++ of_file verb.now streams.now file behind.now) }
-{
-    push_verb(text, verb, streams, file)?;
-    text.push_str(behind)
-}
 
 fn push_of_file_span(
     text: &mut String,
@@ -50,20 +25,6 @@ fn push_of_file_span(
 {
     push_verb(text, verb, streams, file)?;
     push_span_if(text, span)
-}
-
-fn push_of_file_number(
-    text: &mut String,
-    verb: &str,
-    streams: &[StreamLine],
-    file: FileId,
-    number: u64,
-) -> Result<(), AllocError>
-    ensures { OnOk result
-        (string_bytes text.new ≡ string_bytes text.old ++ of_file_number verb.now streams.now file number) }
-{
-    push_verb(text, verb, streams, file)?;
-    write!(text, " {number}")
 }
 
 fn push_of_file_numbers(
@@ -300,7 +261,6 @@ pub(crate) fn push_call(
             allocation,
             size,
         } => { push_of_file_numbers(text, "sizes", streams, *file, (*allocation, *size), "") }
-        Call::State { file } => push_of_file(text, "state", streams, *file, ""),
         Call::Flush { file, span } => push_of_file_span(text, "flush", streams, *file, *span),
         Call::Purge { file, span } => push_of_file_span(text, "purge", streams, *file, *span),
         Call::Discard { file, span } => push_of_file_span(text, "discard", streams, *file, *span),
@@ -311,9 +271,7 @@ pub(crate) fn push_call(
             *file,
             u64::from(*handle),
         ),
-        Call::DirtyPages { handle } => write!(text, "dirty {handle}"),
-        Call::LsnForFile { file } => push_of_file(text, "lsns", streams, *file, ""),
-        Call::IsDirtyData => text.push_str("isdirty"),
+        Call::Query(query) => push_query(text, streams, query),
         Call::SetGranularity { file, bytes } => push_of_file_number(
             text,
             "granularity",
@@ -345,8 +303,5 @@ pub(crate) fn push_call(
             "",
         ),
         Call::AheadStep { request } => push_request(text, streams, *request),
-        Call::CanWrite { file, bytes } => push_of_file_number(
-            text, "canwrite", streams, *file, *bytes,
-        ),
     }
 }

@@ -12,6 +12,7 @@ mod answer;
 mod call;
 mod entry;
 mod laws;
+mod query;
 mod replies;
 mod summary;
 mod table;

@@ -3,8 +3,7 @@
 ghost use Rattle.std.specs.Prelude.{◌≡◌, ◌++◌, OnOk, string_bytes};
 ghost use Rattle.cc_print.specs.Text.{table_line};
 
-use crate::answer::{lsn_number, push_number_or_dash};
-use crate::words::push_page;
+use crate::words::{lsn_number, push_number_or_dash, push_page};
 use cc_entry::{Lsn, PageId};
 use cc_script::StreamLine;
 use std::alloc::AllocError;

@@ -2,9 +2,9 @@
 
 ghost use Rattle.std.specs.Prelude.{◌≡◌, ◌≤◌, ◌+◌, ◌*◌, ◌++◌, OnOk, IsAscii, codes, decimal, string_bytes, length, map, take};
 ghost use Rattle.cc_entry.specs.Runs.{byte_alone};
-ghost use Rattle.cc_print.specs.Words.{name_at, file_text, page_text, word_if, number_if, span_if, hex_pair, run_text, more_runs, bytes_text};
+ghost use Rattle.cc_print.specs.Words.{name_at, file_text, of_file, of_file_number, page_text, word_if, number_if, number_or_dash, span_if, request_text, hex_pair, run_text, more_runs, bytes_text};
 
-use cc_entry::{Bytes, FileId, PageId, Run, Runs, Span, StreamId};
+use cc_entry::{Bytes, FileId, Lsn, PageId, Request, Run, Runs, Span, StreamId};
 use cc_script::StreamLine;
 use std::alloc::AllocError;
 use std::str::from_utf8_unchecked;
@@ -31,6 +31,51 @@ pub(crate) fn push_file(
     let name = name_of(streams, file.stream());
     let object = file.object();
     write!(text, "{name}:{object}")
+}
+
+/// A verb and a file object.
+pub(crate) fn push_verb(
+    text: &mut String,
+    verb: &str,
+    streams: &[StreamLine],
+    file: FileId,
+) -> Result<(), AllocError>
+    ensures { OnOk result
+        (string_bytes text.new ≡ string_bytes text.old ++ (verb.now ++ (codes " " ++ file_text streams.now file))) }
+{
+    text.push_str(verb)?;
+    text.push_str(" ")?;
+    push_file(text, streams, file)
+}
+
+/// A verb and a file object, with what stands behind them.
+pub(crate) fn push_of_file(
+    text: &mut String,
+    verb: &str,
+    streams: &[StreamLine],
+    file: FileId,
+    behind: &str,
+) -> Result<(), AllocError>
+    ensures { OnOk result
+        (string_bytes text.new ≡ string_bytes text.old ++ of_file verb.now streams.now file behind.now) }
+{
+    push_verb(text, verb, streams, file)?;
+    text.push_str(behind)
+}
+
+/// A verb, a file object and a number.
+pub(crate) fn push_of_file_number(
+    text: &mut String,
+    verb: &str,
+    streams: &[StreamLine],
+    file: FileId,
+    number: u64,
+) -> Result<(), AllocError>
+    ensures { OnOk result
+        (string_bytes text.new ≡ string_bytes text.old ++ of_file_number verb.now streams.now file number) }
+{
+    push_verb(text, verb, streams, file)?;
+    write!(text, " {number}")
 }
 
 /// A page as its stream's name and its number.
@@ -64,6 +109,26 @@ pub(crate) fn push_number_if(text: &mut String, number: Option<u64>) -> Result<(
     }
 }
 
+/// A number, as that of a log or an LSN; `-` where there is none.
+pub(crate) fn push_number_or_dash(text: &mut String, number: Option<u64>) -> Result<(), AllocError>
+    ensures { OnOk result (string_bytes text.new ≡ string_bytes text.old ++ number_or_dash number) }
+{
+    match number {
+        Some(n) => write!(text, "{n}"),
+        None => text.push_str("-"),
+    }
+}
+
+/// The number of an LSN, where there is one.
+pub(crate) fn lsn_number(lsn: Option<Lsn>) -> Option<u64>
+    ensures { result ≡ lsn }
+{
+    match lsn {
+        Some(lsn) => Some(lsn.number()),
+        None => None,
+    }
+}
+
 /// The ends of a span, each behind a space, or nothing.
 pub(crate) fn push_span_if(text: &mut String, span: Option<Span>) -> Result<(), AllocError>
     ensures { OnOk result (string_bytes text.new ≡ string_bytes text.old ++ span_if span) }
@@ -76,6 +141,22 @@ pub(crate) fn push_span_if(text: &mut String, span: Option<Span>) -> Result<(), 
         }
         None => Ok(()),
     }
+}
+
+/// A read-ahead request: its file, place and length.
+pub(crate) fn push_request(
+    text: &mut String,
+    streams: &[StreamLine],
+    request: Request,
+) -> Result<(), AllocError>
+    ensures { OnOk result
+        (string_bytes text.new ≡ string_bytes text.old ++ request_text streams.now request) }
+{
+    let at = request.at;
+    let len = request.len;
+    text.push_str("ahead ")?;
+    push_file(text, streams, request.file)?;
+    write!(text, " {at} {len}")
 }
 
 /// How many bytes that stand alone are printed at once.

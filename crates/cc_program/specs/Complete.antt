@@ -55,8 +55,8 @@ abbrev pub TooFewAlways : Input → ℕ → Type 0
 TooFewAlways i status =
     (script : Script) → IsFound i script → has_devices i.disks i.logs i.posts script ≡ false → EndsWith status 7
 
--- A script of the grammar, or of a number, with a disk for each stream, each log that a stream names and a routine for each
--- deferral, over a sink that does not fail and takes something wherever there are bytes, is 0.
+-- A script of the grammar, or of a number, with a disk for each stream, each log that a stream or a restart names and a
+-- routine for each deferral, over a sink that does not fail and takes something wherever there are bytes, is 0.
 abbrev pub Completes : Input → ProgramOutput → ℕ → Type 0
 Completes i o status =
     (script : Script) → IsFound i script → has_devices i.disks i.logs i.posts script ≡ true →

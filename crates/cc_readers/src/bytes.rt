@@ -264,20 +264,16 @@ fn change(call: &Call, size: u64, i: u64) -> Option<u8>
         | Call::MdlBytes { .. }
         | Call::NcRead { .. }
         | Call::NcWrite { .. }
-        | Call::State { .. }
         | Call::Flush { .. }
         | Call::Purge { .. }
         | Call::Discard { .. }
         | Call::SetLog { .. }
-        | Call::DirtyPages { .. }
-        | Call::LsnForFile { .. }
-        | Call::IsDirtyData
         | Call::SetGranularity { .. }
         | Call::SetAttributes { .. }
         | Call::SetThreshold { .. }
         | Call::AskAhead { .. }
         | Call::AheadStep { .. }
-        | Call::CanWrite { .. } => None,
+        | Call::Query(_) => None,
     }
 }
 

@@ -1,7 +1,8 @@
 //! The range of a call, and whether its view blocks have to be mapped.
 
 ghost use Rattle.std.specs.Prelude.{◌≡◌, IfOk};
-ghost use Rattle.cc_model.specs.Ranges.{range_of, cut_range};
+ghost use Rattle.cc_entry.specs.Queries.{extent_of_query};
+ghost use Rattle.cc_model.specs.Ranges.{range_of, cut_range, queried_range};
 ghost use Rattle.cc_model.specs.Views.{viewed};
 ghost use Rattle.cc_readers.specs.Effects.{effects};
 ghost use Rattle.cc_readers.specs.HoldReads.{range_if};
@@ -9,7 +10,7 @@ ghost use Rattle.cc_readers.specs.ViewReads.{whole_in, cut_in, stored_in, absent
 
 use crate::holds::Reach;
 use crate::views::{end_within, first_absent};
-use cc_entry::{Call, Entry, NoMemory, StreamId};
+use cc_entry::{Call, Entry, NoMemory, Query, StreamId};
 use cc_events::stored_end;
 use std::alloc::Global;
 
@@ -40,6 +41,14 @@ fn stored(page: u64, size: u64) -> Option<Reach>
     Some(Reach { from, to })
 }
 
+// The bytes whose pages a query needs, as far as they lie below the size.
+fn queried(size: u64, query: &Query) -> Option<Reach>
+    ensures { range_if result ≡ queried_range size (extent_of_query query.now) }
+{
+    let (at, len) = query.extent()?;
+    cut(size, at, len)
+}
+
 /// The range of a call: the bytes whose pages it needs.
 pub fn range_in(size: u64, call: &Call) -> Option<Reach>
     ensures { range_if result ≡ range_of size call.now }
@@ -60,6 +69,7 @@ pub fn range_in(size: u64, call: &Call) -> Option<Reach>
         Call::NcStore { page, .. } => stored(*page, size),
         Call::NcWrite { page, .. } => stored(*page, size),
         Call::AheadStep { request } => cut(size, request.at, request.len),
+        Call::Query(query) => queried(size, query),
         _ => None,
     }
 }

@@ -1,9 +1,9 @@
 //! Reasons that lie in the arguments of a call alone, or beside the number of logs.
 
-ghost use Rattle.std.specs.Prelude.{◌≡◌};
+ghost use Rattle.std.specs.Prelude.{◌≡◌, Some};
 ghost use Rattle.cc_model.specs.Setup.{Setup};
 ghost use Rattle.cc_model.specs.Acts.{file_of};
-ghost use Rattle.cc_model.specs.Reasons.{cached_file, longer, too_long, crosses_blocks, view_boundary, is_granularity, bad_granularity, no_log};
+ghost use Rattle.cc_model.specs.Reasons.{cached_file, longer, too_long, crosses_blocks, view_boundary, is_granularity, bad_granularity, missing_log, no_log};
 
 use crate::first::refuse;
 use cc_entry::{Call, CcError, FileId};
@@ -26,17 +26,15 @@ pub fn cached_file(call: &Call) -> Option<FileId>
         | Call::NcStore { file, .. }
         | Call::NcWrite { file, .. }
         | Call::SetSizes { file, .. }
-        | Call::State { file }
         | Call::Flush { file, .. }
         | Call::Purge { file, .. }
         | Call::Discard { file, .. }
         | Call::SetLog { file, .. }
-        | Call::LsnForFile { file }
         | Call::SetGranularity { file, .. }
         | Call::SetAttributes { file, .. }
         | Call::SetThreshold { file, .. }
-        | Call::AskAhead { file, .. }
-        | Call::CanWrite { file, .. } => Some(*file),
+        | Call::AskAhead { file, .. } => Some(*file),
+        Call::Query(query) => query.file(),
         Call::Initialise { .. }
         | Call::AheadStep { .. }
         | Call::PinMapped { .. }
@@ -47,9 +45,7 @@ pub fn cached_file(call: &Call) -> Option<FileId>
         | Call::EndHold { .. }
         | Call::Repin { .. }
         | Call::MdlBytes { .. }
-        | Call::MdlStore { .. }
-        | Call::DirtyPages { .. }
-        | Call::IsDirtyData => None,
+        | Call::MdlStore { .. } => None,
     }
 }
 
@@ -122,17 +118,25 @@ pub fn by_granularity(call: &Call) -> Option<CcError>
     }
 }
 
-/// The refusal of a log that there is not.
+// The refusal of a log that there is not.
+fn by_missing_log(logs: u8, handle: u8) -> Option<CcError>
+    ensures { (u : Setup) → u.logs ≡ logs → result ≡ missing_log u (Some handle) }
+{
+    refuse(
+        logs <= handle,
+        CcError::NoLog {
+            handle: u64::from(handle),
+        },
+    )
+}
+
+/// The refusal of a call that names a log that there is not.
 pub fn by_log(logs: u8, call: &Call) -> Option<CcError>
     ensures { (u : Setup) → u.logs ≡ logs → result ≡ no_log u call.now }
 {
     match call {
-        Call::SetLog { handle, .. } | Call::DirtyPages { handle } => refuse(
-            logs <= *handle,
-            CcError::NoLog {
-                handle: u64::from(*handle),
-            },
-        ),
+        Call::SetLog { handle, .. } => by_missing_log(logs, *handle),
+        Call::Query(query) => by_missing_log(logs, query.log()?),
         _ => None,
     }
 }

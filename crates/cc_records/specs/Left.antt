@@ -4,6 +4,7 @@ use Rattle.std.specs.Prelude.{◌≡◌, ℕ, ◌^◌, ◌⊎◌, min, Result, O
 use Rattle.std.specs.declared.option.Option.TheVariants.{None}
 use Rattle.cc_entry.specs.Place.{File}
 use Rattle.cc_entry.specs.declared.call.Call.TheVariants as call
+use Rattle.cc_entry.specs.declared.query.Query.TheVariants as query
 use Rattle.cc_entry.specs.declared.entry.End.{End}
 use Rattle.cc_entry.specs.declared.entry.End.TheVariants as how
 use Rattle.cc_entry.specs.declared.entry.Entry.TheVariants as entry
@@ -12,6 +13,7 @@ use Rattle.cc_entry.specs.declared.error.CcError.TheVariants as error
 use Rattle.cc_entry.specs.declared.place.FileState.{FileState}
 use Rattle.cc_entry.specs.declared.reply.Outcome.TheVariants as outcome
 use Rattle.cc_entry.specs.declared.reply.Reply.TheVariants as reply
+use Rattle.cc_entry.specs.declared.query.Value.TheVariants as value
 use Rattle.cc_entry.specs.declared.entry.Entry.{Entry}
 use Rattle.cc_effects.specs.Calls.{CallLeft}
 use Rattle.cc_effects.specs.Moments.{IsIdle, PlacedOnly, Between}
@@ -68,7 +70,7 @@ RecordStopped me s first other old new = ⊥
 -- The state of a file was told, and then, from the moment `begun` on, its whole stream was flushed.
 pub record StreamHasFlushed (u : Setup) (me : ℕ) (file : File) (told : FileState) (begun old new : List Entry) : Type 0 where
   pub stated : List Entry
-  pub state : CallLeft u me (call.State file) (outcome.Done (reply.State told)) old stated
+  pub state : CallLeft u me (call.Query (query.State file)) (outcome.Done (reply.Value (value.State told))) old stated
   pub idle : IsIdle me stated begun
   pub flush : CallLeft u me (call.Flush file None) (outcome.Done reply.Unit) begun new
 
@@ -89,7 +91,7 @@ pub record StreamIsSettled (u : Setup) (me : ℕ) (file : File) (answer : FileSt
 pub record IsUnflushed (u : Setup) (me : ℕ) (file : File) (e : CcError) (old new : List Entry) : Type 0 where
   pub told : FileState
   pub stated : List Entry
-  pub state : CallLeft u me (call.State file) (outcome.Done (reply.State told)) old stated
+  pub state : CallLeft u me (call.Query (query.State file)) (outcome.Done (reply.Value (value.State told))) old stated
   pub begun : List Entry
   pub idle : IsIdle me stated begun
   pub flush : CallLeft u me (call.Flush file None) (outcome.Failed e) begun new
@@ -107,5 +109,5 @@ pub record IsUnrecorded (u : Setup) (me : ℕ) (file : File) (e : CcError) (old 
 abbrev pub SettleLeft : Setup → ℕ → File → Result FileState CcError → Between
 SettleLeft u me file (Ok answer) old new = StreamIsSettled u me file answer old new
 SettleLeft u me file (Err e) old new =
-    CallLeft u me (call.State file) (outcome.Failed e) old new
+    CallLeft u me (call.Query (query.State file)) (outcome.Failed e) old new
     ⊎ (IsUnflushed u me file e old new ⊎ IsUnrecorded u me file e old new)

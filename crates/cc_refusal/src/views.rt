@@ -4,10 +4,11 @@ ghost use Rattle.std.specs.Prelude.{◌≡◌, ℕ, ◌+◌, ◌-◌, ◌*◌, �
 ghost use Rattle.std.specs.Option.{option_map};
 ghost use Rattle.cc_entry.specs.declared.entry.Entry.{Entry};
 ghost use Rattle.cc_entry.specs.Pages.{blocks_of, whole_range};
+ghost use Rattle.cc_entry.specs.Queries.{extent_of_query};
 ghost use Rattle.cc_model.specs.History.{Effect};
 ghost use Rattle.cc_model.specs.Touches.{size_of, is_mapped};
 ghost use Rattle.cc_model.specs.Sizes.{stored_range};
-ghost use Rattle.cc_model.specs.Ranges.{range_of, cut_range};
+ghost use Rattle.cc_model.specs.Ranges.{range_of, cut_range, queried_range};
 ghost use Rattle.cc_model.specs.Reasons.{beyond_size};
 ghost use Rattle.cc_model.specs.Views.{viewed, no_views, no_vacbs, not_resident};
 ghost use Rattle.cc_stream.specs.Stream.{StreamStands};
@@ -15,7 +16,7 @@ ghost use Rattle.cc_holds.specs.Stands.{HoldsStand};
 ghost use Rattle.cc_refusal.specs.Known.{AreFreeViews, HasSameBlocks, IsLeastAbsent};
 
 use crate::known::Known;
-use cc_entry::{Call, CcError, NoMemory, Span};
+use cc_entry::{Call, CcError, NoMemory, Query, Span};
 use cc_reasons::refuse;
 use std::alloc::Global;
 
@@ -40,6 +41,14 @@ fn stored(page: u64, size: u64) -> Option<Span>
 {
     let from = page.checked_mul(4096)?;
     Span::new(from, from.saturating_add(4096).min(size))
+}
+
+// The bytes whose pages a query needs, as far as they lie below the size.
+fn queried(size: u64, query: &Query) -> Option<Span>
+    ensures { HasSameBlocks result (queried_range size (extent_of_query query.now)) }
+{
+    let (at, len) = query.extent()?;
+    cut(size, at, len)
 }
 
 // The range whose blocks have to be mapped beside those of open holds, of a call that lies below the size. A
@@ -71,6 +80,7 @@ fn span_viewed(size: u64, call: &Call, absent: Option<u64>) -> Option<Span>
         Call::MdlWrite { at, len, .. } => whole(*at, *len),
         Call::NcStore { page, .. } => stored(*page, size),
         Call::NcWrite { page, .. } => stored(*page, size),
+        Call::Query(query) => queried(size, query),
         _ => None,
     }
 }

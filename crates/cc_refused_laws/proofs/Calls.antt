@@ -74,37 +74,37 @@ refused-files u me it e old new left = refused-is u me KeepsFiles it e old new (
 abbrev pub only_looks : Call → Bool
 only_looks (call.NcRead file page) = true
 only_looks (call.Flush file span) = true
-only_looks (call.State file) = true
+only_looks (call.Query asked) = true
 only_looks other = false
 
 looks-act : (it : Call) → only_looks it ≡ true → act_of it ≡ Looks
 looks-act (call.NcRead file page) is = refl
 looks-act (call.Flush file span) is = refl
-looks-act (call.State file) is = refl
+looks-act (call.Query asked) is = refl
 looks-act other is = absurd (cc)
 
 looks-holds : (it : Call) → only_looks it ≡ true → changes_holds it ≡ false
 looks-holds (call.NcRead file page) is = refl
 looks-holds (call.Flush file span) is = refl
-looks-holds (call.State file) is = refl
+looks-holds (call.Query asked) is = refl
 looks-holds other is = absurd (cc)
 
 looks-sets : (it : Call) → only_looks it ≡ true → makes_setting it ≡ false
 looks-sets (call.NcRead file page) is = refl
 looks-sets (call.Flush file span) is = refl
-looks-sets (call.State file) is = refl
+looks-sets (call.Query asked) is = refl
 looks-sets other is = absurd (cc)
 
 looks-reads : (it : Call) → only_looks it ≡ true → concerns_reads it ≡ false
 looks-reads (call.NcRead file page) is = refl
 looks-reads (call.Flush file span) is = refl
-looks-reads (call.State file) is = refl
+looks-reads (call.Query asked) is = refl
 looks-reads other is = absurd (cc)
 
 looks-made : (me nth : ℕ) (stream : Option ℕ) (it : Call) (r : Reply) → only_looks it ≡ true → holds_made_by (entry.Call me nth stream it (outcome.Done r)) ≡ 0
 looks-made me nth stream (call.NcRead file page) r is = refl
 looks-made me nth stream (call.Flush file span) r is = refl
-looks-made me nth stream (call.State file) r is = refl
+looks-made me nth stream (call.Query asked) r is = refl
 looks-made me nth stream other r is = absurd (cc)
 
 looked-file : (me nth : ℕ) (stream : Option ℕ) (it : Call) (r : Reply) (past : List Entry) (s : ℕ) → only_looks it ≡ true → SameFile (history (entry.Call me nth stream it (outcome.Done r) ∷ past) s) (history past s)

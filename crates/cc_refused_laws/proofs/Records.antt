@@ -4,6 +4,7 @@ use Rattle.std.specs.declared.option.Option.TheVariants.{None}
 use Rattle.std.proofs.Common.{inl, inr}
 use Rattle.cc_entry.specs.Place.{File}
 use Rattle.cc_entry.specs.declared.call.Call.TheVariants as call
+use Rattle.cc_entry.specs.declared.query.Query.TheVariants as query
 use Rattle.cc_entry.specs.declared.entry.End.{End}
 use Rattle.cc_entry.specs.declared.entry.End.TheVariants as how
 use Rattle.cc_entry.specs.declared.entry.Entry.{Entry}
@@ -12,6 +13,7 @@ use Rattle.cc_entry.specs.declared.error.CcError.{CcError}
 use Rattle.cc_entry.specs.declared.error.CcError.TheVariants as error
 use Rattle.cc_entry.specs.declared.place.FileState.{FileState}
 use Rattle.cc_entry.specs.declared.reply.Reply.TheVariants as reply
+use Rattle.cc_entry.specs.declared.query.Value.TheVariants as value
 use Rattle.cc_model.specs.History.{history}
 use Rattle.cc_model.specs.Setup.{Setup}
 use Rattle.cc_model.specs.Touches.{valid_of}
@@ -56,14 +58,14 @@ stopped-files me s first other old new left = absurd left
 
 flushed-files : (u : Setup) (me : ℕ) (file : File) (told : FileState) (begun old new : List Entry) → StreamHasFlushed u me file told begun old new → ChangedNoFile me old new
 flushed-files u me file told begun old new has =
-    is-then me KeepsFiles old has.stated new (looked-files u me (call.State file) (reply.State told) old has.stated refl has.state)
+    is-then me KeepsFiles old has.stated new (looked-files u me (call.Query (query.State file)) (reply.Value (value.State told)) old has.stated refl has.state)
     (is-then me KeepsFiles has.stated begun new (is-idle me KeepsFiles has.stated begun has.idle)
     (looked-files u me (call.Flush file None) reply.Unit begun new refl has.flush))
 
 pub settle-files : (u : Setup) (me : ℕ) (file : File) (e : CcError) (old new : List Entry) → SettleLeft u me file (Err e) old new → ChangedNoFile me old new
-settle-files u me file e old new (inl left) = refused-files u me (call.State file) e old new left
+settle-files u me file e old new (inl left) = refused-files u me (call.Query (query.State file)) e old new left
 settle-files u me file e old new (inr (inl left)) =
-    is-then me KeepsFiles old left.stated new (looked-files u me (call.State file) (reply.State left.told) old left.stated refl left.state)
+    is-then me KeepsFiles old left.stated new (looked-files u me (call.Query (query.State file)) (reply.Value (value.State left.told)) old left.stated refl left.state)
     (is-then me KeepsFiles left.stated left.begun new (is-idle me KeepsFiles left.stated left.begun left.idle)
     (refused-files u me (call.Flush file None) e left.begun new left.flush))
 settle-files u me file e old new (inr (inr left)) =

@@ -10,6 +10,7 @@ use Rattle.cc_entry.specs.Place.{Range}
 use Rattle.cc_entry.specs.declared.entry.Entry.{Entry}
 use Rattle.cc_entry.specs.declared.entry.Entry.TheVariants as entry
 use Rattle.cc_entry.specs.declared.call.Call.TheVariants as call
+use Rattle.cc_entry.specs.declared.query.Query.TheVariants as query
 use Rattle.cc_entry.specs.declared.reply.Outcome.TheVariants as outcome
 use Rattle.cc_log.specs.Turn.{appended}
 use Rattle.cc_laws.proofs.ByteSteps.{byte_of-above, byte_of-below}
@@ -334,7 +335,7 @@ module _ (u : Setup) (whole : List Entry) (s log first durable : ℕ) (pages : �
     module _ (rows : List OldestRow) (before past : List Entry) (all : whole ≡ before ++ past) (k : IsCheckpoint s log rows past) (earlier : IsAppended log last.entry.lsn last.entry.bytes past)
         (oldest : (row : OldestRow) → IsAmong rows row → is_given streams row.stream ≡ true → from ≤ row.oldest) where
       abbrev listing : Entry
-      listing = entry.Call k.pass k.nth None (call.DirtyPages log) (outcome.Done k.reply)
+      listing = entry.Call k.pass k.nth None (call.Query (query.DirtyPages log)) (outcome.Done k.reply)
 
       good_past : IsGoodSoFar u past
       good_past = good-rest' u before past (subst (λ (l : List Entry). IsGoodSoFar u l) all good)

@@ -9,6 +9,7 @@ use Rattle.std.proofs.lemmas.Bool.{eqb-true, eq-eqb, or_parts}
 use Rattle.cc_entry.specs.Pages.{has_page}
 use Rattle.cc_entry.specs.declared.call.Call.{Call}
 use Rattle.cc_entry.specs.declared.call.Call.TheVariants as call
+use Rattle.cc_entry.specs.declared.query.Query.TheVariants as query
 use Rattle.cc_entry.specs.declared.entry.End.TheVariants as how
 use Rattle.cc_entry.specs.declared.entry.Entry.{Entry}
 use Rattle.cc_entry.specs.declared.entry.Entry.TheVariants as entry
@@ -90,14 +91,14 @@ no-append pass nth log lister lsn it reply bytes is = cc
 pub was-stamped : (s log lsn at : ℕ) (bytes spelled : List ℕ) (rows : List OldestRow) (past : List Entry) (k : IsCheckpoint s log rows past) → IsAppended log lsn spelled past → said_by spelled ≡ Some (Update s at bytes) →
     WasStamped s log lsn k.listed
 was-stamped s log lsn at bytes spelled rows past k is said =
-    go (appended-in log lsn spelled k.later (entry.Call k.pass k.nth None (call.DirtyPages log) (outcome.Done k.reply) ∷ k.listed) (subst (λ (l : List Entry). IsAppended log lsn spelled l) k.splits is))
+    go (appended-in log lsn spelled k.later (entry.Call k.pass k.nth None (call.Query (query.DirtyPages log)) (outcome.Done k.reply) ∷ k.listed) (subst (λ (l : List Entry). IsAppended log lsn spelled l) k.splits is))
   where
     stamped : IsAppended log lsn spelled k.listed → WasStamped s log lsn k.listed
     stamped here = let at_place = append-at log lsn spelled k.listed here in k.stamped lsn (record { pass = at_place.pass; at = at; bytes = bytes; spelled = spelled; later = at_place.later; front = at_place.front; splits = at_place.splits; said = said })
 
-    go : IsAppended log lsn spelled k.later ⊎ IsAppended log lsn spelled (entry.Call k.pass k.nth None (call.DirtyPages log) (outcome.Done k.reply) ∷ k.listed) → WasStamped s log lsn k.listed
+    go : IsAppended log lsn spelled k.later ⊎ IsAppended log lsn spelled (entry.Call k.pass k.nth None (call.Query (query.DirtyPages log)) (outcome.Done k.reply) ∷ k.listed) → WasStamped s log lsn k.listed
     go (inl since) = absurd (none-recorded s log lsn at bytes spelled k.later said k.none_since since)
-    go (inr (inl here)) = absurd (no-append here.0 k.nth log k.pass lsn (call.DirtyPages log) k.reply spelled here.1)
+    go (inr (inl here)) = absurd (no-append here.0 k.nth log k.pass lsn (call.Query (query.DirtyPages log)) k.reply spelled here.1)
     go (inr (inr before)) = stamped before
 
 -- ---- the rows of the table
@@ -250,7 +251,7 @@ module _ (u : Setup) (s log p : ℕ) (whole : List Entry) (pages : ℕ → List 
       IsFrontOf whole (later ++ past) → has_page (range_of w.it) p ≡ true → 4096 * p < size_of (history whole s) → ((front : List Entry) → IsFrontOf whole front → had_map (history front s) ≡ true → size_of (history front s) ≡ size_of (history whole s)) →
       (has_stamp lsn (touches false (history k.listed s) p) ≡ true → ⊥) → CrashLeaves ⊥ (Behind u s log p whole (base_of lsn k.listed w)) pages s p (history (later ++ past) s)
   leaves-behind lsn rows later past k w good updated within in_range in_size sizes gone =
-      let listing : Entry = entry.Call k.pass k.nth None (call.DirtyPages log) (outcome.Done k.reply) in
+      let listing : Entry = entry.Call k.pass k.nth None (call.Query (query.DirtyPages log)) (outcome.Done k.reply) in
       let base : List Entry = w.stamp ∷ w.front in
       let good_past : IsGoodSoFar u past = good-rest' u later past good in
       let updated_past : IsUpdated s log past = updated-rest s log later past updated in

@@ -7,6 +7,7 @@ use Rattle.std.specs.declared.option.Option.TheVariants.{Some, None}
 use Rattle.cc_entry.specs.Kinds.{is_pin}
 use Rattle.cc_entry.specs.declared.call.Call.{Call}
 use Rattle.cc_entry.specs.declared.call.Call.TheVariants as call
+use Rattle.cc_entry.specs.declared.query.Query.TheVariants as query
 use Rattle.cc_entry.specs.declared.entry.End.TheVariants as how
 use Rattle.cc_entry.specs.declared.entry.Entry.{Entry}
 use Rattle.cc_entry.specs.declared.entry.Entry.TheVariants as entry
@@ -155,12 +156,12 @@ pub record IsCheckpoint (s log : ℕ) (rows : List OldestRow) (past : List Entry
   pub reply : Reply
   pub later : List Entry
   pub listed : List Entry
-  pub splits : past ≡ later ++ entry.Call pass nth None (call.DirtyPages log) (outcome.Done reply) ∷ listed
+  pub splits : past ≡ later ++ entry.Call pass nth None (call.Query (query.DirtyPages log)) (outcome.Done reply) ∷ listed
   pub told : rows ≡ map row_told (dirty_table listed log)
   pub stamped : (lsn : ℕ) → HasRecorded s log lsn listed → WasStamped s log lsn listed
   pub none_since : list_any (records_update s log) later ≡ false
   pub synced : had_map (history listed s) ≡ true →
-      HasSyncedSince s (entry.Call pass nth None (call.DirtyPages log) (outcome.Done reply) ∷ listed) past
+      HasSyncedSince s (entry.Call pass nth None (call.Query (query.DirtyPages log)) (outcome.Done reply) ∷ listed) past
 
 -- What may be appended to the log: an entry that says an update of the stream, or a checkpoint, is one.
 abbrev pub MayLogRecord : ℕ → ℕ → ℕ → Option LogRecord → List Entry → Type 0

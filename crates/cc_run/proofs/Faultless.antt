@@ -1,16 +1,19 @@
 -- A run in which no count of faults rose shows no failure and tells none.
-use Rattle.std.specs.Prelude.{◌≡◌, ℕ, zero, suc, ◌+◌, ◌<◌, ◌≤◌, Bool, true, false, ◌==◌, ◌&&◌, nat_le, List, [], ◌∷◌, ◌++◌, length, reverse, slice_get, take, IfOk, Result, Ok, Err, refl, if◌then◌else◌}
-use Rattle.std.specs.declared.option.Option.TheVariants.{Some}
+use Rattle.std.specs.declared.option.Option.{Option}
+use Rattle.std.specs.Prelude.{◌≡◌, ℕ, zero, suc, ◌+◌, ◌<◌, ◌≤◌, Bool, true, false, ◌==◌, ◌&&◌, nat_le, List, [], ◌∷◌, ◌++◌, length, reverse, slice_get, take, IfOk, Result, Ok, Err, refl, if◌then◌else◌, IfSome}
+use Rattle.std.specs.declared.option.Option.TheVariants.{Some, None}
 use Rattle.std.specs.List.{AllByRecursion, list_any}
 use Rattle.std.proofs.Common.{ap, arith, eq-eqb}
 use Rattle.std.proofs.lemmas.Bool.{and_parts, leb-true}
 use Rattle.std.proofs.lemmas.List.{length-take}
+use Rattle.cc_entry.specs.Place.{File}
+use Rattle.cc_entry.specs.Queries.{file_of_query}
 use Rattle.cc_entry.specs.declared.answer.LineReply.{LineReply}
 use Rattle.cc_entry.specs.declared.entry.End.{End}
 use Rattle.cc_entry.specs.declared.entry.End.TheVariants as how
 use Rattle.cc_entry.specs.declared.entry.Entry.{Entry}
 use Rattle.cc_entry.specs.declared.entry.Entry.TheVariants as entry
-use Rattle.cc_script.specs.Within.{IsActionWithin, IsLineWithin, ScriptIsWithin}
+use Rattle.cc_script.specs.Within.{IsActionWithin, IsLineWithin, ScriptIsWithin, IsFileWithin}
 use Rattle.cc_script.specs.declared.script.Action.{Action}
 use Rattle.cc_script.specs.declared.script.Action.TheVariants as action
 use Rattle.cc_script.specs.declared.script.ActionLine.{ActionLine}
@@ -127,8 +130,11 @@ action-below streams n (action.MdlBytes _ _ _) few within = tt
 action-below streams n (action.MdlStore _ _ _) few within = tt
 action-below streams n (action.MdlDone _) few within = tt
 action-below streams n (action.MdlAbort _) few within = tt
-action-below streams n action.IsDirtyData few within = tt
-action-below streams n (action.DirtyPages _) few within = tt
+action-below streams n (action.Query asked) few within = by (file_of_query asked) within
+  where
+    by : (named : Option File) → IfSome named (λ file. IsFileWithin streams file) → IfSome named (λ file. file.stream < n)
+    by None within = tt
+    by (Some file) within = omega (arith, few, within.stream)
 action-below streams n (action.Checkpoint count _) few within = λ s low. omega (arith, low, within, few)
 action-below streams n (action.Append _ _) few within = tt
 action-below streams n (action.LogFlush _ _) few within = tt

@@ -20,6 +20,7 @@ use Rattle.cc_format.specs.declared.record.StreamRecord.TheVariants.{V1, V2}
 use Rattle.cc_records.specs.Left.{LoadLeft}
 use Rattle.cc_entry.specs.declared.place.Request.{Request}
 use Rattle.cc_entry.specs.declared.reply.Reply.TheVariants as reply
+use Rattle.cc_entry.specs.declared.query.Value.TheVariants as value
 use Rattle.cc_script.specs.declared.script.Action.{Action}
 use Rattle.cc_script.specs.declared.script.Action.TheVariants as action
 use Rattle.cc_script.specs.declared.script.ActionLine.{ActionLine}
@@ -143,7 +144,7 @@ load-placed s (Err other) place old new left = absurd left
 
 migration-placed : (u : Setup) (s : ℕ) (told : Answer) (place : AheadQueuePlace) (old new : List Entry) → MigrationLeft u s told old new → PlaceRan 0 [] place place old new
 migration-placed u s (answer.Given reply.Unit) place old new left =
-    placed-line u 0 (action.Settle (first_object_of s)) (answer.Given (reply.State left.0)) place old new refl refl left.1
+    placed-line u 0 (action.Settle (first_object_of s)) (answer.Given (reply.Value (value.State left.0))) place old new refl refl left.1
 migration-placed u s (answer.Refused e) place old new left =
     placed-line u 0 (action.Settle (first_object_of s)) (answer.Refused e) place old new refl refl left
 migration-placed u s other place old new left = absurd left

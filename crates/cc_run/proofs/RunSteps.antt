@@ -1,9 +1,12 @@
 -- A run on a desk: where it begins, what it may serve, and the disks at its end.
-use Rattle.std.specs.Prelude.{◌≡◌, ℕ, zero, suc, ◌+◌, ◌<◌, ◌≤◌, nat_le, nat_lt, Bool, true, false, ◌&&◌, List, [], ◌∷◌, All, length, take, slice_get, refl}
+use Rattle.std.specs.declared.option.Option.TheVariants.{Some, None}
+use Rattle.std.specs.Prelude.{◌≡◌, ℕ, zero, suc, ◌+◌, ◌<◌, ◌≤◌, nat_le, nat_lt, Bool, true, false, ◌&&◌, List, [], ◌∷◌, All, length, take, slice_get, refl, IfSome}
 use Rattle.std.specs.List.{AllByRecursion, list_all}
 use Rattle.std.proofs.Common.{sym, ap, subst, ◌∙◌, arith, get_or}
 use Rattle.std.proofs.lemmas.Bool.{leb-true, ltb-true}
 use Rattle.std.proofs.lemmas.List.{length-map, length-append}
+use Rattle.cc_entry.specs.Place.{File}
+use Rattle.cc_entry.specs.Queries.{file_of_query}
 use Rattle.cc_entry.specs.declared.answer.LineReply.{LineReply}
 use Rattle.cc_entry.specs.declared.entry.Entry.{Entry}
 use Rattle.cc_traits.specs.Disk.{Disk}
@@ -18,7 +21,7 @@ use Rattle.cc_script.specs.declared.script.StreamLine.{StreamLine}
 use Rattle.cc_script.specs.declared.script.Mode.TheVariants as mode
 use Rattle.cc_script.specs.EventActions.{defer_lines}
 use Rattle.cc_script.specs.Modes.{IsLineOf, action_modes, stands}
-use Rattle.cc_script.specs.Within.{IsActionWithin, IsLineWithin}
+use Rattle.cc_script.specs.Within.{IsActionWithin, IsLineWithin, IsFileWithin}
 use Rattle.cc_model.specs.Setup.{Setup}
 use Rattle.cc_turns.specs.Disk.{DiskStands}
 use Rattle.cc_turns.specs.Log.{FileStands}
@@ -45,7 +48,11 @@ servable streams n (action.PreparePin file at len word zeroed exclusive) few mos
 servable streams n (action.MdlRead file at len word) few most run within = let there = within.stream in omega (arith, there, few)
 servable streams n (action.MdlWrite file at len word) few most run within = let there = within.stream in omega (arith, there, few)
 servable streams n (action.SetSizes file allocation size) few most run within = let there = within.stream in omega (arith, there, few)
-servable streams n (action.State file) few most run within = let there = within.stream in omega (arith, there, few)
+servable streams n (action.Query asked) few most run within = by (file_of_query asked) within
+  where
+    by : (named : Option File) → IfSome named (λ file. IsFileWithin streams file) → IfSome named (λ file. file.stream < n)
+    by None within = tt
+    by (Some file) within = let there = within.stream in omega (arith, there, few)
 servable streams n (action.Flush file span) few most run within = let there = within.stream in omega (arith, there, few)
 servable streams n (action.Purge file span) few most run within = let there = within.stream in omega (arith, there, few)
 servable streams n (action.Discard file span) few most run within = let there = within.stream in omega (arith, there, few)
@@ -59,7 +66,6 @@ servable streams n (action.Levels file) few most run within = let there = within
 servable streams n (action.Settle file) few most run within = let there = within.stream in omega (arith, there, few)
 servable streams n (action.Checkpoint count handle) few most run within = (omega (arith, within, few), omega (arith, within, most))
 servable streams n (action.NcWrite file at bytes) few most run within = let there = within.stream in omega (arith, there, few)
-servable streams n (action.LsnForFile file) few most run within = let there = within.stream in omega (arith, there, few)
 servable streams n (action.SetLog file handle) few most run within = let there = within.stream in omega (arith, there, few)
 servable streams n (action.PinMapped word exclusive) few most run within = tt
 servable streams n (action.HeldRead word at len) few most run within = tt
@@ -72,10 +78,8 @@ servable streams n (action.MdlBytes word at len) few most run within = tt
 servable streams n (action.MdlStore word at bytes) few most run within = tt
 servable streams n (action.MdlDone word) few most run within = tt
 servable streams n (action.MdlAbort word) few most run within = tt
-servable streams n (action.DirtyPages handle) few most run within = tt
 servable streams n (action.Append handle bytes) few most run within = tt
 servable streams n (action.LogFlush handle lsn) few most run within = tt
-servable streams n action.IsDirtyData few most run within = tt
 servable streams n (action.SetGranularity file bytes) few most run within = let there = within.stream in omega (arith, there, few)
 servable streams n (action.SetAttributes file no_read_ahead no_write_behind) few most run within = let there = within.stream in omega (arith, there, few)
 servable streams n (action.SetThreshold file pages) few most run within = let there = within.stream in omega (arith, there, few)
@@ -93,7 +97,6 @@ servable streams n action.AheadStep few most run within = tt
 servable streams n (action.AsyncRead file at len) few most run within = let there = within.stream in omega (arith, there, few)
 servable streams n action.Complete few most run within = tt
 servable streams n action.Tick few most run within = tt
-servable streams n (action.CanWrite file bytes) few most run within = let there = within.stream in omega (arith, there, few)
 servable streams n (action.Defer file bytes retrying) few most run within = let there = within.stream in omega (arith, there, few)
 servable streams n action.Post few most run within = tt
 

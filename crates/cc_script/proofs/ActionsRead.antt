@@ -10,16 +10,18 @@ use Rattle.cc_script.specs.declared.verb.Verb.{Verb}
 use Rattle.cc_script.specs.declared.verb.Verb.TheVariants as verb
 use Rattle.cc_script.specs.Words.{parsed_number, number_between, name_of_word, parsed_bytes}
 use Rattle.cc_script.specs.HoldNames.{word_of, new_word}
-use Rattle.cc_script.specs.Actions.{next, flag, ended, parsed_file, parsed_span, parsed_optional_span, parsed_optional_number, parsed_quota, parsed_sizes, parsed_initialise, parsed_uninitialise, parsed_copy_read, parsed_copy_write, parsed_zero, parsed_nc_read, parsed_nc_write, parsed_set_sizes, parsed_state, parsed_flush, parsed_purge, parsed_discard, parsed_set_log, parsed_append, parsed_log_flush, parsed_dirty_pages, parsed_lsn_for_file}
+use Rattle.cc_script.specs.Actions.{next, flag, ended, parsed_file, parsed_span, parsed_optional_span, parsed_optional_number, parsed_quota, parsed_sizes, parsed_initialise, parsed_uninitialise, parsed_copy_read, parsed_copy_write, parsed_zero, parsed_nc_read, parsed_nc_write, parsed_set_sizes, parsed_flush, parsed_purge, parsed_discard, parsed_set_log, parsed_append, parsed_log_flush}
 use Rattle.cc_script.specs.HoldActions.{parsed_stretch, parsed_map, parsed_pin_read, parsed_pin_mapped, parsed_prepare_pin, parsed_held_read, parsed_pinned_write, parsed_stamp, parsed_set_dirty, parsed_unpin, parsed_repin, parsed_unpin_repinned, parsed_mdl_read, parsed_mdl_write, parsed_mdl_bytes, parsed_mdl_store, parsed_mdl_done, parsed_mdl_abort}
-use Rattle.cc_script.specs.EventActions.{nc_read_in, nc_write_in, parsed_nc_store_page, parsed_ask_ahead, parsed_set_granularity, parsed_set_attributes, parsed_set_threshold, parsed_fill, parsed_drop, parsed_write_begin, parsed_write_end, parsed_sync, parsed_can_write, parsed_defer, parsed_async_read}
+use Rattle.cc_script.specs.EventActions.{nc_read_in, nc_write_in, parsed_nc_store_page, parsed_ask_ahead, parsed_set_granularity, parsed_set_attributes, parsed_set_threshold, parsed_fill, parsed_drop, parsed_write_begin, parsed_write_end, parsed_sync, parsed_defer, parsed_async_read}
+use Rattle.cc_script.specs.QueryLines.{parsed_query}
 use Rattle.cc_script.specs.ShimActions.{parsed_read, parsed_write, parsed_update, parsed_levels, parsed_settle, parsed_checkpoint, parsed_lock, parsed_unlock}
 use Rattle.cc_script.specs.ActionTable.{action_of}
 use Rattle.cc_script.specs.Modes.{Both, RunAlone, stands, verb_modes}
 use Rattle.cc_script.specs.Within.{IsFileWithin}
 use Rattle.cc_script.proofs.Steps.{then-gives, next-gives, ended-gives, between-gives, file-gives, bytes-give}
 use Rattle.cc_script.proofs.Plain.{IsRead, IsPlain, none-bound}
-use Rattle.cc_script.proofs.EventsRead.{nc_read_page-gives, nc_store_page-gives, nc_write_page-gives, set_granularity-gives, set_attributes-gives, set_threshold-gives, fill-gives, drop-gives, write_begin-gives, write_end-gives, sync-gives, scan-gives, ask_ahead-gives, ahead_step-gives, tick-gives, can_write-gives, defer-gives, post-gives, async_read-gives, complete-gives}
+use Rattle.cc_script.proofs.EventsRead.{nc_read_page-gives, nc_store_page-gives, nc_write_page-gives, set_granularity-gives, set_attributes-gives, set_threshold-gives, fill-gives, drop-gives, write_begin-gives, write_end-gives, sync-gives, scan-gives, ask_ahead-gives, ahead_step-gives, tick-gives, defer-gives, post-gives, async_read-gives, complete-gives}
+use Rattle.cc_script.proofs.QueriesRead.{query-gives}
 use Rattle.cc_script.proofs.ShimRead.{read-gives, write-gives, update-gives, levels-gives, settle-gives, checkpoint-gives, lock-gives, unlock-gives}
 
 -- a new word has the next number
@@ -150,15 +152,6 @@ set_sizes-gives m streams ws a e =
     subst (IsPlain m streams) end.1
     (record { file = file-gives streams f.word file.0.0 f.reads; moved = omega arith; numbered = λ n. refl; in_mode = refl })
 
-state-gives : (m : Mode) (streams : List StreamLine) (ws : List (List ℕ)) (a : Action) → parsed_state streams ws ≡ Some a → IsPlain m streams a
-unfolding parsed_state
-state-gives m streams ws a e =
-    let file = then-gives (next (parsed_file streams) ws) _ a e in
-    let end = ended-gives _ _ a file.2 in
-    let f = next-gives (parsed_file streams) ws file.0.0 file.0.1 file.1 in
-    subst (IsPlain m streams) end.1
-    (record { file = file-gives streams f.word file.0.0 f.reads; moved = omega arith; numbered = λ n. refl; in_mode = refl })
-
 flush-gives : (m : Mode) (streams : List StreamLine) (ws : List (List ℕ)) (a : Action) → parsed_flush streams ws ≡ Some a → IsPlain m streams a
 unfolding parsed_flush
 flush-gives m streams ws a e =
@@ -188,11 +181,6 @@ discard-gives m streams ws a e =
     let same : action.Discard file.0.0 span.0 ≡ a = cc in
     subst (IsPlain m streams) same
     (record { file = file-gives streams f.word file.0.0 f.reads; moved = omega arith; numbered = λ n. refl; in_mode = refl })
-
-is_dirty-gives : (m : Mode) (streams : List StreamLine) (ws : List (List ℕ)) (a : Action) → ended ws action.IsDirtyData ≡ Some a → IsPlain m streams a
-is_dirty-gives m streams ws a e =
-    subst (IsPlain m streams) (ended-gives ws action.IsDirtyData a e).1
-    (record { file = tt; moved = omega arith; numbered = λ n. refl; in_mode = refl })
 
 set_log-gives : (m : Mode) (streams : List StreamLine) (ws : List (List ℕ)) (a : Action) → parsed_set_log streams ws ≡ Some a → IsPlain m streams a
 unfolding parsed_set_log
@@ -367,22 +355,6 @@ mdl_abort-gives m streams names ws a e =
     let end = ended-gives _ _ a word.2 in
     subst (IsPlain m streams) end.1 (record { file = tt; moved = omega arith; numbered = λ n. refl; in_mode = refl })
 
-dirty_pages-gives : (m : Mode) (streams : List StreamLine) (ws : List (List ℕ)) (a : Action) → parsed_dirty_pages ws ≡ Some a → IsPlain m streams a
-unfolding parsed_dirty_pages
-dirty_pages-gives m streams ws a e =
-    let log = then-gives (next (number_between 0 3) ws) _ a e in
-    let end = ended-gives _ _ a log.2 in
-    subst (IsPlain m streams) end.1 (record { file = tt; moved = omega arith; numbered = λ n. refl; in_mode = refl })
-
-lsn_for_file-gives : (m : Mode) (streams : List StreamLine) (ws : List (List ℕ)) (a : Action) → parsed_lsn_for_file streams ws ≡ Some a → IsPlain m streams a
-unfolding parsed_lsn_for_file
-lsn_for_file-gives m streams ws a e =
-    let file = then-gives (next (parsed_file streams) ws) _ a e in
-    let end = ended-gives _ _ a file.2 in
-    let f = next-gives (parsed_file streams) ws file.0.0 file.0.1 file.1 in
-    subst (IsPlain m streams) end.1
-    (record { file = file-gives streams f.word file.0.0 f.reads; moved = omega arith; numbered = λ n. refl; in_mode = refl })
-
 -- a noncached line in either mode
 nc_read_in-gives : (m : Mode) (streams : List StreamLine) (ws : List (List ℕ)) (a : Action) → nc_read_in m streams ws ≡ Some a → IsPlain m streams a
 nc_read_in-gives mode.Run streams ws a e = nc_read-gives streams ws a e
@@ -403,7 +375,7 @@ action-gives m streams names verb.Zero ws found in_mode e = none-bound m streams
 action-gives m streams names verb.NcRead ws found in_mode e = none-bound m streams names (nc_read_in m streams ws) found (nc_read_in-gives m streams ws) e
 action-gives m streams names verb.NcWrite ws found in_mode e = none-bound m streams names (nc_write_in m streams ws) found (nc_write_in-gives m streams ws) e
 action-gives m streams names verb.SetSizes ws found in_mode e = none-bound m streams names (parsed_set_sizes streams ws) found (set_sizes-gives m streams ws) e
-action-gives m streams names verb.State ws found in_mode e = none-bound m streams names (parsed_state streams ws) found (state-gives m streams ws) e
+action-gives m streams names (verb.Query asked) ws found in_mode e = none-bound m streams names (parsed_query streams asked ws) found (query-gives m streams asked ws) e
 action-gives m streams names verb.Flush ws found in_mode e = none-bound m streams names (parsed_flush streams ws) found (flush-gives m streams ws) e
 action-gives m streams names verb.Purge ws found in_mode e = none-bound m streams names (parsed_purge streams ws) found (purge-gives m streams ws) e
 action-gives m streams names verb.Discard ws found in_mode e = none-bound m streams names (parsed_discard streams ws) found (discard-gives m streams ws) e
@@ -415,12 +387,9 @@ action-gives m streams names verb.Unlock ws found in_mode e = none-bound m strea
 action-gives m streams names verb.Levels ws found in_mode e = none-bound m streams names (parsed_levels streams ws) found (levels-gives m streams ws in_mode) e
 action-gives m streams names verb.Settle ws found in_mode e = none-bound m streams names (parsed_settle streams ws) found (settle-gives m streams ws in_mode) e
 action-gives m streams names verb.Checkpoint ws found in_mode e = none-bound m streams names (parsed_checkpoint streams ws) found (checkpoint-gives m streams ws in_mode) e
-action-gives m streams names verb.IsDirtyData ws found in_mode e = none-bound m streams names (ended ws action.IsDirtyData) found (is_dirty-gives m streams ws) e
 action-gives m streams names verb.SetLog ws found in_mode e = none-bound m streams names (parsed_set_log streams ws) found (set_log-gives m streams ws) e
 action-gives m streams names verb.Append ws found in_mode e = none-bound m streams names (parsed_append ws) found (append-gives m streams ws) e
 action-gives m streams names verb.LogFlush ws found in_mode e = none-bound m streams names (parsed_log_flush ws) found (log_flush-gives m streams ws) e
-action-gives m streams names verb.DirtyPages ws found in_mode e = none-bound m streams names (parsed_dirty_pages ws) found (dirty_pages-gives m streams ws) e
-action-gives m streams names verb.LsnForFile ws found in_mode e = none-bound m streams names (parsed_lsn_for_file streams ws) found (lsn_for_file-gives m streams ws) e
 action-gives m streams names verb.PinMapped ws found in_mode e = none-bound m streams names (parsed_pin_mapped names ws) found (pin_mapped-gives m streams names ws) e
 action-gives m streams names verb.HeldRead ws found in_mode e = none-bound m streams names (parsed_held_read names ws) found (held_read-gives m streams names ws) e
 action-gives m streams names verb.PinnedWrite ws found in_mode e = none-bound m streams names (parsed_pinned_write names ws) found (pinned_write-gives m streams names ws) e
@@ -452,7 +421,6 @@ action-gives m streams names verb.AheadStep ws found in_mode e = none-bound m st
 action-gives m streams names verb.AsyncRead ws found in_mode e = none-bound m streams names (parsed_async_read streams ws) found (async_read-gives m streams ws in_mode) e
 action-gives m streams names verb.Complete ws found in_mode e = none-bound m streams names (ended ws action.Complete) found (complete-gives m streams ws in_mode) e
 action-gives m streams names verb.Tick ws found in_mode e = none-bound m streams names (ended ws action.Tick) found (tick-gives m streams ws in_mode) e
-action-gives m streams names verb.CanWrite ws found in_mode e = none-bound m streams names (parsed_can_write streams ws) found (can_write-gives m streams ws) e
 action-gives m streams names verb.Defer ws found in_mode e = none-bound m streams names (parsed_defer streams ws) found (defer-gives m streams ws) e
 action-gives m streams names verb.Post ws found in_mode e = none-bound m streams names (ended ws action.Post) found (post-gives m streams ws) e
 action-gives m streams names verb.Stream ws found in_mode e = absurd (cc)

@@ -11,7 +11,7 @@ use Rattle.cc_script.specs.declared.script.Action.{Action}
 use Rattle.cc_script.specs.declared.script.Action.TheVariants as action
 use Rattle.cc_script.specs.Words.{parsed_number, number_between, parsed_bytes}
 use Rattle.cc_script.specs.Actions.{next, ended, stream_named, parsed_file}
-use Rattle.cc_script.specs.EventActions.{page_number, parsed_page, parsed_fill, parsed_drop, parsed_write_begin, parsed_write_end, parsed_sync, parsed_nc_read_page, parsed_nc_store_page, parsed_nc_write_page, parsed_ask_ahead, parsed_async_read, parsed_can_write, parsed_defer, parsed_set_granularity, parsed_set_attributes, parsed_set_threshold}
+use Rattle.cc_script.specs.EventActions.{page_number, parsed_page, parsed_fill, parsed_drop, parsed_write_begin, parsed_write_end, parsed_sync, parsed_nc_read_page, parsed_nc_store_page, parsed_nc_write_page, parsed_ask_ahead, parsed_async_read, parsed_defer, parsed_set_granularity, parsed_set_attributes, parsed_set_threshold}
 use Rattle.cc_script.specs.Modes.{RunAlone, StepsAlone, stands}
 use Rattle.cc_script.specs.Within.{IsPageWithin, IsFilePageWithin}
 use Rattle.cc_script.proofs.Steps.{then-gives, if-gives, next-gives, ended-gives, between-gives, position-below, file-gives}
@@ -164,16 +164,6 @@ nc_store_page-gives m streams ws in_mode a e =
     let of_file = file_page-gives streams ws file.0.1 page.0.1 file.0.0 page.0.0 file.1 page.1 in
     let len : length bytes.0.0 ≡ 4096 = grind (arith, nat_tests, whole.0) in
     subst (IsPlain m streams) end.1 (record { file = (of_file, len); moved = omega (arith, len); numbered = λ n. refl; in_mode = in_mode })
-
-pub can_write-gives : (m : Mode) (streams : List StreamLine) (ws : List (List ℕ)) → (a : Action) → parsed_can_write streams ws ≡ Some a → IsPlain m streams a
-unfolding parsed_can_write
-can_write-gives m streams ws a e =
-    let file = then-gives (next (parsed_file streams) ws) _ a e in
-    let bytes = then-gives (next parsed_number file.0.1) _ a file.2 in
-    let end = ended-gives _ _ a bytes.2 in
-    let f = next-gives (parsed_file streams) ws file.0.0 file.0.1 file.1 in
-    subst (IsPlain m streams) end.1
-    (record { file = file-gives streams f.word file.0.0 f.reads; moved = omega arith; numbered = λ n. refl; in_mode = refl })
 
 pub defer-gives : (m : Mode) (streams : List StreamLine) (ws : List (List ℕ)) → (a : Action) → parsed_defer streams ws ≡ Some a → IsPlain m streams a
 unfolding parsed_defer

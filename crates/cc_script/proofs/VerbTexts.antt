@@ -2,6 +2,7 @@
 use Rattle.std.proofs.Common.{◌≡◌, Some, None, refl, ap, sym, ◌∙◌}
 use Rattle.cc_script.specs.declared.verb.Verb.{Verb}
 use Rattle.cc_script.specs.declared.verb.Verb.TheVariants as verb
+use Rattle.cc_script.specs.declared.verb.QueryVerb.TheVariants as query_verb
 use Rattle.cc_script.specs.Words.{parsed_caller, number_between, parsed_number}
 use Rattle.cc_script.specs.Verbs.{verb_text, verb_of}
 
@@ -37,7 +38,7 @@ verbs_found verb.MdlAbort = refl
 verbs_found verb.NcRead = refl
 verbs_found verb.NcWrite = refl
 verbs_found verb.SetSizes = refl
-verbs_found verb.State = refl
+verbs_found (verb.Query query_verb.State) = refl
 verbs_found verb.Flush = refl
 verbs_found verb.Purge = refl
 verbs_found verb.Discard = refl
@@ -49,9 +50,9 @@ verbs_found verb.Unlock = refl
 verbs_found verb.Levels = refl
 verbs_found verb.Settle = refl
 verbs_found verb.Checkpoint = refl
-verbs_found verb.IsDirtyData = refl
-verbs_found verb.DirtyPages = refl
-verbs_found verb.LsnForFile = refl
+verbs_found (verb.Query query_verb.IsDirtyData) = refl
+verbs_found (verb.Query query_verb.DirtyPages) = refl
+verbs_found (verb.Query query_verb.LsnForFile) = refl
 verbs_found verb.SetLog = refl
 verbs_found verb.Append = refl
 verbs_found verb.LogFlush = refl
@@ -70,7 +71,7 @@ verbs_found verb.AheadStep = refl
 verbs_found verb.AsyncRead = refl
 verbs_found verb.Complete = refl
 verbs_found verb.Tick = refl
-verbs_found verb.CanWrite = refl
+verbs_found (verb.Query query_verb.CanWrite) = refl
 verbs_found verb.Defer = refl
 verbs_found verb.Post = refl
 verbs_found verb.Fail = refl
@@ -111,7 +112,7 @@ verbs_no_callers verb.MdlAbort = refl
 verbs_no_callers verb.NcRead = refl
 verbs_no_callers verb.NcWrite = refl
 verbs_no_callers verb.SetSizes = refl
-verbs_no_callers verb.State = refl
+verbs_no_callers (verb.Query query_verb.State) = refl
 verbs_no_callers verb.Flush = refl
 verbs_no_callers verb.Purge = refl
 verbs_no_callers verb.Discard = refl
@@ -123,9 +124,9 @@ verbs_no_callers verb.Unlock = refl
 verbs_no_callers verb.Levels = refl
 verbs_no_callers verb.Settle = refl
 verbs_no_callers verb.Checkpoint = refl
-verbs_no_callers verb.IsDirtyData = refl
-verbs_no_callers verb.DirtyPages = refl
-verbs_no_callers verb.LsnForFile = refl
+verbs_no_callers (verb.Query query_verb.IsDirtyData) = refl
+verbs_no_callers (verb.Query query_verb.DirtyPages) = refl
+verbs_no_callers (verb.Query query_verb.LsnForFile) = refl
 verbs_no_callers verb.SetLog = refl
 verbs_no_callers verb.Append = refl
 verbs_no_callers verb.LogFlush = refl
@@ -144,7 +145,7 @@ verbs_no_callers verb.AheadStep = refl
 verbs_no_callers verb.AsyncRead = refl
 verbs_no_callers verb.Complete = refl
 verbs_no_callers verb.Tick = refl
-verbs_no_callers verb.CanWrite = refl
+verbs_no_callers (verb.Query query_verb.CanWrite) = refl
 verbs_no_callers verb.Defer = refl
 verbs_no_callers verb.Post = refl
 verbs_no_callers verb.Fail = refl

@@ -4,10 +4,12 @@ use Rattle.cc_script.specs.declared.script.Mode.{Mode}
 use Rattle.cc_script.specs.declared.script.StreamLine.{StreamLine}
 use Rattle.cc_script.specs.declared.script.Action.{Action}
 use Rattle.cc_script.specs.declared.script.Action.TheVariants as action
+use Rattle.cc_entry.specs.declared.query.Query.TheVariants as query
 use Rattle.cc_script.specs.declared.verb.Verb.{Verb}
 use Rattle.cc_script.specs.declared.verb.Verb.TheVariants as verb
-use Rattle.cc_script.specs.Actions.{ended, parsed_initialise, parsed_uninitialise, parsed_copy_read, parsed_copy_write, parsed_zero, parsed_set_sizes, parsed_state, parsed_flush, parsed_purge, parsed_discard, parsed_set_log, parsed_append, parsed_log_flush, parsed_dirty_pages, parsed_lsn_for_file}
-use Rattle.cc_script.specs.EventActions.{nc_read_in, nc_write_in, parsed_nc_store_page, parsed_ask_ahead, parsed_set_granularity, parsed_set_attributes, parsed_set_threshold, parsed_fill, parsed_drop, parsed_write_begin, parsed_write_end, parsed_sync, parsed_can_write, parsed_defer, parsed_async_read}
+use Rattle.cc_script.specs.Actions.{ended, parsed_initialise, parsed_uninitialise, parsed_copy_read, parsed_copy_write, parsed_zero, parsed_set_sizes, parsed_flush, parsed_purge, parsed_discard, parsed_set_log, parsed_append, parsed_log_flush}
+use Rattle.cc_script.specs.EventActions.{nc_read_in, nc_write_in, parsed_nc_store_page, parsed_ask_ahead, parsed_set_granularity, parsed_set_attributes, parsed_set_threshold, parsed_fill, parsed_drop, parsed_write_begin, parsed_write_end, parsed_sync, parsed_defer, parsed_async_read}
+use Rattle.cc_script.specs.QueryLines.{parsed_query}
 use Rattle.cc_script.specs.ShimActions.{parsed_read, parsed_write, parsed_update, parsed_levels, parsed_settle, parsed_checkpoint, parsed_lock, parsed_unlock}
 use Rattle.cc_script.specs.HoldActions.{parsed_map, parsed_pin_read, parsed_pin_mapped, parsed_prepare_pin, parsed_held_read, parsed_pinned_write, parsed_set_dirty, parsed_unpin, parsed_repin, parsed_unpin_repinned, parsed_mdl_read, parsed_mdl_write, parsed_mdl_bytes, parsed_mdl_store, parsed_mdl_done, parsed_mdl_abort}
 
@@ -42,7 +44,7 @@ action_of mode streams names verb.NcRead ws = binds_none names (nc_read_in mode 
 action_of mode streams names verb.NcWrite ws = binds_none names (nc_write_in mode streams ws)
 action_of mode streams names verb.NcStore ws = binds_none names (parsed_nc_store_page streams ws)
 action_of mode streams names verb.SetSizes ws = binds_none names (parsed_set_sizes streams ws)
-action_of mode streams names verb.State ws = binds_none names (parsed_state streams ws)
+action_of mode streams names (verb.Query asked) ws = binds_none names (parsed_query streams asked ws)
 action_of mode streams names verb.Flush ws = binds_none names (parsed_flush streams ws)
 action_of mode streams names verb.Purge ws = binds_none names (parsed_purge streams ws)
 action_of mode streams names verb.Discard ws = binds_none names (parsed_discard streams ws)
@@ -54,9 +56,6 @@ action_of mode streams names verb.Unlock ws = binds_none names (parsed_unlock st
 action_of mode streams names verb.Levels ws = binds_none names (parsed_levels streams ws)
 action_of mode streams names verb.Settle ws = binds_none names (parsed_settle streams ws)
 action_of mode streams names verb.Checkpoint ws = binds_none names (parsed_checkpoint streams ws)
-action_of mode streams names verb.IsDirtyData ws = binds_none names (ended ws action.IsDirtyData)
-action_of mode streams names verb.DirtyPages ws = binds_none names (parsed_dirty_pages ws)
-action_of mode streams names verb.LsnForFile ws = binds_none names (parsed_lsn_for_file streams ws)
 action_of mode streams names verb.SetLog ws = binds_none names (parsed_set_log streams ws)
 action_of mode streams names verb.Append ws = binds_none names (parsed_append ws)
 action_of mode streams names verb.LogFlush ws = binds_none names (parsed_log_flush ws)
@@ -74,7 +73,6 @@ action_of mode streams names verb.AheadStep ws = binds_none names (ended ws acti
 action_of mode streams names verb.AsyncRead ws = binds_none names (parsed_async_read streams ws)
 action_of mode streams names verb.Complete ws = binds_none names (ended ws action.Complete)
 action_of mode streams names verb.Tick ws = binds_none names (ended ws action.Tick)
-action_of mode streams names verb.CanWrite ws = binds_none names (parsed_can_write streams ws)
 action_of mode streams names verb.Defer ws = binds_none names (parsed_defer streams ws)
 action_of mode streams names verb.Post ws = binds_none names (ended ws action.Post)
 action_of mode streams names verb.Stream ws = None
@@ -116,5 +114,5 @@ bytes_counted other = bytes_moved other
 
 -- whether a line is `dirty`, as a number
 abbrev pub dirty_lines : Action → ℕ
-dirty_lines (action.DirtyPages _) = 1
+dirty_lines (action.Query (query.DirtyPages _)) = 1
 dirty_lines other = 0

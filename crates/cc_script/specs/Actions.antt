@@ -121,12 +121,6 @@ parsed_set_sizes streams ws = do
   size ← next parsed_number allocation.1
   ended size.1 (action.SetSizes file.0 allocation.0 size.0)
 
--- state FILE
-unfoldable pub parsed_state : List StreamLine → List (List ℕ) → Option Action
-parsed_state streams ws = do
-  file ← next (parsed_file streams) ws
-  ended file.1 (action.State file.0)
-
 -- flush FILE [FROM TO]
 unfoldable pub parsed_flush : List StreamLine → List (List ℕ) → Option Action
 parsed_flush streams ws = do
@@ -184,15 +178,3 @@ parsed_log_flush ws = do
   log ← next (number_between 0 3) ws
   lsn ← next (number_between 1 4611686018427387904) log.1
   ended lsn.1 (action.LogFlush log.0 lsn.0)
-
--- dirty LOG
-unfoldable pub parsed_dirty_pages : List (List ℕ) → Option Action
-parsed_dirty_pages ws = do
-  log ← next (number_between 0 3) ws
-  ended log.1 (action.DirtyPages log.0)
-
--- lsns FILE
-unfoldable pub parsed_lsn_for_file : List StreamLine → List (List ℕ) → Option Action
-parsed_lsn_for_file streams ws = do
-  file ← next (parsed_file streams) ws
-  ended file.1 (action.LsnForFile file.0)

@@ -99,13 +99,6 @@ parsed_async_read streams ws = do
   len ← next (number_between 0 2097152) at.1
   ended len.1 (action.AsyncRead file.0 at.0 len.0)
 
--- canwrite FILE N
-unfoldable pub parsed_can_write : List StreamLine → List (List ℕ) → Option Action
-parsed_can_write streams ws = do
-  file ← next (parsed_file streams) ws
-  bytes ← next parsed_number file.1
-  ended bytes.1 (action.CanWrite file.0 bytes.0)
-
 -- defer FILE N [retry]
 unfoldable pub parsed_defer : List StreamLine → List (List ℕ) → Option Action
 parsed_defer streams ws = do

@@ -3,9 +3,10 @@ pub mod Outcome
 pub mod Text
 pub mod Words
 pub mod Modes
-pub mod Verbs
 pub mod HoldNames
 pub mod Actions
+pub mod QueryLines
+pub mod Verbs
 pub mod HoldActions
 pub mod EventActions
 pub mod ShimActions

@@ -7,6 +7,7 @@ use Rattle.cc_script.specs.declared.verb.TheConstants.{VERBS}
 use Rattle.cc_script.specs.declared.script.Mode.{Mode}
 use Rattle.cc_script.specs.Outcome.{◌>>=◌}
 use Rattle.cc_script.specs.Modes.{stands, verb_modes}
+use Rattle.cc_script.specs.QueryLines.{query_verb_text}
 
 -- the word that a verb is written by
 abbrev pub verb_text : Verb → List ℕ
@@ -40,7 +41,7 @@ verb_text verb.MdlAbort = codes "mdlabort"
 verb_text verb.NcRead = codes "ncread"
 verb_text verb.NcWrite = codes "ncwrite"
 verb_text verb.SetSizes = codes "sizes"
-verb_text verb.State = codes "state"
+verb_text (verb.Query asked) = query_verb_text asked
 verb_text verb.Flush = codes "flush"
 verb_text verb.Purge = codes "purge"
 verb_text verb.Discard = codes "discard"
@@ -52,9 +53,6 @@ verb_text verb.Unlock = codes "unlock"
 verb_text verb.Levels = codes "levels"
 verb_text verb.Settle = codes "settle"
 verb_text verb.Checkpoint = codes "checkpoint"
-verb_text verb.IsDirtyData = codes "isdirty"
-verb_text verb.DirtyPages = codes "dirty"
-verb_text verb.LsnForFile = codes "lsns"
 verb_text verb.SetLog = codes "setlog"
 verb_text verb.Append = codes "append"
 verb_text verb.LogFlush = codes "logflush"
@@ -73,7 +71,6 @@ verb_text verb.AheadStep = codes "ahead"
 verb_text verb.AsyncRead = codes "aread"
 verb_text verb.Complete = codes "complete"
 verb_text verb.Tick = codes "tick"
-verb_text verb.CanWrite = codes "canwrite"
 verb_text verb.Defer = codes "defer"
 verb_text verb.Post = codes "post"
 verb_text verb.Fail = codes "fail"

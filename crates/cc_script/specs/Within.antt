@@ -2,6 +2,7 @@
 use Rattle.std.specs.Prelude.{ℕ, ◌≡◌, false, ◌≤◌, ◌<◌, ◌^◌, IfSome, List, [], ◌∷◌, length}
 use Rattle.std.specs.List.{AllByRecursion}
 use Rattle.cc_entry.specs.Place.{File, Page}
+use Rattle.cc_entry.specs.Queries.{file_of_query}
 use Rattle.cc_script.specs.declared.script.Script.{Script}
 use Rattle.cc_script.specs.declared.script.StreamLine.{StreamLine}
 use Rattle.cc_script.specs.declared.script.RestartLine.{RestartLine}
@@ -54,7 +55,6 @@ IsActionWithin streams (action.MdlAbort _) = Unit {0}
 IsActionWithin streams (action.NcRead file _ _) = IsFileWithin streams file
 IsActionWithin streams (action.NcWrite file _ _) = IsFileWithin streams file
 IsActionWithin streams (action.SetSizes file _ _) = IsFileWithin streams file
-IsActionWithin streams (action.State file) = IsFileWithin streams file
 IsActionWithin streams (action.Flush file _) = IsFileWithin streams file
 IsActionWithin streams (action.Purge file _) = IsFileWithin streams file
 IsActionWithin streams (action.Discard file _) = IsFileWithin streams file
@@ -66,9 +66,7 @@ IsActionWithin streams (action.Unlock file _) = IsFileWithin streams file
 IsActionWithin streams (action.Levels file) = IsFileWithin streams file
 IsActionWithin streams (action.Settle file) = IsFileWithin streams file
 IsActionWithin streams (action.Checkpoint count _) = count ≡ length streams
-IsActionWithin streams action.IsDirtyData = Unit {0}
-IsActionWithin streams (action.DirtyPages _) = Unit {0}
-IsActionWithin streams (action.LsnForFile file) = IsFileWithin streams file
+IsActionWithin streams (action.Query asked) = IfSome (file_of_query asked) (λ file. IsFileWithin streams file)
 IsActionWithin streams (action.SetLog file _) = IsFileWithin streams file
 IsActionWithin streams (action.Append _ _) = Unit {0}
 IsActionWithin streams (action.LogFlush _ _) = Unit {0}
@@ -89,7 +87,6 @@ IsActionWithin streams action.AheadStep = Unit {0}
 IsActionWithin streams (action.AsyncRead file _ _) = IsFileWithin streams file
 IsActionWithin streams action.Complete = Unit {0}
 IsActionWithin streams action.Tick = Unit {0}
-IsActionWithin streams (action.CanWrite file _) = IsFileWithin streams file
 IsActionWithin streams (action.Defer file _ _) = IsFileWithin streams file
 IsActionWithin streams action.Post = Unit {0}
 

@@ -2,15 +2,14 @@
 
 ghost use Rattle.std.specs.Prelude.{◌≡◌};
 ghost use Rattle.cc_script.specs.Outcome.{Gives, TakesIf};
-ghost use Rattle.cc_script.specs.Actions.{parsed_initialise, parsed_uninitialise, parsed_copy_read, parsed_copy_write, parsed_zero, parsed_nc_read, parsed_nc_write, parsed_set_sizes, parsed_state, parsed_flush, parsed_purge, parsed_discard, parsed_set_log, parsed_append, parsed_log_flush, parsed_dirty_pages, parsed_lsn_for_file, ended};
+ghost use Rattle.cc_script.specs.Actions.{parsed_initialise, parsed_uninitialise, parsed_copy_read, parsed_copy_write, parsed_zero, parsed_nc_read, parsed_nc_write, parsed_set_sizes, parsed_flush, parsed_purge, parsed_discard, parsed_set_log, parsed_append, parsed_log_flush};
 ghost use Rattle.cc_script.specs.EventActions.{nc_read_in, nc_write_in};
 ghost use Rattle.cc_script.specs.ActionTable.{action_of, bytes_counted, dirty_lines};
-ghost use Rattle.cc_script.specs.declared.script.Action.TheVariants as action;
 
 use crate::event_action::{
-    ahead_step, ask_ahead, async_read, can_write, complete, defer, drop, fill, nc_read_page,
-    nc_store_page, nc_write_page, post, scan, set_attributes, set_granularity, set_threshold, sync,
-    tick, write_begin, write_end,
+    ahead_step, ask_ahead, async_read, complete, defer, drop, fill, nc_read_page, nc_store_page,
+    nc_write_page, post, scan, set_attributes, set_granularity, set_threshold, sync, tick,
+    write_begin, write_end,
 };
 use crate::fault::LineFault;
 use crate::hold_action::{
@@ -19,9 +18,11 @@ use crate::hold_action::{
 };
 use crate::hold_word::HoldNames;
 use crate::part::Words;
+use crate::query_action::query;
 use crate::script::{Action, Mode, StreamLines};
 use crate::shim_action::{checkpoint, levels, lock, read, settle, unlock, update, write};
 use crate::verb::Verb;
+use cc_entry::Query;
 use std::alloc::Global;
 
 #[tactic(auto, unfolding(crate::specs::Actions::parsed_initialise))]
@@ -171,18 +172,6 @@ fn set_sizes(streams: &StreamLines, words: &mut Words) -> Option<Action>
     }
 }
 
-#[tactic(auto, unfolding(crate::specs::Actions::parsed_state))]
-fn state(streams: &StreamLines, words: &mut Words) -> Option<Action>
-    ensures { result ≡ parsed_state streams.now words.old }
-{
-    let file = words.file(streams)?;
-    if words.is_empty() {
-        Some(Action::State { file })
-    } else {
-        None
-    }
-}
-
 #[tactic(auto, unfolding(crate::specs::Actions::parsed_flush))]
 fn flush(streams: &StreamLines, words: &mut Words) -> Option<Action>
     ensures { result ≡ parsed_flush streams.now words.old }
@@ -208,16 +197,6 @@ fn discard(streams: &StreamLines, words: &mut Words) -> Option<Action>
     let file = words.file(streams)?;
     let span = words.optional_span()?;
     Some(Action::Discard { file, span })
-}
-
-fn is_dirty_data(words: &mut Words) -> Option<Action>
-    ensures { result ≡ ended words.old action.IsDirtyData }
-{
-    if words.is_empty() {
-        Some(Action::IsDirtyData)
-    } else {
-        None
-    }
 }
 
 #[tactic(auto, unfolding(crate::specs::Actions::parsed_set_log))]
@@ -254,30 +233,6 @@ fn log_flush(words: &mut Words) -> Option<Action>
     let lsn = words.lsn()?;
     if words.is_empty() {
         Some(Action::LogFlush { handle, lsn })
-    } else {
-        None
-    }
-}
-
-#[tactic(auto, unfolding(crate::specs::Actions::parsed_dirty_pages))]
-fn dirty_pages(words: &mut Words) -> Option<Action>
-    ensures { result ≡ parsed_dirty_pages words.old }
-{
-    let handle = words.handle()?;
-    if words.is_empty() {
-        Some(Action::DirtyPages { handle })
-    } else {
-        None
-    }
-}
-
-#[tactic(auto, unfolding(crate::specs::Actions::parsed_lsn_for_file))]
-fn lsn_for_file(streams: &StreamLines, words: &mut Words) -> Option<Action>
-    ensures { result ≡ parsed_lsn_for_file streams.now words.old }
-{
-    let file = words.file(streams)?;
-    if words.is_empty() {
-        Some(Action::LsnForFile { file })
     } else {
         None
     }
@@ -321,7 +276,7 @@ pub(crate) fn action(
         Verb::NcWrite => nc_write_in(alloc, mode, streams, words),
         Verb::NcStore => nc_store_page(alloc, streams, words),
         Verb::SetSizes => set_sizes(streams, words).ok_or(LineFault::Syntax),
-        Verb::State => state(streams, words).ok_or(LineFault::Syntax),
+        Verb::Query(verb) => query(streams, verb, words).ok_or(LineFault::Syntax),
         Verb::Flush => flush(streams, words).ok_or(LineFault::Syntax),
         Verb::Purge => purge(streams, words).ok_or(LineFault::Syntax),
         Verb::Discard => discard(streams, words).ok_or(LineFault::Syntax),
@@ -333,9 +288,6 @@ pub(crate) fn action(
         Verb::Levels => levels(streams, words).ok_or(LineFault::Syntax),
         Verb::Settle => settle(streams, words).ok_or(LineFault::Syntax),
         Verb::Checkpoint => checkpoint(streams, words).ok_or(LineFault::Syntax),
-        Verb::IsDirtyData => is_dirty_data(words).ok_or(LineFault::Syntax),
-        Verb::DirtyPages => dirty_pages(words).ok_or(LineFault::Syntax),
-        Verb::LsnForFile => lsn_for_file(streams, words).ok_or(LineFault::Syntax),
         Verb::SetLog => set_log(streams, words).ok_or(LineFault::Syntax),
         Verb::Append => append(alloc, words),
         Verb::LogFlush => log_flush(words).ok_or(LineFault::Syntax),
@@ -353,7 +305,6 @@ pub(crate) fn action(
         Verb::AsyncRead => async_read(streams, words).ok_or(LineFault::Syntax),
         Verb::Complete => complete(words).ok_or(LineFault::Syntax),
         Verb::Tick => tick(words).ok_or(LineFault::Syntax),
-        Verb::CanWrite => can_write(streams, words).ok_or(LineFault::Syntax),
         Verb::Defer => defer(streams, words).ok_or(LineFault::Syntax),
         Verb::Post => post(words).ok_or(LineFault::Syntax),
         Verb::Stream
@@ -400,7 +351,7 @@ pub(crate) fn dirty_lines(action: &Action) -> u64
     ensures { result ≡ dirty_lines action.now }
 {
     match action {
-        Action::DirtyPages { .. } => 1,
+        Action::Query(Query::DirtyPages { .. }) => 1,
         _ => 0,
     }
 }

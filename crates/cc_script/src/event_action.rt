@@ -4,7 +4,7 @@
 ghost use Rattle.std.specs.Prelude.{◌≡◌};
 ghost use Rattle.cc_script.specs.Outcome.{Gives};
 ghost use Rattle.cc_script.specs.Actions.{ended};
-ghost use Rattle.cc_script.specs.EventActions.{parsed_fill, parsed_drop, parsed_write_begin, parsed_write_end, parsed_sync, parsed_nc_read_page, parsed_nc_store_page, parsed_nc_write_page, parsed_ask_ahead, parsed_async_read, parsed_can_write, parsed_defer, parsed_set_granularity, parsed_set_attributes, parsed_set_threshold};
+ghost use Rattle.cc_script.specs.EventActions.{parsed_fill, parsed_drop, parsed_write_begin, parsed_write_end, parsed_sync, parsed_nc_read_page, parsed_nc_store_page, parsed_nc_write_page, parsed_ask_ahead, parsed_async_read, parsed_defer, parsed_set_granularity, parsed_set_attributes, parsed_set_threshold};
 ghost use Rattle.cc_script.specs.declared.script.Action.TheVariants as action;
 
 use crate::fault::LineFault;
@@ -195,19 +195,6 @@ pub(crate) fn nc_write_page(streams: &StreamLines, words: &mut Words) -> Option<
     let page = words.page_number()?;
     if words.is_empty() {
         Some(Action::NcWritePage { file, page })
-    } else {
-        None
-    }
-}
-
-#[tactic(auto, unfolding(crate::specs::EventActions::parsed_can_write))]
-pub(crate) fn can_write(streams: &StreamLines, words: &mut Words) -> Option<Action>
-    ensures { result ≡ parsed_can_write streams.now words.old }
-{
-    let file = words.file(streams)?;
-    let bytes = words.number()?;
-    if words.is_empty() {
-        Some(Action::CanWrite { file, bytes })
     } else {
         None
     }

@@ -27,6 +27,7 @@ mod name;
 mod part;
 mod path_word;
 mod phase_lines;
+mod query_action;
 mod read;
 mod reading;
 mod script;

@@ -11,7 +11,7 @@ ghost use Rattle.cc_script.specs.Grammar.{has_restart};
 
 use crate::hold_word::HoldWord;
 use crate::name::Name;
-use cc_entry::{Bytes, FileId, FileSizes, Lsn, NoMemory, PageId, Quota, Span, StreamId};
+use cc_entry::{Bytes, FileId, FileSizes, Lsn, NoMemory, PageId, Query, Quota, Span, StreamId};
 use std::alloc::Global;
 use std::marker::Model;
 use thiserror::Error;
@@ -323,9 +323,6 @@ pub enum Action {
         allocation: u64,
         size: u64,
     },
-    State {
-        file: FileId,
-    },
     Flush {
         file: FileId,
         span: Option<Span>,
@@ -382,13 +379,7 @@ pub enum Action {
         streams: u8,
         handle: u8,
     },
-    IsDirtyData,
-    DirtyPages {
-        handle: u8,
-    },
-    LsnForFile {
-        file: FileId,
-    },
+    Query(Query),
     SetLog {
         file: FileId,
         handle: u8,
@@ -471,11 +462,6 @@ pub enum Action {
     Complete,
     /// A tick of the lazy writer: it chooses pages and writes them.
     Tick,
-    /// Whether a write of so many bytes may go.
-    CanWrite {
-        file: FileId,
-        bytes: u64,
-    },
     /// A write is deferred, at the head of the queue where it is tried again.
     Defer {
         file: FileId,

@@ -2,6 +2,7 @@
 
 ghost use Rattle.std.specs.Prelude.{◌≡◌, not};
 ghost use Rattle.cc_script.specs.Modes.{stands, verb_modes};
+ghost use Rattle.cc_script.specs.QueryLines.{query_verb_text};
 ghost use Rattle.cc_script.specs.Verbs.{verb_text, takes_caller, verb_of, verb_in};
 ghost use Rattle.cc_script.specs.declared.script.Mode.TheVariants as mode;
 
@@ -40,7 +41,7 @@ pub(crate) enum Verb {
     NcRead,
     NcWrite,
     SetSizes,
-    State,
+    Query(QueryVerb),
     Flush,
     Purge,
     Discard,
@@ -52,9 +53,6 @@ pub(crate) enum Verb {
     Levels,
     Settle,
     Checkpoint,
-    IsDirtyData,
-    DirtyPages,
-    LsnForFile,
     SetLog,
     Append,
     LogFlush,
@@ -73,10 +71,19 @@ pub(crate) enum Verb {
     AsyncRead,
     Complete,
     Tick,
-    CanWrite,
     Defer,
     Post,
     Fail,
+}
+
+/// The verb of a query.
+#[derive(Clone, Copy)]
+pub(crate) enum QueryVerb {
+    State,
+    DirtyPages,
+    LsnForFile,
+    IsDirtyData,
+    CanWrite,
 }
 
 pub(crate) const VERBS: [Verb; 67] = [
@@ -110,7 +117,7 @@ pub(crate) const VERBS: [Verb; 67] = [
     Verb::NcRead,
     Verb::NcWrite,
     Verb::SetSizes,
-    Verb::State,
+    Verb::Query(QueryVerb::State),
     Verb::Flush,
     Verb::Purge,
     Verb::Discard,
@@ -122,9 +129,9 @@ pub(crate) const VERBS: [Verb; 67] = [
     Verb::Levels,
     Verb::Settle,
     Verb::Checkpoint,
-    Verb::IsDirtyData,
-    Verb::DirtyPages,
-    Verb::LsnForFile,
+    Verb::Query(QueryVerb::IsDirtyData),
+    Verb::Query(QueryVerb::DirtyPages),
+    Verb::Query(QueryVerb::LsnForFile),
     Verb::SetLog,
     Verb::Append,
     Verb::LogFlush,
@@ -143,7 +150,7 @@ pub(crate) const VERBS: [Verb; 67] = [
     Verb::AsyncRead,
     Verb::Complete,
     Verb::Tick,
-    Verb::CanWrite,
+    Verb::Query(QueryVerb::CanWrite),
     Verb::Defer,
     Verb::Post,
     Verb::Fail,
@@ -184,7 +191,7 @@ impl Verb {
             Verb::NcRead => b"ncread",
             Verb::NcWrite => b"ncwrite",
             Verb::SetSizes => b"sizes",
-            Verb::State => b"state",
+            Verb::Query(verb) => verb.text(),
             Verb::Flush => b"flush",
             Verb::Purge => b"purge",
             Verb::Discard => b"discard",
@@ -196,9 +203,6 @@ impl Verb {
             Verb::Levels => b"levels",
             Verb::Settle => b"settle",
             Verb::Checkpoint => b"checkpoint",
-            Verb::IsDirtyData => b"isdirty",
-            Verb::DirtyPages => b"dirty",
-            Verb::LsnForFile => b"lsns",
             Verb::SetLog => b"setlog",
             Verb::Append => b"append",
             Verb::LogFlush => b"logflush",
@@ -217,7 +221,6 @@ impl Verb {
             Verb::AsyncRead => b"aread",
             Verb::Complete => b"complete",
             Verb::Tick => b"tick",
-            Verb::CanWrite => b"canwrite",
             Verb::Defer => b"defer",
             Verb::Post => b"post",
             Verb::Fail => b"fail",
@@ -300,6 +303,20 @@ impl Verb {
             Some(verb)
         } else {
             None
+        }
+    }
+}
+
+impl QueryVerb {
+    fn text(self) -> &'static [u8]
+        ensures { result.now ≡ query_verb_text self }
+    {
+        match self {
+            QueryVerb::State => b"state",
+            QueryVerb::DirtyPages => b"dirty",
+            QueryVerb::LsnForFile => b"lsns",
+            QueryVerb::IsDirtyData => b"isdirty",
+            QueryVerb::CanWrite => b"canwrite",
         }
     }
 }

@@ -8,6 +8,7 @@ use Rattle.cc_entry.specs.Place.{File}
 use Rattle.cc_entry.specs.declared.answer.Answer.{Answer}
 use Rattle.cc_entry.specs.declared.call.Call.{Call}
 use Rattle.cc_entry.specs.declared.call.Call.TheVariants as call
+use Rattle.cc_entry.specs.declared.query.Query.TheVariants as query
 use Rattle.cc_entry.specs.declared.entry.Entry.{Entry}
 use Rattle.cc_entry.specs.declared.entry.Entry.TheVariants as entry
 use Rattle.cc_entry.specs.declared.error.CcError.{CcError}
@@ -93,7 +94,7 @@ append-by s log me handle lsn bytes past may = by (either (not (handle == log)) 
 -- stream to them, where it is said of appends and settles; of updates and checkpoints it is asked.
 module _ (u : Setup) (s log : ℕ) (opened : Type 0) where
   by-read : (file : File) (it : Call) → IsReadOf file it → IsBeside s log opened it
-  by-read file (call.State other) is = (tt, tt)
+  by-read file (call.Query (query.State other)) is = (tt, tt)
   by-read file (call.CopyRead other at len wait) is = (tt, tt)
   by-read file (call.Map other at len) is = (tt, tt)
   by-read file (call.PinRead other at len exclusive) is = (tt, tt)
@@ -109,7 +110,7 @@ module _ (u : Setup) (s log : ℕ) (opened : Type 0) where
   same-apart file other is apart = subst (λ (f : File). (f.stream == s) ≡ false) (sym is) apart
 
   by-write : (file : File) → (file.stream == s) ≡ false → (it : Call) → IsWriteOf file it → IsBeside s log opened it
-  by-write file apart (call.State other) is = (tt, tt)
+  by-write file apart (call.Query (query.State other)) is = (tt, tt)
   by-write file apart (call.SetSizes other allocation size) is = (same-apart file other is apart, tt)
   by-write file apart (call.Zero other span) is = (same-apart file other is apart, tt)
   by-write file apart (call.CopyWrite other at bytes) is = (same-apart file other is apart, tt)
@@ -121,8 +122,8 @@ module _ (u : Setup) (s log : ℕ) (opened : Type 0) where
   by-nc-write file apart other is = absurd is
 
   pub by-checkpoint : (it : Call) → IsCheckpointOf it → IsBeside s log opened it
-  by-checkpoint (call.DirtyPages handle) is = (tt, tt)
-  by-checkpoint (call.State file) is = (tt, tt)
+  by-checkpoint (call.Query (query.DirtyPages handle)) is = (tt, tt)
+  by-checkpoint (call.Query (query.State file)) is = (tt, tt)
   by-checkpoint (call.Flush file span) is = (tt, tt)
   by-checkpoint other is = absurd is
 

@@ -14,6 +14,7 @@ use Rattle.cc_entry.specs.declared.answer.Answer.TheVariants as answer
 use Rattle.cc_entry.specs.declared.answer.AsyncStart.TheVariants as start
 use Rattle.cc_entry.specs.declared.call.Call.{Call}
 use Rattle.cc_entry.specs.declared.call.Call.TheVariants as call
+use Rattle.cc_entry.specs.declared.query.Query.TheVariants as query
 use Rattle.cc_entry.specs.declared.entry.End.{End}
 use Rattle.cc_entry.specs.declared.entry.End.TheVariants as how
 use Rattle.cc_entry.specs.declared.entry.Entry.{Entry}
@@ -24,6 +25,7 @@ use Rattle.cc_entry.specs.declared.hold.HoldKind.{HoldKind}
 use Rattle.cc_entry.specs.declared.reply.Outcome.{Outcome}
 use Rattle.cc_entry.specs.declared.reply.Outcome.TheVariants as outcome
 use Rattle.cc_entry.specs.declared.reply.Reply.TheVariants as reply
+use Rattle.cc_entry.specs.declared.query.Value.TheVariants as value
 use Rattle.cc_entry.specs.Kinds.{is_map, is_pin, is_repin, is_read_chain, is_write_chain}
 use Rattle.cc_script.specs.declared.script.Action.{Action}
 use Rattle.cc_script.specs.declared.script.Action.TheVariants as action
@@ -83,7 +85,7 @@ pub record Follows (me : ℕ) (Makes : Call → Type 0) (W : List Entry → List
 
 -- a call of a read along some path, and one of a write
 abbrev pub IsReadOf : File → Call → Type 0
-IsReadOf file (call.State other) = other ≡ file
+IsReadOf file (call.Query (query.State other)) = other ≡ file
 IsReadOf file (call.CopyRead other at len wait) = other ≡ file
 IsReadOf file (call.Map other at len) = other ≡ file
 IsReadOf file (call.PinRead other at len exclusive) = other ≡ file
@@ -96,7 +98,7 @@ IsReadOf file (call.EndHold hold) = Unit {0}
 IsReadOf file other = ⊥
 
 abbrev pub IsWriteOf : File → Call → Type 0
-IsWriteOf file (call.State other) = other ≡ file
+IsWriteOf file (call.Query (query.State other)) = other ≡ file
 IsWriteOf file (call.SetSizes other allocation size) = other ≡ file
 IsWriteOf file (call.Zero other span) = other ≡ file
 IsWriteOf file (call.CopyWrite other at bytes) = other ≡ file
@@ -111,15 +113,15 @@ IsNcWriteOf file other = ⊥
 -- a call of an update, and one of a checkpoint
 abbrev pub IsUpdateOf : File → Call → Type 0
 IsUpdateOf file (call.PinRead other at len exclusive) = other ≡ file
-IsUpdateOf file (call.State other) = other ≡ file
+IsUpdateOf file (call.Query (query.State other)) = other ≡ file
 IsUpdateOf file (call.PinnedWrite hold at bytes) = Unit {0}
 IsUpdateOf file (call.SetDirty hold lsn) = Unit {0}
 IsUpdateOf file (call.EndHold hold) = Unit {0}
 IsUpdateOf file other = ⊥
 
 abbrev pub IsCheckpointOf : Call → Type 0
-IsCheckpointOf (call.DirtyPages handle) = Unit {0}
-IsCheckpointOf (call.State file) = Unit {0}
+IsCheckpointOf (call.Query (query.DirtyPages handle)) = Unit {0}
+IsCheckpointOf (call.Query (query.State file)) = Unit {0}
 IsCheckpointOf (call.Flush file span) = Unit {0}
 IsCheckpointOf other = ⊥
 
@@ -334,7 +336,7 @@ module _ (u : Setup) (me : ℕ) (Makes : Call → Type 0) (W : List Entry → Li
   follow-lock file range exclusive other old new left = absurd left
 
   follow-unlock : (file : File) (id : ℕ) (told : Answer) (old new : List Entry) → UnlockAnswered me file id told old new → W old new
-  follow-unlock file id (answer.Given (reply.Flag gone)) old new left = follow-plain (entry.Unlocked me file id gone) old new refl left
+  follow-unlock file id (answer.Given (reply.Value (value.Flag gone))) old new left = follow-plain (entry.Unlocked me file id gone) old new refl left
   follow-unlock file id (answer.Refused (error.JournalFull entries)) old new left = f.idle old new left
   follow-unlock file id (answer.Refused error.NoMemory) old new left = f.idle old new left
   follow-unlock file id (answer.Refused other) old new left = absurd left
@@ -354,10 +356,10 @@ module _ (u : Setup) (me : ℕ) (Makes : Call → Type 0) (W : List Entry → Li
   follow-found file range write None Left answered old new step (inr left) =
       f.joins old left.0 new (follow-test file range write (Ok tt) old left.0 left.1) (step left.0 left.2)
 
-  follow-locked : {A : Type 0} (file : File) (range : Range) (write : Bool) (refused : FileState → Option CcError) (Left : Result A CcError → List Entry → List Entry → Type 0) (answered : Result A CcError) (old new : List Entry) → Makes (call.State file) → ((between : List Entry) → Left answered between new → W between new) → LockedLeft u me file range write refused Left answered old new → W old new
-  follow-locked file range write refused Left answered old new asks step (inl left) = follow-call (call.State file) (outcome.Failed left.0) old new asks left.2
+  follow-locked : {A : Type 0} (file : File) (range : Range) (write : Bool) (refused : FileState → Option CcError) (Left : Result A CcError → List Entry → List Entry → Type 0) (answered : Result A CcError) (old new : List Entry) → Makes (call.Query (query.State file)) → ((between : List Entry) → Left answered between new → W between new) → LockedLeft u me file range write refused Left answered old new → W old new
+  follow-locked file range write refused Left answered old new asks step (inl left) = follow-call (call.Query (query.State file)) (outcome.Failed left.0) old new asks left.2
   follow-locked file range write refused Left answered old new asks step (inr left) =
-      f.joins old left.0 new (follow-call (call.State file) (outcome.Done (reply.State left.1)) old left.0 asks left.2)
+      f.joins old left.0 new (follow-call (call.Query (query.State file)) (outcome.Done (reply.Value (value.State left.1))) old left.0 asks left.2)
       (follow-found file range write (refused left.1) Left answered left.0 new step left.3)
 
   follow-levels : (levels : ℕ → ℕ) (file : File) (told : Answer) (old new : List Entry) → LevelsAnswered levels me file told old new → W old new
@@ -557,13 +559,13 @@ module _ (u : Setup) (me : ℕ) (Makes : Call → Type 0) (W : List Entry → Li
     follow-parts path by (r ∷ rs) (Err e) old new (inr left) =
         f.joins old left.0 new (follow-part path by r left.1 old left.0 left.2) (follow-parts path by rs (Err e) left.0 new left.3)
 
-    follow-state : (state : FileState) (old new : List Entry) → CallLeft u me (call.State file) (outcome.Done (reply.State state)) old new → W old new
-    follow-state state old new left = follow-call (call.State file) (outcome.Done (reply.State state)) old new (reads (call.State file) refl) left
+    follow-state : (state : FileState) (old new : List Entry) → CallLeft u me (call.Query (query.State file)) (outcome.Done (reply.Value (value.State state))) old new → W old new
+    follow-state state old new left = follow-call (call.Query (query.State file)) (outcome.Done (reply.Value (value.State state))) old new (reads (call.Query (query.State file)) refl) left
 
     follow-held-parts : (path : HoldPath) → GoesBy path → (parts : Range → List Range) (at len : ℕ) (answered : Result (List ℕ) CcError) (old new : List Entry) → HeldPartsLeft u me file path parts at len answered old new → W old new
     follow-held-parts path by parts at len (Ok bytes) old new left =
         f.joins old left.0 new (follow-state left.1 old left.0 left.2) (follow-parts path by _ (Ok bytes) left.0 new left.3)
-    follow-held-parts path by parts at len (Err e) old new (inl left) = follow-call (call.State file) (outcome.Failed e) old new (reads (call.State file) refl) left
+    follow-held-parts path by parts at len (Err e) old new (inl left) = follow-call (call.Query (query.State file)) (outcome.Failed e) old new (reads (call.Query (query.State file)) refl) left
     follow-held-parts path by parts at len (Err e) old new (inr left) =
         f.joins old left.0 new (follow-state left.1 old left.0 left.2) (follow-parts path by _ (Err e) left.0 new left.3)
 
@@ -592,10 +594,10 @@ module _ (u : Setup) (me : ℕ) (Makes : Call → Type 0) (W : List Entry → Li
 
     follow-read : (path : ReadPath) (at len : ℕ) (told : Answer) (old new : List Entry) → LockedReadAnswered u me file path at len told old new → W old new
     follow-read path at len (answer.Given (reply.Read bytes)) old new left =
-        follow-locked {A = List ℕ} file (tested_range at len) false (read_refused path at len) (ReadTested u me file path at len (too_long_for path len) (misaligned_for path at len)) (Ok bytes) old new (reads (call.State file) refl)
+        follow-locked {A = List ℕ} file (tested_range at len) false (read_refused path at len) (ReadTested u me file path at len (too_long_for path len) (misaligned_for path at len)) (Ok bytes) old new (reads (call.Query (query.State file)) refl)
         (λ between one. follow-read-tested path at len (too_long_for path len) (misaligned_for path at len) (Ok bytes) between new one) left
     follow-read path at len (answer.Refused e) old new left =
-        follow-locked {A = List ℕ} file (tested_range at len) false (read_refused path at len) (ReadTested u me file path at len (too_long_for path len) (misaligned_for path at len)) (Err e) old new (reads (call.State file) refl)
+        follow-locked {A = List ℕ} file (tested_range at len) false (read_refused path at len) (ReadTested u me file path at len (too_long_for path len) (misaligned_for path at len)) (Err e) old new (reads (call.Query (query.State file)) refl)
         (λ between one. follow-read-tested path at len (too_long_for path len) (misaligned_for path at len) (Err e) between new one) left
     follow-read path at len other old new left = absurd left
 
@@ -626,24 +628,24 @@ module _ (u : Setup) (me : ℕ) (Makes : Call → Type 0) (W : List Entry → Li
 
     follow-write-tested : (at : ℕ) (bytes : List ℕ) (long : Bool) (answered : Result (Unit {0}) CcError) (old new : List Entry) → WriteTested u me file at bytes long answered old new → W old new
     follow-write-tested at bytes true answered old new left = f.idle old new left.1
-    follow-write-tested at bytes false answered old new (inl left) = follow-call (call.State file) (outcome.Failed left.0) old new (writes (call.State file) refl) left.2
+    follow-write-tested at bytes false answered old new (inl left) = follow-call (call.Query (query.State file)) (outcome.Failed left.0) old new (writes (call.Query (query.State file)) refl) left.2
     follow-write-tested at bytes false answered old new (inr left) =
-        f.joins old left.0 new (follow-call (call.State file) (outcome.Done (reply.State left.1)) old left.0 (writes (call.State file) refl) left.2)
+        f.joins old left.0 new (follow-call (call.Query (query.State file)) (outcome.Done (reply.Value (value.State left.1))) old left.0 (writes (call.Query (query.State file)) refl) left.2)
         (follow-told-write at bytes left.1 answered left.0 new left.3)
 
     follow-write : (at : ℕ) (bytes : List ℕ) (told : Answer) (old new : List Entry) → LockedWriteAnswered u me file at bytes told old new → W old new
     follow-write at bytes (answer.Given reply.Unit) old new left =
-        follow-locked {A = Unit {0}} file (tested_range at (length bytes)) true (write_refused at (length bytes)) (WriteTested u me file at bytes (nat_lt 1048576 (length bytes))) (Ok tt) old new (writes (call.State file) refl)
+        follow-locked {A = Unit {0}} file (tested_range at (length bytes)) true (write_refused at (length bytes)) (WriteTested u me file at bytes (nat_lt 1048576 (length bytes))) (Ok tt) old new (writes (call.Query (query.State file)) refl)
         (λ between one. follow-write-tested at bytes (nat_lt 1048576 (length bytes)) (Ok tt) between new one) left
     follow-write at bytes (answer.Refused e) old new left =
-        follow-locked {A = Unit {0}} file (tested_range at (length bytes)) true (write_refused at (length bytes)) (WriteTested u me file at bytes (nat_lt 1048576 (length bytes))) (Err e) old new (writes (call.State file) refl)
+        follow-locked {A = Unit {0}} file (tested_range at (length bytes)) true (write_refused at (length bytes)) (WriteTested u me file at bytes (nat_lt 1048576 (length bytes))) (Err e) old new (writes (call.Query (query.State file)) refl)
         (λ between one. follow-write-tested at bytes (nat_lt 1048576 (length bytes)) (Err e) between new one) left
     follow-write at bytes other old new left = absurd left
 
   -- ---- updates, settles and checkpoints, of which it is said as a whole
 
   -- the update is answered as the line is
-  pub follow-update : (file : File) (at : ℕ) (bytes : List ℕ) (told : Answer) (old new : List Entry) → Makes (call.State file) → ((answered : Result ℕ CcError) (first last : List Entry) → IsToldSo told answered → UpdateLeft u me file at bytes answered first last → W first last) → LockedUpdateAnswered u me file at bytes told old new → W old new
+  pub follow-update : (file : File) (at : ℕ) (bytes : List ℕ) (told : Answer) (old new : List Entry) → Makes (call.Query (query.State file)) → ((answered : Result ℕ CcError) (first last : List Entry) → IsToldSo told answered → UpdateLeft u me file at bytes answered first last → W first last) → LockedUpdateAnswered u me file at bytes told old new → W old new
   follow-update file at bytes (answer.NewLsn lsn) old new asks updates left =
       follow-locked {A = ℕ} file (tested_range at (length bytes)) true (update_refused at (length bytes)) (UpdateLeft u me file at bytes) (Ok lsn) old new asks (λ between one. updates (Ok lsn) between new refl one) left
   follow-update file at bytes (answer.Refused e) old new asks updates left =
@@ -651,7 +653,7 @@ module _ (u : Setup) (me : ℕ) (Makes : Call → Type 0) (W : List Entry → Li
   follow-update file at bytes other old new asks updates left = absurd left
 
   follow-settle : (file : File) (told : Answer) (old new : List Entry) → ((answered : Result FileState CcError) (first last : List Entry) → SettleLeft u me file answered first last → W first last) → SettleAnswered u me file told old new → W old new
-  follow-settle file (answer.Given (reply.State state)) old new settles left = settles (Ok state) old new left
+  follow-settle file (answer.Given (reply.Value (value.State state))) old new settles left = settles (Ok state) old new left
   follow-settle file (answer.Refused e) old new settles left = settles (Err e) old new left
   follow-settle file other old new settles left = absurd left
 
@@ -684,9 +686,9 @@ module _ (u : Setup) (me : ℕ) (Makes : Call → Type 0) (W : List Entry → Li
     follow-told-update id (Some handle) valid answered old new (inr left) = follow-logged-update id handle answered old new left.1
 
     follow-pinned-update : (id : ℕ) (answered : Result ℕ CcError) (old new : List Entry) → PinnedUpdateLeft u me file id at bytes answered old new → W old new
-    follow-pinned-update id answered old new (inl left) = follow-call (call.State file) (outcome.Failed left.0) old new (updates (call.State file) refl) left.2
+    follow-pinned-update id answered old new (inl left) = follow-call (call.Query (query.State file)) (outcome.Failed left.0) old new (updates (call.Query (query.State file)) refl) left.2
     follow-pinned-update id answered old new (inr left) =
-        f.joins old left.0 new (follow-call (call.State file) (outcome.Done (reply.State left.1)) old left.0 (updates (call.State file) refl) left.2)
+        f.joins old left.0 new (follow-call (call.Query (query.State file)) (outcome.Done (reply.Value (value.State left.1))) old left.0 (updates (call.Query (query.State file)) refl) left.2)
         (follow-told-update id left.1.log left.1.sizes.valid answered left.0 new left.3)
 
     pub follow-update-left : (answered : Result ℕ CcError) (old new : List Entry) → UpdateLeft u me file at bytes answered old new → W old new
@@ -699,12 +701,12 @@ module _ (u : Setup) (me : ℕ) (Makes : Call → Type 0) (W : List Entry → Li
         (follow-call (call.EndHold left.0) (outcome.Done reply.Unit) left.2 new (updates (call.EndHold left.0) tt) left.5))
 
   -- a settle: the state of the stream, a flush of it, a write of its record and a sync
-  module _ (file : File) (asks : Makes (call.State file)) (flushes : Makes (call.Flush file None))
+  module _ (file : File) (asks : Makes (call.Query (query.State file))) (flushes : Makes (call.Flush file None))
       (wrote : (told : FileState) (begun old flushed front : List Entry) (size valid : ℕ) (end : End) → StreamHasFlushed u me file told begun old flushed → IsIdle me flushed front →
       valid ≡ min (valid_of (history begun file.stream)) (valid_of (history front file.stream)) → W front (entry.Record me file.stream size valid end ∷ front)) where
     follow-has-flushed : (told : FileState) (begun old new : List Entry) → StreamHasFlushed u me file told begun old new → W old new
     follow-has-flushed told begun old new is =
-        f.joins old is.stated new (follow-call (call.State file) (outcome.Done (reply.State told)) old is.stated asks is.state)
+        f.joins old is.stated new (follow-call (call.Query (query.State file)) (outcome.Done (reply.Value (value.State told))) old is.stated asks is.state)
         (f.joins is.stated begun new (f.idle is.stated begun is.idle) (follow-call (call.Flush file None) (outcome.Done reply.Unit) begun new flushes is.flush))
 
     module _ (told : FileState) (begun old flushed : List Entry) (has : StreamHasFlushed u me file told begun old flushed) where
@@ -742,9 +744,9 @@ module _ (u : Setup) (me : ℕ) (Makes : Call → Type 0) (W : List Entry → Li
     follow-settle-left (Ok state) old new is =
         f.joins old is.flushed new (follow-has-flushed is.told is.begun old is.flushed is.has_flushed)
         (follow-synced is.told is.begun old is.flushed is.has_flushed state.sizes.size state.sizes.valid how.Good new is.recorded)
-    follow-settle-left (Err e) old new (inl left) = follow-call (call.State file) (outcome.Failed e) old new asks left
+    follow-settle-left (Err e) old new (inl left) = follow-call (call.Query (query.State file)) (outcome.Failed e) old new asks left
     follow-settle-left (Err e) old new (inr (inl is)) =
-        f.joins old is.stated new (follow-call (call.State file) (outcome.Done (reply.State is.told)) old is.stated asks is.state)
+        f.joins old is.stated new (follow-call (call.Query (query.State file)) (outcome.Done (reply.Value (value.State is.told))) old is.stated asks is.state)
         (f.joins is.stated is.begun new (f.idle is.stated is.begun is.idle) (follow-call (call.Flush file None) (outcome.Failed e) is.begun new flushes is.flush))
     follow-settle-left (Err e) old new (inr (inr is)) =
         f.joins old is.flushed new (follow-has-flushed is.told is.begun old is.flushed is.has_flushed)
@@ -753,8 +755,8 @@ module _ (u : Setup) (me : ℕ) (Makes : Call → Type 0) (W : List Entry → Li
   -- a checkpoint: the table, the states of the first streams, the syncs of some of them, an append and a flush of the log
   module _ (streams handle : ℕ) (asks : (it : Call) → IsCheckpointOf it → Makes it) where
     follow-asked : (s : ℕ) (state : Option FileState) (old new : List Entry) → StateAsked u me s state old new → W old new
-    follow-asked s (Some state) old new left = follow-call (call.State (first_object s)) (outcome.Done (reply.State state)) old new (asks (call.State (first_object s)) tt) left
-    follow-asked s None old new left = follow-call (call.State (first_object s)) (outcome.Failed error.NotCached) old new (asks (call.State (first_object s)) tt) left
+    follow-asked s (Some state) old new left = follow-call (call.Query (query.State (first_object s))) (outcome.Done (reply.Value (value.State state))) old new (asks (call.Query (query.State (first_object s))) tt) left
+    follow-asked s None old new left = follow-call (call.Query (query.State (first_object s))) (outcome.Failed error.NotCached) old new (asks (call.Query (query.State (first_object s))) tt) left
 
     pub follow-states : (n : ℕ) (found : List ℕ) (old new : List Entry) → StatesAsked u me handle n found old new → W old new
     follow-states zero found old new left = f.idle old new left.1
@@ -773,7 +775,7 @@ module _ (u : Setup) (me : ℕ) (Makes : Call → Type 0) (W : List Entry → Li
     follow-asking e old new (inl stopped) = follow-states stopped.n stopped.found old new stopped.asked
     follow-asking e old new (inr refused) =
         f.joins old refused.between new (follow-states refused.n refused.found old refused.between refused.asked)
-        (follow-call (call.State (first_object refused.n)) (outcome.Failed e) refused.between new (asks (call.State (first_object refused.n)) tt) refused.refused)
+        (follow-call (call.Query (query.State (first_object refused.n))) (outcome.Failed e) refused.between new (asks (call.Query (query.State (first_object refused.n))) tt) refused.refused)
 
     module _ (appended : (rows : List DirtyRow) (lsn : ℕ) (past : List Entry) → W past (entry.Append me handle lsn (record_of_rows rows) ∷ past)) where
       follow-record-logged : (rows : List DirtyRow) (answered : Result ℕ CcError) (old new : List Entry) → RecordLogged u me handle (record_of_rows rows) answered old new → W old new
@@ -792,9 +794,9 @@ module _ (u : Setup) (me : ℕ) (Makes : Call → Type 0) (W : List Entry → Li
           f.joins old left.0 new (follow-states streams left.1 old left.0 left.2) (follow-synced-logged left.1 rows answered left.0 new left.3)
 
       pub follow-checkpoint-left : (answered : Result ℕ CcError) (old new : List Entry) → CheckpointLeft u me streams handle answered old new → W old new
-      follow-checkpoint-left answered old new (inl left) = follow-call (call.DirtyPages handle) (outcome.Failed left.0) old new (asks (call.DirtyPages handle) tt) left.2
+      follow-checkpoint-left answered old new (inl left) = follow-call (call.Query (query.DirtyPages handle)) (outcome.Failed left.0) old new (asks (call.Query (query.DirtyPages handle)) tt) left.2
       follow-checkpoint-left answered old new (inr left) =
-          f.joins old left.0 new (follow-call (call.DirtyPages handle) (outcome.Done (reply.Rows left.1)) old left.0 (asks (call.DirtyPages handle) tt) left.2)
+          f.joins old left.0 new (follow-call (call.Query (query.DirtyPages handle)) (outcome.Done (reply.Rows left.1)) old left.0 (asks (call.Query (query.DirtyPages handle)) tt) left.2)
           (follow-rows-logged left.1 answered left.0 new left.3)
 
   -- ---- lines
@@ -823,7 +825,7 @@ module _ (u : Setup) (me : ℕ) (Makes : Call → Type 0) (W : List Entry → Li
   Admits (action.MdlDone word) = (id : ℕ) → Makes (call.EndHold id)
   Admits (action.MdlAbort word) = (id : ℕ) → Makes (call.EndHold id)
   Admits (action.SetSizes file allocation size) = Makes (call.SetSizes file allocation size)
-  Admits (action.State file) = Makes (call.State file)
+  Admits (action.Query asked) = Makes (call.Query asked)
   Admits (action.Flush file span) = Makes (call.Flush file span)
   Admits (action.Purge file span) = Makes (call.Purge file span)
   Admits (action.Discard file span) = Makes (call.Discard file span)
@@ -831,18 +833,14 @@ module _ (u : Setup) (me : ℕ) (Makes : Call → Type 0) (W : List Entry → Li
   Admits (action.NcWrite file at bytes) = (it : Call) → IsNcWriteOf file it → Makes it
   Admits (action.Read file path at len) = (it : Call) → IsReadOf file it → Makes it
   Admits (action.Write file at bytes) = (it : Call) → IsWriteOf file it → Makes it
-  Admits (action.Update file at bytes) = Makes (call.State file) × ((answered : Result ℕ CcError) (first last : List Entry) → UpdateLeft u me file at bytes answered first last → W first last)
+  Admits (action.Update file at bytes) = Makes (call.Query (query.State file)) × ((answered : Result ℕ CcError) (first last : List Entry) → UpdateLeft u me file at bytes answered first last → W first last)
   Admits (action.Settle file) = (answered : Result FileState CcError) (first last : List Entry) → SettleLeft u me file answered first last → W first last
   Admits (action.Checkpoint streams handle) = (answered : Result ℕ CcError) (first last : List Entry) → CheckpointLeft u me streams handle answered first last → W first last
-  Admits action.IsDirtyData = Makes call.IsDirtyData
-  Admits (action.DirtyPages handle) = Makes (call.DirtyPages handle)
-  Admits (action.LsnForFile file) = Makes (call.LsnForFile file)
   Admits (action.SetLog file handle) = Makes (call.SetLog file handle)
   Admits (action.Append handle bytes) = (lsn : ℕ) (past : List Entry) → W past (entry.Append me handle lsn bytes ∷ past)
   Admits (action.SetGranularity file bytes) = Makes (call.SetGranularity file bytes)
   Admits (action.SetAttributes file no_read_ahead no_write_behind) = Makes (call.SetAttributes file no_read_ahead no_write_behind)
   Admits (action.SetThreshold file pages) = Makes (call.SetThreshold file pages)
-  Admits (action.CanWrite file bytes) = Makes (call.CanWrite file bytes)
   Admits (action.AskAhead file at len) = Makes (call.AskAhead file at len)
   Admits action.AheadStep = (request : Request) → Makes (call.AheadStep request)
   Admits (action.AsyncRead file at len) = Makes (call.CopyRead file at len false)
@@ -872,7 +870,7 @@ module _ (u : Setup) (me : ℕ) (Makes : Call → Type 0) (W : List Entry → Li
   follow-served bindings (action.MdlDone word) told old new admits left = follow-hold-line bindings word (λ its_kind. is_read_chain its_kind || is_write_chain its_kind) (λ id. call.EndHold id) told old new admits left
   follow-served bindings (action.MdlAbort word) told old new admits left = follow-hold-line bindings word is_write_chain (λ id. call.EndHold id) told old new admits left
   follow-served bindings (action.SetSizes file allocation size) told old new admits left = follow-answered (call.SetSizes file allocation size) told old new admits left
-  follow-served bindings (action.State file) told old new admits left = follow-answered (call.State file) told old new admits left
+  follow-served bindings (action.Query asked) told old new admits left = follow-answered (call.Query asked) told old new admits left
   follow-served bindings (action.Flush file span) told old new admits left = follow-answered (call.Flush file span) told old new admits left.left
   follow-served bindings (action.Purge file span) told old new admits left = follow-answered (call.Purge file span) told old new admits left
   follow-served bindings (action.Discard file span) told old new admits left = follow-answered (call.Discard file span) told old new admits left
@@ -886,16 +884,12 @@ module _ (u : Setup) (me : ℕ) (Makes : Call → Type 0) (W : List Entry → Li
   follow-served bindings (action.Levels file) told old new admits left = follow-levels _ file told old new left
   follow-served bindings (action.Settle file) told old new admits left = follow-settle file told old new admits left
   follow-served bindings (action.Checkpoint streams handle) told old new admits left = follow-checkpoint streams handle told old new admits left
-  follow-served bindings action.IsDirtyData told old new admits left = follow-answered call.IsDirtyData told old new admits left
-  follow-served bindings (action.DirtyPages handle) told old new admits left = follow-answered (call.DirtyPages handle) told old new admits left
-  follow-served bindings (action.LsnForFile file) told old new admits left = follow-answered (call.LsnForFile file) told old new admits left
   follow-served bindings (action.SetLog file handle) told old new admits left = follow-answered (call.SetLog file handle) told old new admits left
   follow-served bindings (action.Append handle bytes) told old new admits left = follow-append handle bytes told old new admits left
   follow-served bindings (action.LogFlush handle lsn) told old new admits left = follow-flushed handle lsn told old new left
   follow-served bindings (action.SetGranularity file bytes) told old new admits left = follow-answered (call.SetGranularity file bytes) told old new admits left
   follow-served bindings (action.SetAttributes file no_read_ahead no_write_behind) told old new admits left = follow-answered (call.SetAttributes file no_read_ahead no_write_behind) told old new admits left
   follow-served bindings (action.SetThreshold file pages) told old new admits left = follow-answered (call.SetThreshold file pages) told old new admits left
-  follow-served bindings (action.CanWrite file bytes) told old new admits left = follow-answered (call.CanWrite file bytes) told old new admits left
   follow-served bindings (action.Defer file bytes retrying) told old new admits left = follow-defer file bytes retrying told old new left
   follow-served bindings action.Post told old new admits left = follow-posts told old new left
   follow-served bindings (action.AskAhead file at len) told old new admits left = follow-answered (call.AskAhead file at len) told old new admits left

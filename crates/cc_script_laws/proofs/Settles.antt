@@ -10,6 +10,7 @@ use Rattle.cc_entry.specs.declared.answer.Answer.{Answer}
 use Rattle.cc_entry.specs.declared.answer.LineReply.{LineReply}
 use Rattle.cc_entry.specs.declared.call.Call.{Call}
 use Rattle.cc_entry.specs.declared.call.Call.TheVariants as call
+use Rattle.cc_entry.specs.declared.query.Query.TheVariants as query
 use Rattle.cc_entry.specs.declared.entry.End.{End}
 use Rattle.cc_entry.specs.declared.entry.Entry.{Entry}
 use Rattle.cc_entry.specs.declared.entry.Entry.TheVariants as entry
@@ -20,6 +21,7 @@ use Rattle.cc_entry.specs.declared.place.Request.{Request}
 use Rattle.cc_entry.specs.declared.reply.Outcome.TheVariants as outcome
 use Rattle.cc_entry.specs.declared.reply.Reply.{Reply}
 use Rattle.cc_entry.specs.declared.reply.Reply.TheVariants as reply
+use Rattle.cc_entry.specs.declared.query.Value.TheVariants as value
 use Rattle.cc_script.specs.declared.script.Action.{Action}
 use Rattle.cc_script.specs.declared.script.Action.TheVariants as action
 use Rattle.cc_script.specs.declared.script.ActionLine.{ActionLine}
@@ -75,32 +77,32 @@ open-of : (b : Bool) (e : CcError) → refuse_if (not b) e ≡ None → b ≡ tr
 open-of true e is = refl
 open-of false e is = absurd (cc is)
 
-state-had : (u : Setup) (me : ℕ) (file : File) (r : Reply) (old new : List Entry) → IsGoodSoFar u new → IsDone me (call.State file) r old new → had_map (history new file.stream) ≡ true
+state-had : (u : Setup) (me : ℕ) (file : File) (r : Reply) (old new : List Entry) → IsGoodSoFar u new → IsDone me (call.Query (query.State file)) r old new → had_map (history new file.stream) ≡ true
 state-had u me file r old new good left = had-seen u file.stream front new seen had
   where
     front : List Entry
     front = left.earlier ++ old
 
     e : Entry
-    e = entry.Call me left.placed.nth left.placed.stream (call.State file) (outcome.Done r)
+    e = entry.Call me left.placed.nth left.placed.stream (call.Query (query.State file)) (outcome.Done r)
 
     seen : HasSeen front new
     seen = record { later = left.placed.later ++ e ∷ []; grew = left.placed.grew ∙ sym (append_assoc left.placed.later (e ∷ []) front) }
 
-    told : IsOutcome u front me left.placed.stream (call.State file) (outcome.Done r)
-    told = legal-call u me left.placed.nth left.placed.stream (call.State file) r front (legal-tail u left.placed.later (e ∷ front) (rw left.placed.grew at good.legal))
+    told : IsOutcome u front me left.placed.stream (call.Query (query.State file)) (outcome.Done r)
+    told = legal-call u me left.placed.nth left.placed.stream (call.Query (query.State file)) r front (legal-tail u left.placed.later (e ∷ front) (rw left.placed.grew at good.legal))
 
     here : left.placed.stream ≡ Some file.stream
     here = left.placed.filed
 
-    none : refusal u front (history front file.stream) (call.State file) ≡ None
-    none = subst (λ (o : Option ℕ). refusal u front (stream_history front o) (call.State file) ≡ None) here told.0
+    none : refusal u front (history front file.stream) (call.Query (query.State file)) ≡ None
+    none = subst (λ (o : Option ℕ). refusal u front (stream_history front o) (call.Query (query.State file)) ≡ None) here told.0
 
     had : had_map (history front file.stream) ≡ true
     had =
         opened-had (history front file.stream) file
         (λ never. (IsFirst-steady (history front file.stream) (IsSteady-good u front file.stream (good-seen u front new seen good)) never).unopened)
-        (open-of (is_among file.object (objects (history front file.stream))) error.NotCached (unrefused u front (history front file.stream) (call.State file) none).cached)
+        (open-of (is_among file.object (objects (history front file.stream))) error.NotCached (unrefused u front (history front file.stream) (call.Query (query.State file)) none).cached)
 
 -- ---- entries that write a record
 
@@ -157,7 +159,7 @@ module _ (u : Setup) (whole : List Entry) (good : IsGoodSoFar u whole) (s : ℕ)
       had : had_map (history begun file.stream) ≡ true
       had =
           had-seen u file.stream has.stated begun before
-          (state-had u me file (reply.State told) old has.stated
+          (state-had u me file (reply.Value (value.State told)) old has.stated
           (good-seen u has.stated whole (grew-then has.stated begun whole before (grew-then begun front whole since seen)) good) has.state)
 
   told-settle : (me : ℕ) (file : File) (answered : Result FileState CcError) (old new : List Entry) → SettleLeft u me file answered old new → Told me old new

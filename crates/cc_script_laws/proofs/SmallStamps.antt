@@ -12,6 +12,7 @@ use Rattle.cc_entry.specs.declared.answer.Answer.TheVariants as answer
 use Rattle.cc_entry.specs.declared.answer.LineReply.{LineReply}
 use Rattle.cc_entry.specs.declared.call.Call.{Call}
 use Rattle.cc_entry.specs.declared.call.Call.TheVariants as call
+use Rattle.cc_entry.specs.declared.query.Query.TheVariants as query
 use Rattle.cc_entry.specs.declared.entry.Entry.{Entry}
 use Rattle.cc_entry.specs.declared.entry.Entry.TheVariants as entry
 use Rattle.cc_entry.specs.declared.error.CcError.{CcError}
@@ -20,6 +21,7 @@ use Rattle.cc_entry.specs.declared.place.Request.{Request}
 use Rattle.cc_entry.specs.declared.reply.Outcome.{Outcome}
 use Rattle.cc_entry.specs.declared.reply.Outcome.TheVariants as outcome
 use Rattle.cc_entry.specs.declared.reply.Reply.TheVariants as reply
+use Rattle.cc_entry.specs.declared.query.Value.TheVariants as value
 use Rattle.cc_script.specs.declared.script.Action.{Action}
 use Rattle.cc_script.specs.declared.script.Action.TheVariants as action
 use Rattle.cc_script.specs.declared.script.StreamLine.{StreamLine}
@@ -174,9 +176,9 @@ module _ (u : Setup) (whole : List Entry) (good : IsGoodSoFar u whole) where
     told-small id (Some handle) valid answered old new (inr left) = logged-small id handle answered old new left.1
 
     pinned-small : (id : ℕ) (answered : Result ℕ CcError) (old new : List Entry) → PinnedUpdateLeft u me file id at bytes answered old new → Small me old new
-    pinned-small id answered old new (inl left) = follow-call u me MakesSmall (Small me) (small-follows me) (call.State file) (outcome.Failed left.0) old new tt left.2
+    pinned-small id answered old new (inl left) = follow-call u me MakesSmall (Small me) (small-follows me) (call.Query (query.State file)) (outcome.Failed left.0) old new tt left.2
     pinned-small id answered old new (inr left) =
-        small-then me old left.0 new (follow-call u me MakesSmall (Small me) (small-follows me) (call.State file) (outcome.Done (reply.State left.1)) old left.0 tt left.2)
+        small-then me old left.0 new (follow-call u me MakesSmall (Small me) (small-follows me) (call.Query (query.State file)) (outcome.Done (reply.Value (value.State left.1))) old left.0 tt left.2)
         (told-small id left.1.log left.1.sizes.valid answered left.0 new left.3)
 
     small-update : (answered : Result ℕ CcError) (old new : List Entry) → UpdateLeft u me file at bytes answered old new → Small me old new

@@ -11,6 +11,7 @@ use Rattle.cc_entry.specs.Place.{File}
 use Rattle.cc_entry.specs.declared.answer.Answer.{Answer}
 use Rattle.cc_entry.specs.declared.call.Call.{Call}
 use Rattle.cc_entry.specs.declared.call.Call.TheVariants as call
+use Rattle.cc_entry.specs.declared.query.Query.TheVariants as query
 use Rattle.cc_entry.specs.declared.entry.Entry.{Entry}
 use Rattle.cc_entry.specs.declared.entry.Entry.TheVariants as entry
 use Rattle.cc_entry.specs.declared.error.CcError.{CcError}
@@ -127,7 +128,7 @@ checkpoint-seen log me between listed new whole seen it = record {
 
 pub table-seen : (log me : ℕ) (between listed past : List Entry) → HasCheckpoint log me between listed past → HasSeen listed past
 table-seen log me between listed past it =
-    let listing : Entry = entry.Call me it.nth None (call.DirtyPages log) (outcome.Done it.reply) in
+    let listing : Entry = entry.Call me it.nth None (call.Query (query.DirtyPages log)) (outcome.Done it.reply) in
     let append : Entry = entry.Append me log it.lsn it.bytes in
     record {
       later = it.later ++ append ∷ (between ++ listing ∷ []);
@@ -308,7 +309,7 @@ module _ (u : Setup) (whole : List Entry) (good : IsGoodSoFar u whole) (s log : 
                 inv.listed old (since_old ++ old) new between since (record { later = since_old; grew = refl }) to it
                 (record { during = since_old; grew = refl; none = any-own me (records_update s log) since_old (quiet before.later since_old before.grew) }) updated held;
             none_between = λ between since_old it.
-                let listing : Entry = entry.Call me it.nth None (call.DirtyPages log) (outcome.Done it.reply) in
+                let listing : Entry = entry.Call me it.nth None (call.Query (query.DirtyPages log)) (outcome.Done it.reply) in
                 let append : Entry = entry.Append me log it.lsn it.bytes in
                 let whole_of : new ≡ (it.later ++ append ∷ []) ++ ((between ++ listing ∷ since_old) ++ old) =
                 it.splits ∙ (sym (append_assoc it.later (append ∷ []) (between ++ listing ∷ (since_old ++ old))) ∙ ap (λ (l : List Entry). (it.later ++ append ∷ []) ++ l) (sym (append_assoc between (listing ∷ since_old) old))) in

@@ -4,6 +4,7 @@ use Rattle.std.specs.List.{AllByRecursion}
 use Rattle.std.specs.declared.option.Option.TheVariants.{None}
 use Rattle.std.proofs.Common.{ap, sym, ◌∙◌, append_assoc}
 use Rattle.cc_entry.specs.declared.call.Call.TheVariants as call
+use Rattle.cc_entry.specs.declared.query.Query.TheVariants as query
 use Rattle.cc_entry.specs.declared.entry.Entry.{Entry}
 use Rattle.cc_entry.specs.declared.entry.Entry.TheVariants as entry
 use Rattle.cc_entry.specs.declared.entry.End.TheVariants as how
@@ -38,7 +39,7 @@ pub unopened-known-at : (u : Setup) (s log : ℕ) (past : List Entry) → IsGood
 unopened-known-at u s log past good never [] = tt
 unopened-known-at u s log past good never (line ∷ lines) = (
   (λ of_log between listed later during it is.
-      let listing : Entry = entry.Call line.caller it.nth None (call.DirtyPages log) (outcome.Done it.reply) in
+      let listing : Entry = entry.Call line.caller it.nth None (call.Query (query.DirtyPages log)) (outcome.Done it.reply) in
       let sync : Entry = entry.Sync line.caller s how.Good in
       let append : Entry = entry.Append line.caller log it.lsn it.bytes in
       let front : List Entry = during ++ listing ∷ listed in

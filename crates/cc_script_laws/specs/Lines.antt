@@ -10,6 +10,7 @@ use Rattle.cc_entry.specs.declared.entry.End.TheVariants as how
 use Rattle.cc_entry.specs.declared.entry.Entry.{Entry}
 use Rattle.cc_entry.specs.declared.entry.Entry.TheVariants as entry
 use Rattle.cc_entry.specs.declared.call.Call.TheVariants as call
+use Rattle.cc_entry.specs.declared.query.Query.TheVariants as query
 use Rattle.cc_entry.specs.declared.error.CcError.{CcError}
 use Rattle.cc_entry.specs.declared.reply.Outcome.TheVariants as outcome
 use Rattle.cc_pieces.specs.Explained.{Answered, GivenToRun}
@@ -94,7 +95,7 @@ abbrev pub IsKnownAt : ℕ → ℕ → ℕ → List Entry → Type 0
 IsKnownAt s log me past =
     (between listed later during : List Entry) (it : HasCheckpoint log me between listed past) →
     between ≡ later ++ entry.Sync me s how.Good ∷ during →
-    AreKnown s (during ++ entry.Call me it.nth None (call.DirtyPages log) (outcome.Done it.reply) ∷ listed)
+    AreKnown s (during ++ entry.Call me it.nth None (call.Query (query.DirtyPages log)) (outcome.Done it.reply) ∷ listed)
 
 -- the lines of a run with their answers, in the order of the script
 abbrev pub lines_answered : GivenToRun → Answered → List (Action × Answer)

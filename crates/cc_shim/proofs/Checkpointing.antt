@@ -9,6 +9,7 @@ use Rattle.std.proofs.lemmas.List.Elements.{All-append, All-from_get_or, All-wea
 use Rattle.cc_entry.specs.Place.{File, Range}
 use Rattle.cc_entry.specs.declared.call.Call.{Call}
 use Rattle.cc_entry.specs.declared.call.Call.TheVariants as call
+use Rattle.cc_entry.specs.declared.query.Query.TheVariants as query
 use Rattle.cc_entry.specs.declared.error.CcError.{CcError}
 use Rattle.cc_entry.specs.declared.error.CcError.TheVariants as error
 use Rattle.cc_entry.specs.declared.place.DirtyRow.{DirtyRow}
@@ -62,28 +63,28 @@ same-range range from to begins ends =
 -- ---- the state of a stream
 
 module _ (w v : Standing) (handle stream : ℕ) (file : File) (is : file ≡ first_object stream) where
-  ends-at : (answer : Result FileState CcError) → CallEnds state_outcome w v (call.State file) answer → CallEnds state_outcome w v (call.State (first_object stream)) answer
-  ends-at answer ends = subst (λ (f : File). CallEnds state_outcome w v (call.State f) answer) is ends
+  ends-at : (answer : Result FileState CcError) → CallEnds state_outcome w v (call.Query (query.State file)) answer → CallEnds state_outcome w v (call.Query (query.State (first_object stream))) answer
+  ends-at answer ends = subst (λ (f : File). CallEnds state_outcome w v (call.Query (query.State f)) answer) is ends
 
   -- it was told
-  pub log-told : (state : FileState) (has : Bool) → CallEnds state_outcome w v (call.State file) (Ok state) → has ≡ state_has_log handle (Some state) → ListEnds w v (LogAsked w.setup w.number handle stream) (Ok has)
+  pub log-told : (state : FileState) (has : Bool) → CallEnds state_outcome w v (call.Query (query.State file)) (Ok state) → has ≡ state_has_log handle (Some state) → ListEnds w v (LogAsked w.setup w.number handle stream) (Ok has)
   log-told state has ends same =
       let at = ends-at (Ok state) ends in
-      ends-here w v (LogAsked w.setup w.number handle stream) (Ok has) (gone-ends state_outcome w v (call.State (first_object stream)) (Ok state) at) tt
+      ends-here w v (LogAsked w.setup w.number handle stream) (Ok has) (gone-ends state_outcome w v (call.Query (query.State (first_object stream))) (Ok state) at) tt
       (Some state, same, at.left)
 
   -- the stream is not open
-  pub log-not_open : CallEnds state_outcome w v (call.State file) (Err error.NotCached) → ListEnds w v (LogAsked w.setup w.number handle stream) (Ok false)
+  pub log-not_open : CallEnds state_outcome w v (call.Query (query.State file)) (Err error.NotCached) → ListEnds w v (LogAsked w.setup w.number handle stream) (Ok false)
   log-not_open ends =
       let at = ends-at (Err error.NotCached) ends in
-      ends-here w v (LogAsked w.setup w.number handle stream) (Ok false) (gone-ends state_outcome w v (call.State (first_object stream)) (Err error.NotCached) at) tt
+      ends-here w v (LogAsked w.setup w.number handle stream) (Ok false) (gone-ends state_outcome w v (call.Query (query.State (first_object stream))) (Err error.NotCached) at) tt
       (None, refl, at.left)
 
   -- it was not told
-  pub log-untold : (e : CcError) → e ≢ error.NotCached → v.others ≤ v.most_others → CallEnds state_outcome w v (call.State file) (Err e) → ListEnds w v (LogAsked w.setup w.number handle stream) (Err e)
+  pub log-untold : (e : CcError) → e ≢ error.NotCached → v.others ≤ v.most_others → CallEnds state_outcome w v (call.Query (query.State file)) (Err e) → ListEnds w v (LogAsked w.setup w.number handle stream) (Err e)
   log-untold e other few ends =
       let at = ends-at (Err e) ends in
-      let gone = gone-ends state_outcome w v (call.State (first_object stream)) (Err e) at in
+      let gone = gone-ends state_outcome w v (call.Query (query.State (first_object stream))) (Err e) at in
       ends-here w v (LogAsked w.setup w.number handle stream) (Err e) gone (full-now {A = FileState} w v 1 (Err e) gone few (omega arith) at.full)
       (other, at.left)
 
@@ -275,15 +276,15 @@ not-spelled w streams handle rows =
 
 -- the table was told, or not
 module _ (w v : Standing) (streams handle : ℕ) where
-  pub table-told : (x : Standing) (rows : List DirtyRow) (answer : Result ℕ CcError) → CallEnds rows_outcome w v (call.DirtyPages handle) (Ok rows) → ListEnds v x (RowsLogged v.setup v.number streams handle rows) answer → ListEnds w x (CheckpointLeft w.setup w.number streams handle) answer
+  pub table-told : (x : Standing) (rows : List DirtyRow) (answer : Result ℕ CcError) → CallEnds rows_outcome w v (call.Query (query.DirtyPages handle)) (Ok rows) → ListEnds v x (RowsLogged v.setup v.number streams handle rows) answer → ListEnds w x (CheckpointLeft w.setup w.number streams handle) answer
   table-told x rows answer ends rest =
-      let gone = gone-ends rows_outcome w v (call.DirtyPages handle) (Ok rows) ends in
+      let gone = gone-ends rows_outcome w v (call.Query (query.DirtyPages handle)) (Ok rows) ends in
       ends-after w v x (CheckpointLeft w.setup w.number streams handle) (RowsLogged v.setup v.number streams handle rows) answer gone rest
       (λ left. inr (v.seen, rows, ends.left, moved w v gone.on (λ u me. RowsLogged u me streams handle rows answer v.seen x.seen) left))
 
-  pub table-untold : (e : CcError) → v.others ≤ v.most_others → CallEnds rows_outcome w v (call.DirtyPages handle) (Err e) → ListEnds w v (CheckpointLeft w.setup w.number streams handle) (Err e)
+  pub table-untold : (e : CcError) → v.others ≤ v.most_others → CallEnds rows_outcome w v (call.Query (query.DirtyPages handle)) (Err e) → ListEnds w v (CheckpointLeft w.setup w.number streams handle) (Err e)
   table-untold e few ends =
-      let gone = gone-ends rows_outcome w v (call.DirtyPages handle) (Err e) ends in
+      let gone = gone-ends rows_outcome w v (call.Query (query.DirtyPages handle)) (Err e) ends in
       ends-here w v (CheckpointLeft w.setup w.number streams handle) (Err e) gone (full-now {A = List DirtyRow} w v 1 (Err e) gone few (omega arith) ends.full)
       (inl (e, refl, ends.left))
 

@@ -5,6 +5,7 @@ use Rattle.std.specs.declared.option.Option.TheVariants.{Some, None}
 use Rattle.std.proofs.Common.{sym, subst, inl, inr, arith}
 use Rattle.cc_entry.specs.Place.{File, Range}
 use Rattle.cc_entry.specs.declared.call.Call.TheVariants as call
+use Rattle.cc_entry.specs.declared.query.Query.TheVariants as query
 use Rattle.cc_entry.specs.declared.error.CcError.{CcError}
 use Rattle.cc_entry.specs.declared.error.CcError.TheVariants as error
 use Rattle.cc_entry.specs.declared.place.FileState.{FileState}
@@ -30,15 +31,15 @@ module _ {A : Type 0} (file : File) (range : Range) (write : Bool) (Left : Setup
   Locked w by answered old new = LockedLeft w.setup w.number file range write by (Left w.setup w.number) answered old new
 
   -- the state was not told
-  pub locked-untold : (w v : Standing) (by : FileState → Option CcError) (e : CcError) → v.others ≤ v.most_others → CallEnds state_outcome w v (call.State file) (Err e) → ListEnds w v (Locked w by) (Err e)
+  pub locked-untold : (w v : Standing) (by : FileState → Option CcError) (e : CcError) → v.others ≤ v.most_others → CallEnds state_outcome w v (call.Query (query.State file)) (Err e) → ListEnds w v (Locked w by) (Err e)
   locked-untold w v by e few ends =
-      let gone = gone-ends state_outcome w v (call.State file) (Err e) ends in
+      let gone = gone-ends state_outcome w v (call.Query (query.State file)) (Err e) ends in
       ends-here w v (Locked w by) (Err e) gone (full-now {A = FileState} w v 1 (Err e) gone few (omega arith) ends.full) (inl (e, refl, ends.left))
 
   -- it was, and the call went on by it
-  pub locked-told : (w v x : Standing) (by : FileState → Option CcError) (state : FileState) (answer : Result A CcError) → CallEnds state_outcome w v (call.State file) (Ok state) → ListEnds v x (Found v (by state)) answer → ListEnds w x (Locked w by) answer
+  pub locked-told : (w v x : Standing) (by : FileState → Option CcError) (state : FileState) (answer : Result A CcError) → CallEnds state_outcome w v (call.Query (query.State file)) (Ok state) → ListEnds v x (Found v (by state)) answer → ListEnds w x (Locked w by) answer
   locked-told w v x by state answer ends rest =
-      let gone = gone-ends state_outcome w v (call.State file) (Ok state) ends in
+      let gone = gone-ends state_outcome w v (call.Query (query.State file)) (Ok state) ends in
       ends-after w v x (Locked w by) (Found v (by state)) answer gone rest
       (λ left. inr (v.seen, state, ends.left, moved w v gone.on (λ u me. FoundLeft me file range write (by state) (Left u me) answer v.seen x.seen) left))
 

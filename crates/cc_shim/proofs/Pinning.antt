@@ -8,6 +8,7 @@ use Rattle.cc_entry.specs.Kinds.{is_pin}
 use Rattle.cc_entry.specs.Place.{File}
 use Rattle.cc_entry.specs.declared.call.Call.{Call}
 use Rattle.cc_entry.specs.declared.call.Call.TheVariants as call
+use Rattle.cc_entry.specs.declared.query.Query.TheVariants as query
 use Rattle.cc_entry.specs.declared.entry.Entry.{Entry}
 use Rattle.cc_entry.specs.declared.error.CcError.{CcError}
 use Rattle.cc_entry.specs.declared.error.CcError.TheVariants as error
@@ -231,33 +232,33 @@ module _ (w v : Standing) (file : File) (pin : Held) (at : ℕ) (bytes : List �
   abbrev Pinned : Result ℕ CcError → List Entry → List Entry → Type 0
   Pinned answered old new = PinnedUpdateLeft w.setup w.number file pin.id at bytes answered old new
 
-  still-told : (answer : Result FileState CcError) → CallEnds state_outcome w v (call.State file) answer → IsHolding v is_pin pin
+  still-told : (answer : Result FileState CcError) → CallEnds state_outcome w v (call.Query (query.State file)) answer → IsHolding v is_pin pin
   still-told answer ends =
-      still w v pin (gone-ends state_outcome w v (call.State file) answer ends).on
-      (unchanged-call w.setup w.number pin.id (call.State file) (state_outcome answer) w.seen v.seen ends.left refl) good holding
+      still w v pin (gone-ends state_outcome w v (call.Query (query.State file)) answer ends).on
+      (unchanged-call w.setup w.number pin.id (call.Query (query.State file)) (state_outcome answer) w.seen v.seen ends.left refl) good holding
 
   -- the state was not told
-  pub untold : (e : CcError) → v.others ≤ v.most_others → CallEnds state_outcome w v (call.State file) (Err e) → PinnedEnds w v pin Pinned (Err e)
+  pub untold : (e : CcError) → v.others ≤ v.most_others → CallEnds state_outcome w v (call.Query (query.State file)) (Err e) → PinnedEnds w v pin Pinned (Err e)
   untold e few ends =
-      let gone = gone-ends state_outcome w v (call.State file) (Err e) ends in
+      let gone = gone-ends state_outcome w v (call.Query (query.State file)) (Err e) ends in
       record {
         ends = ends-here w v Pinned (Err e) gone (full-now {A = FileState} w v 1 (Err e) gone few (omega arith) ends.full) (inl (e, refl, ends.left));
         holding = still-told (Err e) ends;
       }
 
-  module _ (state : FileState) (ends : CallEnds state_outcome w v (call.State file) (Ok state)) where
+  module _ (state : FileState) (ends : CallEnds state_outcome w v (call.Query (query.State file)) (Ok state)) where
     -- the pass has its pin behind it, and what it has seen is good
     pub pin-told : IsHolding v is_pin pin
     pin-told = still-told (Ok state) ends
 
     pub good-told : IsGood v.setup v.seen
     good-told =
-        let gone = gone-ends state_outcome w v (call.State file) (Ok state) ends in
+        let gone = gone-ends state_outcome w v (call.Query (query.State file)) (Ok state) ends in
         subst (λ (u : Setup). IsGood u v.seen) (sym (same-setup w v gone.on)) good
 
     pub short-told : WasPinned w file at (length bytes) pin.id → length bytes < 2 ^ 32
     short-told made =
-        let gone = gone-ends state_outcome w v (call.State file) (Ok state) ends in
+        let gone = gone-ends state_outcome w v (call.Query (query.State file)) (Ok state) ends in
         pinned-short w.setup w.number file at (length bytes) pin.id made.0 w.seen gone.grew.later made.1
         (subst (λ (past : List Entry). IsGood w.setup past) gone.grew.grew good)
 
@@ -270,11 +271,11 @@ module _ (w v : Standing) (file : File) (pin : Held) (at : ℕ) (bytes : List �
         subst (λ (f : File). at ≤ valid_of (history v.seen f.stream)) (sym same) there
 
     pub bears-told : (x : Standing) (told : Result ℕ CcError) → IfOk told (λ lsn. BearsLsn file at (length bytes) lsn v.seen x.seen) → IfOk told (λ lsn. BearsLsn file at (length bytes) lsn w.seen x.seen)
-    bears-told x told b = answered-earlier file at (length bytes) told w.seen v.seen x.seen (gone-ends state_outcome w v (call.State file) (Ok state) ends).grew b
+    bears-told x told b = answered-earlier file at (length bytes) told w.seen v.seen x.seen (gone-ends state_outcome w v (call.Query (query.State file)) (Ok state) ends).grew b
 
     told-here : (e : CcError) → CallListWasFull {A = ℕ} w v (Err e) → ToldUpdateLeft w.setup w.number file pin.id at bytes state.log state.sizes.valid (Err e) v.seen v.seen → PinnedEnds w v pin Pinned (Err e)
     told-here e full left =
-        let gone = gone-ends state_outcome w v (call.State file) (Ok state) ends in
+        let gone = gone-ends state_outcome w v (call.Query (query.State file)) (Ok state) ends in
         record { ends = ends-here w v Pinned (Err e) gone full (inr (v.seen, state, ends.left, left)); holding = pin-told }
 
     -- the stream has no log
@@ -295,7 +296,7 @@ module _ (w v : Standing) (file : File) (pin : Held) (at : ℕ) (bytes : List �
       -- the rest followed
       pub with-log : (x : Standing) (answer : Result ℕ CcError) → at ≤ state.sizes.valid → PinnedEnds v x pin (LoggedLeft v.setup v.number file pin.id at bytes handle) answer → PinnedEnds w x pin Pinned answer
       with-log x answer within rest =
-          let gone = gone-ends state_outcome w v (call.State file) (Ok state) ends in
+          let gone = gone-ends state_outcome w v (call.Query (query.State file)) (Ok state) ends in
           record {
             ends =
                 ends-after w v x Pinned (LoggedLeft v.setup v.number file pin.id at bytes handle) answer gone rest.ends

@@ -6,6 +6,7 @@ use Rattle.std.proofs.Common.{ap, sym, ◌∙◌, subst, inl, inr, arith}
 use Rattle.cc_entry.specs.Place.{File}
 use Rattle.cc_entry.specs.declared.call.Call.{Call}
 use Rattle.cc_entry.specs.declared.call.Call.TheVariants as call
+use Rattle.cc_entry.specs.declared.query.Query.TheVariants as query
 use Rattle.cc_entry.specs.declared.entry.Entry.{Entry}
 use Rattle.cc_entry.specs.declared.error.CcError.{CcError}
 use Rattle.cc_entry.specs.declared.error.CcError.TheVariants as error
@@ -38,18 +39,18 @@ module _ (w v : Standing) (file : File) (how : By) (at : ℕ) (was : List ℕ) w
   Held answered old new = HeldPartsLeft w.setup w.number file (hold_path_of how file) (parts_by how) at (length was) answered old new
 
   -- the state was not told
-  pub size-untold : (e : CcError) → v.others ≤ v.most_others → CallEnds state_outcome w v (call.State file) (Err e) → BelowSizeEnds w v file how at (Err e) was was
+  pub size-untold : (e : CcError) → v.others ≤ v.most_others → CallEnds state_outcome w v (call.Query (query.State file)) (Err e) → BelowSizeEnds w v file how at (Err e) was was
   size-untold e few ends =
-      let gone = gone-ends state_outcome w v (call.State file) (Err e) ends in
+      let gone = gone-ends state_outcome w v (call.Query (query.State file)) (Err e) ends in
       record {
         ends = ends-here w v Held (Err e) gone (full-now {A = FileState} w v 1 (Err e) gone few (omega arith) ends.full) (inl ends.left);
         rest = refl;
       }
 
   -- it was, and the parts below the size were read, or not
-  pub size-told : (x : Standing) (state : FileState) (answer : Result ℕ CcError) (now : List ℕ) → CallEnds state_outcome w v (call.State file) (Ok state) → ToldSizeEnds v x file how at state answer was now → BelowSizeEnds w x file how at answer was now
+  pub size-told : (x : Standing) (state : FileState) (answer : Result ℕ CcError) (now : List ℕ) → CallEnds state_outcome w v (call.Query (query.State file)) (Ok state) → ToldSizeEnds v x file how at state answer was now → BelowSizeEnds w x file how at answer was now
   size-told x state answer now ends told =
-      let gone = gone-ends state_outcome w v (call.State file) (Ok state) ends in
+      let gone = gone-ends state_outcome w v (call.Query (query.State file)) (Ok state) ends in
       record {
         ends =
             ends-after w v x Held (PartsLeft v.setup v.number (hold_path_of how file) (parts_by how (cut_range state.sizes.size at (length was)))) (read_in answer now) gone told.ends

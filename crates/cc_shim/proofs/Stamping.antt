@@ -9,6 +9,7 @@ use Rattle.std.proofs.lemmas.Bool.{eq-eqb, ltb-true}
 use Rattle.cc_entry.specs.Place.{File}
 use Rattle.cc_entry.specs.declared.call.Call.{Call}
 use Rattle.cc_entry.specs.declared.call.Call.TheVariants as call
+use Rattle.cc_entry.specs.declared.query.Query.TheVariants as query
 use Rattle.cc_entry.specs.declared.entry.Entry.{Entry}
 use Rattle.cc_entry.specs.declared.entry.Entry.TheVariants as entry
 use Rattle.cc_entry.specs.declared.error.CcError.{CcError}
@@ -18,13 +19,14 @@ use Rattle.cc_entry.specs.declared.reply.Outcome.{Outcome}
 use Rattle.cc_entry.specs.declared.reply.Outcome.TheVariants as outcome
 use Rattle.cc_entry.specs.declared.reply.Reply.{Reply}
 use Rattle.cc_entry.specs.declared.reply.Reply.TheVariants as reply
+use Rattle.cc_entry.specs.declared.query.Value.TheVariants as value
 use Rattle.cc_model.specs.Good.{IsGoodSoFar}
 use Rattle.cc_model.specs.History.{Effect, Did, history}
 use Rattle.cc_model.specs.Holds.{Hold, hold_at, holds_of}
 use Rattle.cc_model.specs.Legal.{IsLegal, IsLegalEntry, IsOutcome, stream_history}
 use Rattle.cc_model.specs.Reasons.{past_valid, refuse_if}
 use Rattle.cc_model.specs.Refusals.{refusal}
-use Rattle.cc_model.specs.Replies.{state_of}
+use Rattle.cc_model.specs.Queries.{state_of}
 use Rattle.cc_model.specs.Setup.{Setup}
 use Rattle.cc_model.specs.Sizes.{Touch, hold_has, touched_if}
 use Rattle.cc_model.specs.Touches.{touches, valid_of}
@@ -53,25 +55,25 @@ unlisted u me it e old new none (inr is) = cc (none, is.listed)
 -- ---- the valid data length as a pass was told it
 
 -- the pass was told a state behind a place, so the valid data length stays there while the pass has its hold
-pub told-valid : (u : Setup) (me id : ℕ) (hold : Hold) (file : File) (n : ℕ) (state : FileState) (old new : List Entry) → CallLeft u me (call.State file) (outcome.Done (reply.State state)) old new → IsGoodSoFar u new → HasHold me file.stream id hold old → n ≤ hold.at + hold.len → n ≤ state.sizes.valid → n ≤ valid_of (history new file.stream)
+pub told-valid : (u : Setup) (me id : ℕ) (hold : Hold) (file : File) (n : ℕ) (state : FileState) (old new : List Entry) → CallLeft u me (call.Query (query.State file)) (outcome.Done (reply.Value (value.State state))) old new → IsGoodSoFar u new → HasHold me file.stream id hold old → n ≤ hold.at + hold.len → n ≤ state.sizes.valid → n ≤ valid_of (history new file.stream)
 told-valid u me id hold file n state old new left good has below valid =
     let p = left.placed in
-    let ended : Outcome = outcome.Done (reply.State state) in
+    let ended : Outcome = outcome.Done (reply.Value (value.State state)) in
     let front = left.earlier ++ old in
-    let here = filed-stream (holds_of (stream_history front p.stream)) me p.stream (call.State file) file refl p.filed in
-    let tail : IsLegal u (entry.Call me p.nth p.stream (call.State file) ended ∷ front) = legal-tail u p.later _ (rw p.grew at good.legal) in
-    let told = legal-call u me p.nth p.stream (call.State file) ended front tail in
-    let is : reply.State state ≡ reply.State (state_of (history front file.stream)) =
-    subst (λ (o : Option ℕ). reply.State state ≡ reply.State (state_of (stream_history front o))) here told.1 in
+    let here = filed-stream (holds_of (stream_history front p.stream)) me p.stream (call.Query (query.State file)) file refl p.filed in
+    let tail : IsLegal u (entry.Call me p.nth p.stream (call.Query (query.State file)) ended ∷ front) = legal-tail u p.later _ (rw p.grew at good.legal) in
+    let told = legal-call u me p.nth p.stream (call.Query (query.State file)) ended front tail in
+    let is : reply.Value (value.State state) ≡ reply.Value (value.State (state_of (history front file.stream))) =
+    subst (λ (o : Option ℕ). reply.Value (value.State state) ≡ reply.Value (value.State (state_of (stream_history front o)))) here told.1 in
     let same : state ≡ state_of (history front file.stream) = inner (state_of (history front file.stream)) is in
     let then : n ≤ valid_of (history front file.stream) = subst (λ (x : FileState). n ≤ x.sizes.valid) same valid in
-    let there = front-keeps u me file.stream id hold (call.State file) ended left.earlier old new p good has in
+    let there = front-keeps u me file.stream id hold (call.Query (query.State file)) ended left.earlier old new p good has in
     let since : IsUnchanged me id front new =
     subst (IsUnchanged me id front) (sym p.grew)
-    (unchanged-then me id front (entry.Call me p.nth p.stream (call.State file) ended ∷ front) _ (unchanged-entry me id _ front refl) (unchanged-others me id p.later _ p.quiet)) in
+    (unchanged-then me id front (entry.Call me p.nth p.stream (call.Query (query.State file)) ended ∷ front) _ (unchanged-entry me id _ front refl) (unchanged-others me id p.later _ p.quiet)) in
     valid-stays u me file.stream id hold n below front new since good there then
   where
-    inner : (x : FileState) → reply.State state ≡ reply.State x → state ≡ x
+    inner : (x : FileState) → reply.Value (value.State state) ≡ reply.Value (value.State x) → state ≡ x
     inner x same = cc
 
 -- ---- the write through the pin

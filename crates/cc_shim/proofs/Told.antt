@@ -8,6 +8,7 @@ use Rattle.std.proofs.lemmas.Bool.{eqb-true, ltb-false}
 use Rattle.cc_entry.specs.Place.{File}
 use Rattle.cc_entry.specs.declared.call.Call.{Call}
 use Rattle.cc_entry.specs.declared.call.Call.TheVariants as call
+use Rattle.cc_entry.specs.declared.query.Query.TheVariants as query
 use Rattle.cc_entry.specs.declared.entry.Entry.{Entry}
 use Rattle.cc_entry.specs.declared.entry.Entry.TheVariants as entry
 use Rattle.cc_entry.specs.declared.error.CcError.TheVariants as error
@@ -15,6 +16,7 @@ use Rattle.cc_entry.specs.declared.place.FileState.{FileState}
 use Rattle.cc_entry.specs.declared.reply.Outcome.{Outcome}
 use Rattle.cc_entry.specs.declared.reply.Outcome.TheVariants as outcome
 use Rattle.cc_entry.specs.declared.reply.Reply.TheVariants as reply
+use Rattle.cc_entry.specs.declared.query.Value.TheVariants as value
 use Rattle.cc_effects.specs.Calls.{CallLeft}
 use Rattle.cc_effects.proofs.FrontLaws.{legal-tail, outcome-defined}
 use Rattle.cc_laws.proofs.UnrefusedCalls.{refuse_if-none, unrefused}
@@ -25,7 +27,7 @@ use Rattle.cc_model.specs.Holds.{holds_of}
 use Rattle.cc_model.specs.Legal.{IsLegal, IsLegalEntry, IsOutcome, stream_history}
 use Rattle.cc_model.specs.Reasons.{crosses_blocks}
 use Rattle.cc_model.specs.Refusals.{refusal}
-use Rattle.cc_model.specs.Replies.{state_of}
+use Rattle.cc_model.specs.Queries.{state_of}
 use Rattle.cc_model.specs.Setup.{Setup}
 use Rattle.cc_own.proofs.CallsKeep.{at-front, filed-stream}
 use Rattle.cc_calls.proofs.Holding.{so-far}
@@ -35,21 +37,21 @@ unfolding IsLegal IsLegalEntry
 legal-call u me nth stream it answered front legal = legal.0
 
 -- the sizes that a caller is told lie below 2^63
-pub state-small : (u : Setup) (me : ℕ) (file : File) (state : FileState) (old new : List Entry) → CallLeft u me (call.State file) (outcome.Done (reply.State state)) old new → IsGood u new → (state.sizes.valid < 2 ^ 63) × (state.sizes.size < 2 ^ 63)
+pub state-small : (u : Setup) (me : ℕ) (file : File) (state : FileState) (old new : List Entry) → CallLeft u me (call.Query (query.State file)) (outcome.Done (reply.Value (value.State state))) old new → IsGood u new → (state.sizes.valid < 2 ^ 63) × (state.sizes.size < 2 ^ 63)
 state-small u me file state old new left good =
     let p = left.placed in
-    let front = at-front u me (call.State file) (outcome.Done (reply.State state)) left.earlier old new p (so-far u new good) in
-    let here = filed-stream (holds_of (stream_history (left.earlier ++ old) p.stream)) me p.stream (call.State file) file refl p.filed in
-    let tail : IsLegal u (entry.Call me p.nth p.stream (call.State file) (outcome.Done (reply.State state)) ∷ (left.earlier ++ old)) = legal-tail u p.later _ (rw p.grew at good.legal) in
-    let told = legal-call u me p.nth p.stream (call.State file) (outcome.Done (reply.State state)) (left.earlier ++ old) tail in
-    let is : reply.State state ≡ reply.State (state_of (history (left.earlier ++ old) file.stream)) =
-    subst (λ (o : Option ℕ). reply.State state ≡ reply.State (state_of (stream_history (left.earlier ++ old) o))) here told.1 in
+    let front = at-front u me (call.Query (query.State file)) (outcome.Done (reply.Value (value.State state))) left.earlier old new p (so-far u new good) in
+    let here = filed-stream (holds_of (stream_history (left.earlier ++ old) p.stream)) me p.stream (call.Query (query.State file)) file refl p.filed in
+    let tail : IsLegal u (entry.Call me p.nth p.stream (call.Query (query.State file)) (outcome.Done (reply.Value (value.State state))) ∷ (left.earlier ++ old)) = legal-tail u p.later _ (rw p.grew at good.legal) in
+    let told = legal-call u me p.nth p.stream (call.Query (query.State file)) (outcome.Done (reply.Value (value.State state))) (left.earlier ++ old) tail in
+    let is : reply.Value (value.State state) ≡ reply.Value (value.State (state_of (history (left.earlier ++ old) file.stream))) =
+    subst (λ (o : Option ℕ). reply.Value (value.State state) ≡ reply.Value (value.State (state_of (stream_history (left.earlier ++ old) o)))) here told.1 in
     let same : state ≡ state_of (history (left.earlier ++ old) file.stream) = inner _ is in
     let valid = valid_of-good u (left.earlier ++ old) file.stream front in
     let size = size_of-good u (left.earlier ++ old) file.stream front in
     rw same (below _ _ valid size, size)
   where
-    inner : (x : FileState) → reply.State state ≡ reply.State x → state ≡ x
+    inner : (x : FileState) → reply.Value (value.State state) ≡ reply.Value (value.State x) → state ≡ x
     inner x same = cc
 
     below : (v s : ℕ) → v ≤ s → s < 2 ^ 63 → v < 2 ^ 63

@@ -8,6 +8,7 @@ use Rattle.std.proofs.lemmas.List.FromFn.{map-range_with_len_more}
 use Rattle.cc_entry.specs.Place.{File, Range}
 use Rattle.cc_entry.specs.declared.call.Call.{Call}
 use Rattle.cc_entry.specs.declared.call.Call.TheVariants as call
+use Rattle.cc_entry.specs.declared.query.Query.TheVariants as query
 use Rattle.cc_entry.specs.declared.error.CcError.{CcError}
 use Rattle.cc_entry.specs.declared.error.CcError.TheVariants as error
 use Rattle.cc_entry.specs.declared.place.FileState.{FileState}
@@ -176,17 +177,17 @@ module _ (w v : Standing) (file : File) (at : ℕ) (bytes : List ℕ) (short : l
       (λ left. rw (le-ltb 1048576 (length bytes) short) left) ends
 
   -- the state was not told
-  pub write-untold : (e : CcError) → v.others ≤ v.most_others → CallEnds state_outcome w v (call.State file) (Err e) → ListEnds w v (ExtendingWriteLeft w.setup w.number file at bytes) (Err e)
+  pub write-untold : (e : CcError) → v.others ≤ v.most_others → CallEnds state_outcome w v (call.Query (query.State file)) (Err e) → ListEnds w v (ExtendingWriteLeft w.setup w.number file at bytes) (Err e)
   write-untold e few ends =
-      let gone = gone-ends state_outcome w v (call.State file) (Err e) ends in
+      let gone = gone-ends state_outcome w v (call.Query (query.State file)) (Err e) ends in
       as-short v (Err e)
       (ends-here w v (ShortWriteLeft w.setup w.number file at bytes) (Err e) gone (full-now {A = FileState} w v 1 (Err e) gone few (omega arith) ends.full)
       (inl (e, refl, ends.left)))
 
   -- it was, and the write went on
-  pub write-told : (x : Standing) (state : FileState) (answered : Result (Unit {0}) CcError) → CallEnds state_outcome w v (call.State file) (Ok state) → ListEnds v x (ToldWriteLeft v.setup v.number file at bytes state) answered → ListEnds w x (ExtendingWriteLeft w.setup w.number file at bytes) answered
+  pub write-told : (x : Standing) (state : FileState) (answered : Result (Unit {0}) CcError) → CallEnds state_outcome w v (call.Query (query.State file)) (Ok state) → ListEnds v x (ToldWriteLeft v.setup v.number file at bytes state) answered → ListEnds w x (ExtendingWriteLeft w.setup w.number file at bytes) answered
   write-told x state answered ends rest =
-      let gone = gone-ends state_outcome w v (call.State file) (Ok state) ends in
+      let gone = gone-ends state_outcome w v (call.Query (query.State file)) (Ok state) ends in
       as-short x answered
       (ends-after w v x (ShortWriteLeft w.setup w.number file at bytes) (ToldWriteLeft v.setup v.number file at bytes state) answered gone rest
       (λ left. inr (v.seen, state, ends.left, moved w v gone.on (λ u me. ToldWriteLeft u me file at bytes state answered v.seen x.seen) left)))

@@ -4,6 +4,7 @@ use Rattle.std.specs.Global.{Global}
 use Rattle.std.specs.declared.option.Option.{Option}
 use Rattle.cc_entry.specs.declared.place.FileState.{FileState}
 use Rattle.cc_entry.specs.declared.call.Call.TheVariants as call
+use Rattle.cc_entry.specs.declared.query.Query.TheVariants as query
 use Rattle.cc_entry.specs.declared.error.CcError.{CcError}
 use Rattle.cc_entry.specs.declared.error.CcError.TheVariants as error
 use Rattle.cc_entry.specs.declared.reply.Outcome.TheVariants as outcome
@@ -18,7 +19,7 @@ abbrev pub LogAsked : Setup → ℕ → ℕ → ℕ → Result Bool CcError → 
 LogAsked u me handle stream (Ok has) old new =
     (state : Option FileState) × (has ≡ state_has_log handle state) × StateAsked u me stream state old new
 LogAsked u me handle stream (Err e) old new =
-    (e ≢ error.NotCached) × CallLeft u me (call.State (first_object stream)) (outcome.Failed e) old new
+    (e ≢ error.NotCached) × CallLeft u me (call.Query (query.State (first_object stream))) (outcome.Failed e) old new
 
 -- which of the first streams have it
 abbrev pub LogsAsked : Setup → ℕ → ℕ → ℕ → Result (Vec ℕ Global) CcError → Between

@@ -3,6 +3,7 @@ use Rattle.std.specs.Prelude.{◌≡◌, ℕ, Bool, true, false, List, ◌∷◌
 use Rattle.std.proofs.Common.{subst}
 use Rattle.std.specs.Option.{option_map}
 use Rattle.cc_entry.specs.Place.{File, Range}
+use Rattle.cc_entry.specs.Queries.{log_of_query}
 use Rattle.cc_entry.specs.declared.call.Call.{Call}
 use Rattle.cc_entry.specs.declared.call.Call.TheVariants as call
 use Rattle.cc_entry.specs.declared.error.CcError.{CcError}
@@ -14,7 +15,7 @@ use Rattle.cc_model.specs.Discards.{unsettled, grown}
 use Rattle.cc_model.specs.History.{Effect}
 use Rattle.cc_model.specs.Holds.{Hold, holds_of}
 use Rattle.cc_model.specs.Ranges.{range_of}
-use Rattle.cc_model.specs.Reasons.{refuse_if, not_cached, cached_file, too_long, view_boundary, bad_sizes, bad_granularity, no_log, beyond_size, beyond_valid}
+use Rattle.cc_model.specs.Reasons.{refuse_if, not_cached, cached_file, too_long, view_boundary, bad_sizes, bad_granularity, missing_log, no_log, beyond_size, beyond_valid}
 use Rattle.cc_model.specs.Refusals.{first_of, refusal}
 use Rattle.cc_model.specs.Setup.{Setup}
 use Rattle.cc_model.specs.Touches.{size_of, valid_of}
@@ -73,7 +74,11 @@ granularity-listed other = tt
 
 log-listed : (u : Setup) (it : Call) → IsListed (no_log u it)
 log-listed u (call.SetLog file handle) = if-listed _ _ refl
-log-listed u (call.DirtyPages handle) = if-listed _ _ refl
+log-listed u (call.Query asked) = by (log_of_query asked)
+  where
+    by : (named : Option ℕ) → IsListed (missing_log u named)
+    by None = tt
+    by (Some handle) = if-listed _ _ refl
 log-listed u other = tt
 
 size-listed : (size : ℕ) (it : Call) → IsListed (beyond_size size it)

@@ -1,11 +1,12 @@
 -- What is known of a call that waits for a page.
-use Rattle.std.specs.Prelude.{◌≡◌, ℕ, ◌+◌, ◌*◌, ◌≤◌, Bool, true, false, not, ◌==◌, nat_lt, min, List, length, if◌then◌else◌, refl}
+use Rattle.std.specs.Prelude.{◌≡◌, ℕ, ◌+◌, ◌*◌, ◌≤◌, Bool, true, false, not, ◌==◌, nat_lt, min, List, length, is_some, if◌then◌else◌, refl}
 use Rattle.std.specs.declared.option.Option.{Option}
 use Rattle.std.specs.declared.option.Option.TheVariants.{Some, None}
 use Rattle.std.proofs.Common.{ap, sym, ◌∙◌, arith}
 use Rattle.std.proofs.lemmas.Bool.{and_parts, or_left, eq-eqb, ltb-false, not-false}
 use Rattle.cc_entry.specs.Place.{File, Range}
 use Rattle.cc_entry.specs.Pages.{has_page, pages_of}
+use Rattle.cc_entry.specs.Queries.{file_of_query, extent_of_query}
 use Rattle.cc_entry.specs.declared.call.Call.{Call}
 use Rattle.cc_entry.specs.declared.call.Call.TheVariants as call
 use Rattle.cc_entry.specs.declared.entry.Entry.{Entry}
@@ -21,7 +22,7 @@ use Rattle.cc_model.specs.History.{Effect, history}
 use Rattle.cc_model.specs.Holds.{Hold}
 use Rattle.cc_model.specs.Numbers.{is_empty}
 use Rattle.cc_model.specs.Objects.{objects}
-use Rattle.cc_model.specs.Ranges.{range_of}
+use Rattle.cc_model.specs.Ranges.{range_of, queried_range}
 use Rattle.cc_model.specs.Reasons.{is_open, not_cached, cached_file, past_size, beyond_size}
 use Rattle.cc_model.specs.Refusals.{refusal}
 use Rattle.cc_model.specs.Replies.{is_whole}
@@ -110,6 +111,11 @@ range-within size it r answered room none is = go it answered room none is
     go (call.MdlWrite file at len) answered room none is = same _ is (not-past size (at + len) none)
     go (call.NcWrite file page) answered room none is = same _ is (stored-within page size)
     go (call.AheadStep request) answered room none is = same _ is (omega arith)
+    go (call.Query asked) answered room none is = by (extent_of_query asked) is
+      where
+        by : (extent : Option (ℕ × ℕ)) → queried_range size extent ≡ Some r → r.to ≤ size
+        by None is = absurd (cc)
+        by (Some (at, n)) is = same _ is (omega arith)
     go other answered room none is = absurd (cc)
 
 -- such a call names a file object that is cached
@@ -128,6 +134,11 @@ opened h (call.MdlWrite file at len) answered room needing none = among-not_empt
 opened h (call.NcWrite file page) answered room needing none = among-not_empty file.object (objects h) (not-false _ (refuse_if-none _ _ none))
 opened h (call.AheadStep request) answered room needing none =
     among-not_empty request.file.object (objects h) (and_parts (is_open h request.file) _ needing).0
+opened h (call.Query asked) answered room needing none = by (file_of_query asked) answered none
+  where
+    by : (o : Option File) → is_some o ≡ true → not_cached h o ≡ None → is_empty (objects h) ≡ false
+    by None some none = absurd (cc)
+    by (Some file) some none = among-not_empty file.object (objects h) (not-false _ (refuse_if-none _ _ none))
 opened h other answered room needing none = absurd (cc)
 
 -- so its stream has a shared map
@@ -156,6 +167,11 @@ filed-of holds pass s page it answered room filed = go it answered room filed
     go (call.MdlWrite file at len) answered room filed = same file.stream filed
     go (call.NcWrite file page) answered room filed = same file.stream filed
     go (call.AheadStep request) answered room filed = same request.file.stream filed
+    go (call.Query asked) answered room filed = by (file_of_query asked) answered filed
+      where
+        by : (o : Option File) → is_some o ≡ true → IsFiled holds pass (Some s) (call.Query asked) o → is_file_of_page o (record { stream = s; page = page }) ≡ true
+        by None some filed = absurd (cc)
+        by (Some file) some filed = same file.stream filed
     go other answered room filed = absurd (cc)
 
 -- a call that brings pages in may give a block up

@@ -6,6 +6,7 @@ use Rattle.std.specs.List.{find}
 use Rattle.std.specs.Option.{option_eq}
 use Rattle.cc_entry.specs.Pages.{pages_of}
 use Rattle.cc_entry.specs.Place.{Range}
+use Rattle.cc_entry.specs.Queries.{is_of_stream}
 use Rattle.cc_entry.specs.declared.call.Call.{Call}
 use Rattle.cc_entry.specs.declared.call.Call.TheVariants as call
 use Rattle.cc_entry.specs.declared.error.CcError.{CcError}
@@ -39,8 +40,7 @@ is_stepped (call.NcWrite file page) = false
 is_stepped (call.Flush file span) = false
 is_stepped (call.Purge file span) = false
 is_stepped (call.Discard file span) = false
-is_stepped (call.DirtyPages handle) = false
-is_stepped call.IsDirtyData = false
+is_stepped (call.Query query) = is_of_stream query
 is_stepped other = true
 
 -- A book and a journal stand under a setup: the journal is good, its limits are those of the setup, and the book

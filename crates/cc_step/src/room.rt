@@ -1,11 +1,13 @@
 //! Room for the block of a page, and the block to give up to make it.
 
 ghost use Rattle.std.specs.Prelude.{◌≡◌, ℕ, ◌*◌, ◌<◌, ◌^◌, nat_lt, true, List, Option, Some, IfOk};
+ghost use Rattle.cc_entry.specs.Place.{Range};
+ghost use Rattle.cc_entry.specs.Queries.{extent_of_query};
 ghost use Rattle.cc_entry.specs.declared.entry.Entry.{Entry};
 ghost use Rattle.cc_book.specs.Book.{BookStands};
 ghost use Rattle.cc_effects.specs.Asked.{makes_room};
 ghost use Rattle.cc_model.specs.History.{history};
-ghost use Rattle.cc_model.specs.Ranges.{range_of, cut_range};
+ghost use Rattle.cc_model.specs.Ranges.{range_of, cut_range, queried_range};
 ghost use Rattle.cc_model.specs.Setup.{Setup};
 ghost use Rattle.cc_model.specs.Sizes.{stored_range};
 ghost use Rattle.cc_model.specs.Touches.{size_of, valid_of};
@@ -14,7 +16,7 @@ ghost use Rattle.cc_step.specs.Fill.{book_page};
 ghost use Rattle.cc_step.specs.Room.{has_room, IsWaiting, IsCrowded, IsToGo, IsDirtyIn, IsLeastIn};
 
 use cc_book::Book;
-use cc_entry::{Call, NoMemory, PageId, Span};
+use cc_entry::{Call, NoMemory, PageId, Query, Span};
 use cc_journal::Journal;
 use std::alloc::Global;
 
@@ -75,8 +77,19 @@ fn span_of(book: &Book, call: &Call) -> Option<Span>
         Call::MdlWrite { at, len, .. } => span_below(book, *at, *len),
         Call::NcWrite { page, .. } => stored_span(book, *page),
         Call::AheadStep { request } => span_below(book, request.at, request.len),
+        Call::Query(query) => span_for(book, query),
         _ => None,
     }
+}
+
+// The bytes whose pages a query needs, as far as the size, where there are any.
+fn span_for(book: &Book, query: &Query) -> Option<Span>
+    ensures { (opening : Option (ℕ → List ℕ)) (past : List Entry) (r : Range) → BookStands opening past book.now →
+        queried_range (size_of (history past book.now.stream)) (extent_of_query query.now) ≡ Some r → r.from < r.to →
+        result ≡ Some r }
+{
+    let (at, len) = query.extent()?;
+    span_below(book, at, len)
 }
 
 // The bytes of a page as far as the size, where it has any.

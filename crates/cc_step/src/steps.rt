@@ -1,11 +1,12 @@
 //! The step of a call: refused, done with its entry, waiting for a page, or stopped for want of room or memory.
 
 ghost use Rattle.std.specs.Prelude.{◌≡◌, ℕ, suc, ◌<◌, true, List, Option, None, Some, IfOk};
+ghost use Rattle.cc_entry.specs.Queries.{extent_of_query};
 ghost use Rattle.cc_entry.specs.declared.call.Call.TheVariants as call;
 ghost use Rattle.cc_entry.specs.declared.entry.Entry.{Entry};
 ghost use Rattle.cc_model.specs.History.{history};
 ghost use Rattle.cc_model.specs.Holds.{holds_of};
-ghost use Rattle.cc_model.specs.Ranges.{range_of, cut_range};
+ghost use Rattle.cc_model.specs.Ranges.{range_of, cut_range, queried_range};
 ghost use Rattle.cc_model.specs.Refusals.{refusal};
 ghost use Rattle.cc_model.specs.Setup.{Setup};
 ghost use Rattle.cc_model.specs.Touches.{size_of};
@@ -15,7 +16,7 @@ ghost use Rattle.cc_step.specs.Step.{is_stepped, asked_now, places_spared, Stand
 use crate::replies::reply;
 use crate::ways::Attempt;
 use cc_book::Book;
-use cc_entry::{Call, CcError, NoMemory, Reply, Request};
+use cc_entry::{Call, CcError, NoMemory, Query, Reply, Request};
 use cc_journal::Journal;
 use std::alloc::Global;
 
@@ -286,8 +287,19 @@ fn absent_in_range(book: &Book, call: &Call) -> Option<u64>
         Call::MdlRead { at, len, .. } => absent_below(book, *at, *len),
         Call::MdlWrite { at, len, .. } => absent_below(book, *at, *len),
         Call::AheadStep { request } => absent_below(book, request.at, request.len),
+        Call::Query(query) => absent_for(book, query),
         _ => None,
     }
+}
+
+// The least page that a query needs and that is not resident.
+fn absent_for(book: &Book, query: &Query) -> Option<u64>
+    ensures { (opening : Option (ℕ → List ℕ)) (past : List Entry) → BookStands opening past book.now →
+        result ≡ least_absent (history past book.now.stream)
+        (queried_range (size_of (history past book.now.stream)) (extent_of_query query.now)) }
+{
+    let (at, len) = query.extent()?;
+    absent_below(book, at, len)
 }
 
 // The least page of so many bytes from a place on, as far as the size, that is not resident.

@@ -5,6 +5,7 @@ use Rattle.std.specs.declared.option.Option.TheVariants.{Some, None}
 use Rattle.std.proofs.Common.{ap, sym, subst, ◌∙◌, arith, inl, inr}
 use Rattle.std.proofs.lemmas.Bool.{eq-eqb, eqb-true}
 use Rattle.cc_entry.specs.declared.call.Call.TheVariants as call
+use Rattle.cc_entry.specs.declared.query.Query.TheVariants as query
 use Rattle.cc_entry.specs.declared.entry.End.TheVariants as how
 use Rattle.cc_entry.specs.declared.entry.Entry.{Entry}
 use Rattle.cc_entry.specs.declared.entry.Entry.TheVariants as entry
@@ -205,7 +206,7 @@ first-stamped lsn k = go (subst (λ (l : List Entry). IsIn (lsns_in l) lsn) (sym
     go (inr none) = absurd none
 
 abbrev table_call : Entry
-table_call = entry.Call 1 6 None (call.DirtyPages 0) (outcome.Done (reply.Rows (dirty_row ∷ [])))
+table_call = entry.Call 1 6 None (call.Query (query.DirtyPages 0)) (outcome.Done (reply.Rows (dirty_row ∷ [])))
 
 its-sync : HasSyncedSince 0 listed synced
 unfolding opened
@@ -316,7 +317,7 @@ stopped-given redo stream size valid = record {
 -- ---- the wrong one
 
 abbrev is_table : Entry → Bool
-is_table (entry.Call pass nth None (call.DirtyPages handle) (outcome.Done reply)) = true
+is_table (entry.Call pass nth None (call.Query (query.DirtyPages handle)) (outcome.Done reply)) = true
 is_table other = false
 
 abbrev is_synced : Entry → Bool
@@ -335,13 +336,13 @@ first-had : had_map (history first 0) ≡ true
 unfolding opened
 first-had = refl
 
-table-had : (pass nth : ℕ) (r : Reply) (front later : List Entry) → listed ≡ later ++ entry.Call pass nth None (call.DirtyPages 0) (outcome.Done r) ∷ front → had_map (history front 0) ≡ true
-table-had pass nth r front [] is = ap (λ (l : List Entry). had_map (history l 0)) (sym (last table_call (entry.Call pass nth None (call.DirtyPages 0) (outcome.Done r)) first front is)) ∙ first-had
+table-had : (pass nth : ℕ) (r : Reply) (front later : List Entry) → listed ≡ later ++ entry.Call pass nth None (call.Query (query.DirtyPages 0)) (outcome.Done r) ∷ front → had_map (history front 0) ≡ true
+table-had pass nth r front [] is = ap (λ (l : List Entry). had_map (history l 0)) (sym (last table_call (entry.Call pass nth None (call.Query (query.DirtyPages 0)) (outcome.Done r)) first front is)) ∙ first-had
   where
     last : (x y : Entry) (xs ys : List Entry) → x ∷ xs ≡ y ∷ ys → xs ≡ ys
     last x y xs ys is = cc
 table-had pass nth r front (x ∷ later) is =
-    let e : Entry = entry.Call pass nth None (call.DirtyPages 0) (outcome.Done r) in
+    let e : Entry = entry.Call pass nth None (call.Query (query.DirtyPages 0)) (outcome.Done r) in
     absurd (clash (ap (list_any is_table) (last table_call x first (later ++ e ∷ front) is) ∙ any-at is_table e front later refl) refl)
   where
     last : (x y : Entry) (xs ys : List Entry) → x ∷ xs ≡ y ∷ ys → xs ≡ ys
@@ -351,7 +352,7 @@ no-checkpoint : IsCheckpoint 0 0 oldest_rows listed → ⊥
 no-checkpoint k =
     let h = k.synced (table-had k.pass k.nth k.reply k.listed k.later k.splits) in
     let e : Entry = entry.Sync h.pass 0 how.Good in
-    clash (ap (list_any is_synced) h.splits ∙ any-at is_synced e (h.since ++ entry.Call k.pass k.nth None (call.DirtyPages 0) (outcome.Done k.reply) ∷ k.listed) h.later refl) refl
+    clash (ap (list_any is_synced) h.splits ∙ any-at is_synced e (h.since ++ entry.Call k.pass k.nth None (call.Query (query.DirtyPages 0)) (outcome.Done k.reply) ∷ k.listed) h.later refl) refl
 
 pub unsynced-wrong : IsUpdated 0 0 unsynced → ⊥
 unsynced-wrong form = no-checkpoint (subst (λ o. MayLogRecord 0 0 1 o listed) says-checkpoint ((updated-head 0 0 checkpoint listed form).by refl))

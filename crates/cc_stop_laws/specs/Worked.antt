@@ -5,6 +5,7 @@ use Rattle.std.specs.declared.option.Option.TheVariants.{Some, None}
 use Rattle.cc_entry.specs.Place.{File, Page}
 use Rattle.cc_entry.specs.declared.call.Call.{Call}
 use Rattle.cc_entry.specs.declared.call.Call.TheVariants as call
+use Rattle.cc_entry.specs.declared.query.Query.TheVariants as query
 use Rattle.cc_entry.specs.declared.entry.End.TheVariants as how
 use Rattle.cc_entry.specs.declared.entry.Entry.{Entry}
 use Rattle.cc_entry.specs.declared.entry.Entry.TheVariants as entry
@@ -13,6 +14,7 @@ use Rattle.cc_entry.specs.declared.place.FileSizes.{FileSizes}
 use Rattle.cc_entry.specs.declared.reply.Outcome.TheVariants as outcome
 use Rattle.cc_entry.specs.declared.reply.Reply.{Reply}
 use Rattle.cc_entry.specs.declared.reply.Reply.TheVariants as reply
+use Rattle.cc_entry.specs.declared.query.Value.TheVariants as value
 use Rattle.cc_format.specs.LogRecords.{checkpoint_record, update_record}
 use Rattle.cc_format.specs.declared.log.OldestRow.{OldestRow}
 use Rattle.cc_model.specs.History.{history}
@@ -45,7 +47,7 @@ abbrev pub done : ℕ → ℕ → Call → Entry
 done pass nth it = answers pass nth it reply.Unit
 
 abbrev pub states : ℕ → Entry
-states nth = answers 1 nth (call.State a) (reply.State (record { sizes = sizes; log = Some 0 }))
+states nth = answers 1 nth (call.Query (query.State a)) (reply.Value (value.State (record { sizes = sizes; log = Some 0 })))
 
 -- pass 0 opens the stream, and gives it log 0
 abbrev pub begun : List Entry
@@ -80,7 +82,7 @@ abbrev pub dirty_row : DirtyRow
 dirty_row = record { page = page 0; oldest = 1; newest = 1 }
 
 abbrev pub listed : List Entry
-listed = entry.Call 1 6 None (call.DirtyPages 0) (outcome.Done (reply.Rows (dirty_row ∷ []))) ∷ first
+listed = entry.Call 1 6 None (call.Query (query.DirtyPages 0)) (outcome.Done (reply.Rows (dirty_row ∷ []))) ∷ first
 
 -- it syncs the stream of the log
 abbrev pub synced : List Entry

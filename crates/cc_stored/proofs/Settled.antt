@@ -5,12 +5,14 @@ use Rattle.std.proofs.Common.{ap, sym, subst, ◌∙◌, inl, inr}
 use Rattle.cc_entry.specs.Place.{File}
 use Rattle.cc_entry.specs.declared.call.Call.{Call}
 use Rattle.cc_entry.specs.declared.call.Call.TheVariants as call
+use Rattle.cc_entry.specs.declared.query.Query.TheVariants as query
 use Rattle.cc_entry.specs.declared.entry.Entry.{Entry}
 use Rattle.cc_entry.specs.declared.error.CcError.{CcError}
 use Rattle.cc_entry.specs.declared.error.CcError.TheVariants as error
 use Rattle.cc_entry.specs.declared.place.FileState.{FileState}
 use Rattle.cc_entry.specs.declared.reply.Outcome.TheVariants as outcome
 use Rattle.cc_entry.specs.declared.reply.Reply.TheVariants as reply
+use Rattle.cc_entry.specs.declared.query.Value.TheVariants as value
 use Rattle.cc_effects.proofs.Stretches.{idle-then}
 use Rattle.cc_effects.specs.Calls.{CallLeft}
 use Rattle.cc_effects.specs.Moments.{IsIdle}
@@ -129,7 +131,7 @@ stated w v y z file state told answer can took went given answer_is good left fu
 
 -- ---- behind the state
 
-settle-left : (u : Setup) (me : ℕ) (file : File) (state : FileState) (answer : Result FileState CcError) (old stated new : List Entry) → CallLeft u me (call.State file) (outcome.Done (reply.State state)) old stated → StatedLeft u me file state answer stated new → SettleLeft u me file answer old new
+settle-left : (u : Setup) (me : ℕ) (file : File) (state : FileState) (answer : Result FileState CcError) (old stated new : List Entry) → CallLeft u me (call.Query (query.State file)) (outcome.Done (reply.Value (value.State state))) old stated → StatedLeft u me file state answer stated new → SettleLeft u me file answer old new
 settle-left u me file state (Ok answer) old stated new told left = record {
   told = state;
   begun = left.0.begun;
@@ -150,7 +152,7 @@ settle-left u me file state (Err e) old stated new told (inr is) = inr (inr (rec
 }))
 
 -- its state was told, and the rest went on from there
-pub settled-on : (w v z : Standing) (file : File) (state : FileState) (answer : Result FileState CcError) → CallEnds state_outcome w v (call.State file) (Ok state) → StatedEnds v z file state answer → SettleEnds w z file answer
+pub settled-on : (w v z : Standing) (file : File) (state : FileState) (answer : Result FileState CcError) → CallEnds state_outcome w v (call.Query (query.State file)) (Ok state) → StatedEnds v z file state answer → SettleEnds w z file answer
 settled-on w v z file state answer call_ends ends = record {
   left =
       settle-left w.setup w.number file state answer w.seen v.seen z.seen call_ends.left
@@ -170,7 +172,7 @@ full-stopped : (it : Call) (v : Standing) (e : CcError) → IsFull {A = FileStat
 full-stopped it v e full = inl full
 
 -- its state was refused
-pub settled-not : (w v : Standing) (file : File) (e : CcError) → CallEnds state_outcome w v (call.State file) (Err e) → IsGood v.setup v.seen → SettleEnds w v file (Err e)
+pub settled-not : (w v : Standing) (file : File) (e : CcError) → CallEnds state_outcome w v (call.Query (query.State file)) (Err e) → IsGood v.setup v.seen → SettleEnds w v file (Err e)
 settled-not w v file e call_ends good = record {
   left = inl call_ends.left;
   full = full-stopped (call.Flush file None) v e call_ends.full;

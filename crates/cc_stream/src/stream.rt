@@ -280,17 +280,13 @@ impl StreamState {
             | Call::NcRead { .. }
             | Call::NcStore { .. }
             | Call::NcWrite { .. }
-            | Call::State { .. }
             | Call::Flush { .. }
             | Call::Purge { .. }
             | Call::Discard { .. }
-            | Call::DirtyPages { .. }
-            | Call::LsnForFile { .. }
-            | Call::IsDirtyData
             | Call::SetGranularity { .. }
             | Call::AskAhead { .. }
             | Call::AheadStep { .. }
-            | Call::CanWrite { .. } => self,
+            | Call::Query(_) => self,
         }
     }
 }

@@ -4,7 +4,7 @@ ghost use Rattle.std.specs.Prelude.{◌≡◌, ◌≤◌, length, IfOk};
 ghost use Rattle.cc_turns.specs.Desk.{DeskIsFresh};
 
 use crate::devices::Routine;
-use cc_calls::{initialize, set_log_handle};
+use cc_calls::{can_i_write, initialize, lsn_for_file, set_log_handle};
 use cc_entry::{CcError, FileId, FileSizes, Quota};
 use cc_journal::Left;
 use cc_memdev::{DiskFails, LogFails, MemDisk, MemLog};
@@ -82,6 +82,8 @@ fn a_desk_is_made_acted_on_and_ended(rt: HostRuntime) -> Result<(), Fail> {
     let made = (desk.me(), desk.streams(), desk.logs());
     let begun = initialize(alloc, &mut desk, file, sizes, quota, false);
     let refused = set_log_handle(alloc, &mut desk, file, 4);
+    let lsns = lsn_for_file(alloc, &mut desk, file);
+    let may = can_i_write(alloc, &mut desk, file, 4096);
     let entries = desk.journal().len();
     let Left {
         disks,
@@ -89,8 +91,9 @@ fn a_desk_is_made_acted_on_and_ended(rt: HostRuntime) -> Result<(), Fail> {
         queued,
     } = desk.leave();
     let left = (disks.len(), logs.len(), queued.len());
-    assert_eq!(rt; (made, entries, left), ((3, 1, 4), 2, (1, 4, 0)));
+    assert_eq!(rt; (made, entries, left), ((3, 1, 4), 4, (1, 4, 0)));
     assert_eq!(rt; begun, Ok(()));
     assert_eq!(rt; refused, Err(CcError::NoLog { handle: 4 }));
+    assert_eq!(rt; (lsns, may), (Ok(None), Ok(true)));
     Ok(())
 }

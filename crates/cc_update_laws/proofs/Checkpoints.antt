@@ -7,6 +7,7 @@ use Rattle.std.proofs.Common.{ap, sym, subst, ◌∙◌, inl, inr, append_assoc,
 use Rattle.std.proofs.lemmas.Bool.{eq-eqb, eqb-false, eqb-true}
 use Rattle.std.proofs.lemmas.List.{append_cancel_right}
 use Rattle.cc_entry.specs.declared.call.Call.TheVariants as call
+use Rattle.cc_entry.specs.declared.query.Query.TheVariants as query
 use Rattle.cc_entry.specs.declared.entry.End.TheVariants as how
 use Rattle.cc_entry.specs.declared.entry.Entry.{Entry}
 use Rattle.cc_entry.specs.declared.entry.Entry.TheVariants as entry
@@ -16,6 +17,7 @@ use Rattle.cc_entry.specs.declared.place.DirtyRow.{DirtyRow}
 use Rattle.cc_entry.specs.declared.place.FileState.{FileState}
 use Rattle.cc_entry.specs.declared.reply.Outcome.TheVariants as outcome
 use Rattle.cc_entry.specs.declared.reply.Reply.TheVariants as reply
+use Rattle.cc_entry.specs.declared.query.Value.TheVariants as value
 use Rattle.cc_format.specs.LogRecords.{checkpoint_record}
 use Rattle.cc_model.specs.Good.{IsGoodSoFar}
 use Rattle.cc_model.specs.History.{history}
@@ -64,8 +66,8 @@ module _ (u : Setup) (s log me : ℕ) where
       walked-then (IsNeither me log) me old between new (states-unlisted handle n earlier old between asked) (one state last)
     where
       one : (o : Option FileState) → StateAsked u me n o between new → Unlisted me log between new
-      one (Some state) left = unlisted-call u me log (call.State (first_object n)) (λ nth stream ended. refl) (outcome.Done (reply.State state)) between new left
-      one None left = unlisted-call u me log (call.State (first_object n)) (λ nth stream ended. refl) (outcome.Failed error.NotCached) between new left
+      one (Some state) left = unlisted-call u me log (call.Query (query.State (first_object n))) (λ nth stream ended. refl) (outcome.Done (reply.Value (value.State state))) between new left
+      one None left = unlisted-call u me log (call.Query (query.State (first_object n))) (λ nth stream ended. refl) (outcome.Failed error.NotCached) between new left
 
   all-states : (handle n : ℕ) (found : List ℕ) (old new : List Entry) → HasNoneOpen s log me old → StatesAsked u me handle n found old new → KeepsAll s log me old new
   all-states handle zero found old new none left = all-idle s log me old new none left.1
@@ -73,8 +75,8 @@ module _ (u : Setup) (s log me : ℕ) where
       all-then s log me old between new (all-states handle n earlier old between none asked) (λ now. one state last now)
     where
       one : (o : Option FileState) → StateAsked u me n o between new → HasNoneOpen s log me between → KeepsAll s log me between new
-      one (Some state) left now = all-looks u s log me (call.State (first_object n)) (outcome.Done (reply.State state)) between new refl refl left now
-      one None left now = all-failed u s log me (call.State (first_object n)) error.NotCached between new left now
+      one (Some state) left now = all-looks u s log me (call.Query (query.State (first_object n))) (outcome.Done (reply.Value (value.State state))) between new refl refl left now
+      one None left now = all-failed u s log me (call.Query (query.State (first_object n))) error.NotCached between new left now
 
   syncs-grown : (found : List ℕ) (answered : Result (Unit {0}) CcError) (old new : List Entry) → CallsLeft u me (map sync_call found) answered old new → IsGrown old new
   syncs-grown [] (Ok done) old new left = idle-grown me old new left
@@ -162,7 +164,7 @@ module _ (u : Setup) (s log me : ℕ) where
         (state-open u me (first_object n) old new left good
         (λ before p.
         let front : List Entry = before ++ old in
-        let e : Entry = entry.Call me p.nth p.stream (call.State (first_object n)) (outcome.Failed error.NotCached) in
+        let e : Entry = entry.Call me p.nth p.stream (call.Query (query.State (first_object n))) (outcome.Failed error.NotCached) in
         let there : IsUpdated s log front = updated-rest s log (e ∷ []) front (updated-rest s log p.later (e ∷ front) (subst (λ (l : List Entry). IsUpdated s log l) p.grew updated)) in
         let its = stays-open s log front there (had-more u s log before old had) in
         subst (λ (m : ℕ). is_among_zero m front) (sym same) its))
@@ -172,7 +174,7 @@ module _ (u : Setup) (s log me : ℕ) where
     state-found n (Some state) earlier old new same grown to_end good updated had left =
         let p = left.placed in
         let front : List Entry = left.earlier ++ old in
-        let e : Entry = entry.Call me p.nth p.stream (call.State (first_object n)) (outcome.Done (reply.State state)) in
+        let e : Entry = entry.Call me p.nth p.stream (call.Query (query.State (first_object n))) (outcome.Done (reply.Value (value.State state))) in
         let all : IsUpdated s log (p.later ++ e ∷ front) = subst (λ (l : List Entry). IsUpdated s log l) p.grew updated in
         let there : IsUpdated s log front = updated-rest s log (e ∷ []) front (updated-rest s log p.later (e ∷ front) all) in
         let is = told-state u me (first_object n) state old new left good in
@@ -197,8 +199,8 @@ module _ (u : Setup) (s log me : ℕ) where
         to_new = one state last
           where
             one : (o : Option FileState) → StateAsked u me n o between new → IsGrown between new
-            one (Some x) left = call-grown u me (call.State (first_object n)) (outcome.Done (reply.State x)) between new left
-            one None left = call-grown u me (call.State (first_object n)) (outcome.Failed error.NotCached) between new left
+            one (Some x) left = call-grown u me (call.Query (query.State (first_object n))) (outcome.Done (reply.Value (value.State x))) between new left
+            one None left = call-grown u me (call.Query (query.State (first_object n))) (outcome.Failed error.NotCached) between new left
 
         good_between : IsGoodSoFar u between
         good_between = good-grown u between new to_new good
@@ -220,7 +222,7 @@ module _ (u : Setup) (s log me : ℕ) where
 
     module _ (calm : IsCalmForCheckpoint s log me begun whole) (fit : (later during : List Entry) → whole ≡ later ++ (during ++ begun) → RowsFit log (during ++ begun)) where
       abbrev listing : ℕ → List DirtyRow → Entry
-      listing nth rows = entry.Call me nth None (call.DirtyPages log) (outcome.Done (reply.Rows rows))
+      listing nth rows = entry.Call me nth None (call.Query (query.DirtyPages log)) (outcome.Done (reply.Rows rows))
 
       is-checkpoint : (nth lsn : ℕ) (rows : List DirtyRow) (bytes : List ℕ) (rest later since : List Entry) → whole ≡ rest ++ entry.Append me log lsn bytes ∷ (later ++ listing nth rows ∷ (since ++ begun)) →
           said_by bytes ≡ Some (Checkpoint (map row_told (dirty_table (since ++ begun) log))) → list_any (lists_or_appends me log) later ≡ false →
@@ -266,7 +268,7 @@ module _ (u : Setup) (s log me : ℕ) where
           said-spelled (record_of_rows rows) (Checkpoint (map row_told (dirty_table (since ++ begun) log)))
           (record { rows_fit = fits.rows_fit; count_fits = fits.count_fits; spelled = ap (λ (l : List DirtyRow). checkpoint_record (map row_told l)) is })
 
-      append-form : (streams lsn : ℕ) (rows : List DirtyRow) (found : List ℕ) (between asked_end sync_end after : List Entry) → s < streams → CallLeft u me (call.DirtyPages log) (outcome.Done (reply.Rows rows)) begun between →
+      append-form : (streams lsn : ℕ) (rows : List DirtyRow) (found : List ℕ) (between asked_end sync_end after : List Entry) → s < streams → CallLeft u me (call.Query (query.DirtyPages log)) (outcome.Done (reply.Rows rows)) begun between →
           StatesAsked u me log streams found between asked_end → CallsLeft u me (map sync_call found) (Ok tt) asked_end sync_end → (only : PlacedOnly me (entry.Append me log lsn (record_of_rows rows)) sync_end after) → IsGrown after whole → IsGoodSoFar u whole →
           IsUpdated s log (only.earlier ++ sync_end) → MayLogRecord s log me (said_by (record_of_rows rows)) (only.earlier ++ sync_end)
       append-form streams lsn rows found between asked_end sync_end after below listed asked calls only to_end good updated =
@@ -276,7 +278,7 @@ module _ (u : Setup) (s log me : ℕ) where
           let a : Entry = entry.Append me log lsn (record_of_rows rows) in
           let f : List Entry = only.earlier ++ sync_end in
           let from_e : IsGrown (e ∷ (since ++ begun)) between =
-          (p.later, p.grew ∙ ap (λ (o : Option ℕ). p.later ++ entry.Call me p.nth o (call.DirtyPages log) (outcome.Done (reply.Rows rows)) ∷ (since ++ begun)) (table-stream me log (reply.Rows rows) begun between listed)) in
+          (p.later, p.grew ∙ ap (λ (o : Option ℕ). p.later ++ entry.Call me p.nth o (call.Query (query.DirtyPages log)) (outcome.Done (reply.Rows rows)) ∷ (since ++ begun)) (table-stream me log (reply.Rows rows) begun between listed)) in
           let w_listed : Unlisted me log (e ∷ (since ++ begun)) between =
           subst (Unlisted me log (e ∷ (since ++ begun))) (sym from_e.1) (unlisted-others me log p.later (e ∷ (since ++ begun)) p.quiet) in
           let w_asked : Unlisted me log between asked_end = states-unlisted log streams found between asked_end asked in
@@ -332,7 +334,7 @@ module _ (u : Setup) (s log me : ℕ) where
       all-flushed handle lsn (Err e) old new none left = log-flush {T = Unit {0}} u s log me handle lsn (Err e) old new none left
 
       all-record : (streams handle : ℕ) (rows : List DirtyRow) (found : List ℕ) (answered : Result ℕ CcError) (between asked_end sync_end : List Entry) → s < streams →
-          CallLeft u me (call.DirtyPages handle) (outcome.Done (reply.Rows rows)) begun between → StatesAsked u me handle streams found between asked_end → CallsLeft u me (map sync_call found) (Ok tt) asked_end sync_end → IsGoodSoFar u whole →
+          CallLeft u me (call.Query (query.DirtyPages handle)) (outcome.Done (reply.Rows rows)) begun between → StatesAsked u me handle streams found between asked_end → CallsLeft u me (map sync_call found) (Ok tt) asked_end sync_end → IsGoodSoFar u whole →
           HasNoneOpen s log me sync_end → RecordLogged u me handle (record_of_rows rows) answered sync_end whole → KeepsAll s log me sync_end whole
       all-record streams handle rows found answered between asked_end sync_end below listed asked calls good none (inl (e, is, refused)) = append-refused u s log me handle e sync_end whole none refused
       all-record streams handle rows found answered between asked_end sync_end below listed asked calls good none (inr (after, lsn, appended, flushed)) =
@@ -347,31 +349,31 @@ module _ (u : Setup) (s log me : ℕ) where
           form updated same =
               let only = appended.1 in
               append-form streams lsn rows found between asked_end sync_end after below
-              (subst (λ (h : ℕ). CallLeft u me (call.DirtyPages h) (outcome.Done (reply.Rows rows)) begun between) same listed)
+              (subst (λ (h : ℕ). CallLeft u me (call.Query (query.DirtyPages h)) (outcome.Done (reply.Rows rows)) begun between) same listed)
               (subst (λ (h : ℕ). StatesAsked u me h streams found between asked_end) same asked) calls
               (record { later = only.later; earlier = only.earlier; grew = subst (λ (h : ℕ). after ≡ only.later ++ entry.Append me h lsn (record_of_rows rows) ∷ (only.earlier ++ sync_end)) same only.grew; is_own = eq-eqb me me refl; quiet_after = only.quiet_after; quiet_before = only.quiet_before })
               to_end good updated
 
       all-synced : (streams handle : ℕ) (rows : List DirtyRow) (found : List ℕ) (answered : Result ℕ CcError) (between asked_end : List Entry) → s < streams →
-          CallLeft u me (call.DirtyPages handle) (outcome.Done (reply.Rows rows)) begun between → StatesAsked u me handle streams found between asked_end → IsGoodSoFar u whole → HasNoneOpen s log me asked_end →
+          CallLeft u me (call.Query (query.DirtyPages handle)) (outcome.Done (reply.Rows rows)) begun between → StatesAsked u me handle streams found between asked_end → IsGoodSoFar u whole → HasNoneOpen s log me asked_end →
           SyncedLogged u me handle found (record_of_rows rows) answered asked_end whole → KeepsAll s log me asked_end whole
       all-synced streams handle rows found answered between asked_end below listed asked good none (inl (e, is, failed)) = all-syncs found (Err e) asked_end whole none failed
       all-synced streams handle rows found answered between asked_end below listed asked good none (inr (sync_end, calls, logged)) =
           all-then s log me asked_end sync_end whole (all-syncs found (Ok tt) asked_end sync_end none calls)
           (λ now. all-record streams handle rows found answered between asked_end sync_end below listed asked calls good now logged)
 
-      all-rows : (streams handle : ℕ) (rows : List DirtyRow) (answered : Result ℕ CcError) (between : List Entry) → s < streams → CallLeft u me (call.DirtyPages handle) (outcome.Done (reply.Rows rows)) begun between → IsGoodSoFar u whole →
+      all-rows : (streams handle : ℕ) (rows : List DirtyRow) (answered : Result ℕ CcError) (between : List Entry) → s < streams → CallLeft u me (call.Query (query.DirtyPages handle)) (outcome.Done (reply.Rows rows)) begun between → IsGoodSoFar u whole →
           HasNoneOpen s log me between → RowsLogged u me streams handle rows answered between whole → KeepsAll s log me between whole
       all-rows streams handle rows answered between below listed good none (inl (e, is, inl stopped)) = all-states handle stopped.n stopped.found between whole none stopped.asked
       all-rows streams handle rows answered between below listed good none (inl (e, is, inr refused)) =
           all-then s log me between refused.between whole (all-states handle refused.n refused.found between refused.between none refused.asked)
-          (λ now. all-failed u s log me (call.State (first_object refused.n)) e refused.between whole refused.refused now)
+          (λ now. all-failed u s log me (call.Query (query.State (first_object refused.n))) e refused.between whole refused.refused now)
       all-rows streams handle rows answered between below listed good none (inr (asked_end, found, asked, synced)) =
           all-then s log me between asked_end whole (all-states handle streams found between asked_end none asked)
           (λ now. all-synced streams handle rows found answered between asked_end below listed asked good now synced)
 
       pub all-checkpoint : (streams handle : ℕ) (answered : Result ℕ CcError) → s < streams → IsGoodSoFar u whole → HasNoneOpen s log me begun → CheckpointLeft u me streams handle answered begun whole → KeepsAll s log me begun whole
-      all-checkpoint streams handle answered below good none (inl (e, is, failed)) = all-failed u s log me (call.DirtyPages handle) e begun whole failed none
+      all-checkpoint streams handle answered below good none (inl (e, is, failed)) = all-failed u s log me (call.Query (query.DirtyPages handle)) e begun whole failed none
       all-checkpoint streams handle answered below good none (inr (between, rows, listed, rest)) =
-          all-then s log me begun between whole (all-looks u s log me (call.DirtyPages handle) (outcome.Done (reply.Rows rows)) begun between refl refl listed none)
+          all-then s log me begun between whole (all-looks u s log me (call.Query (query.DirtyPages handle)) (outcome.Done (reply.Rows rows)) begun between refl refl listed none)
           (λ now. all-rows streams handle rows answered between below listed good now rest)

@@ -5,6 +5,7 @@ use Rattle.std.specs.List.{list_any}
 use Rattle.std.proofs.Common.{sym, subst}
 use Rattle.cc_entry.specs.declared.call.Call.{Call}
 use Rattle.cc_entry.specs.declared.call.Call.TheVariants as call
+use Rattle.cc_entry.specs.declared.query.Query.TheVariants as query
 use Rattle.cc_entry.specs.declared.entry.Entry.{Entry}
 use Rattle.cc_entry.specs.declared.entry.Entry.TheVariants as entry
 use Rattle.cc_entry.specs.declared.error.CcError.TheVariants as error
@@ -64,7 +65,7 @@ module _ (u : Setup) (me log : ℕ) (it : Call) (looks : (nth : ℕ) (stream : O
 -- none of its entries does, of whichever pass
 others-neither : (me log : ℕ) (e : Entry) → is_mine me e ≡ false → lists_or_appends me log e ≡ false
 others-neither me log (entry.Append pass handle lsn bytes) other = rw other refl
-others-neither me log (entry.Call pass nth stream (call.DirtyPages handle) ended) other = rw other refl
+others-neither me log (entry.Call pass nth stream (call.Query (query.DirtyPages handle)) ended) other = rw other refl
 others-neither me log apart other = refl
 
 or-false : (a b : Bool) → a ≡ false → b ≡ false → (a || b) ≡ false

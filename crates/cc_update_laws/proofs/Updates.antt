@@ -7,6 +7,7 @@ use Rattle.std.proofs.lemmas.Bool.{eq-eqb, eqb-true}
 use Rattle.cc_entry.specs.Place.{File}
 use Rattle.cc_entry.specs.declared.call.Call.{Call}
 use Rattle.cc_entry.specs.declared.call.Call.TheVariants as call
+use Rattle.cc_entry.specs.declared.query.Query.TheVariants as query
 use Rattle.cc_entry.specs.declared.entry.Entry.{Entry}
 use Rattle.cc_entry.specs.declared.entry.Entry.TheVariants as entry
 use Rattle.cc_entry.specs.declared.error.CcError.{CcError}
@@ -15,6 +16,7 @@ use Rattle.cc_entry.specs.declared.place.FileState.{FileState}
 use Rattle.cc_entry.specs.declared.reply.Outcome.TheVariants as outcome
 use Rattle.cc_entry.specs.declared.reply.Reply.{Reply}
 use Rattle.cc_entry.specs.declared.reply.Reply.TheVariants as reply
+use Rattle.cc_entry.specs.declared.query.Value.TheVariants as value
 use Rattle.cc_model.specs.Good.{IsGoodSoFar}
 use Rattle.cc_model.specs.History.{history}
 use Rattle.cc_model.specs.Holds.{Hold}
@@ -324,9 +326,9 @@ module _ (u : Setup) (s log me : ℕ) (file : File) (at : ℕ) (bytes : List ℕ
   told-grown id (Some handle) valid answered old new (inr left) = logged-grown id handle answered old new left.1
 
   pinned-grown : (id : ℕ) (answered : Result ℕ CcError) (old new : List Entry) → PinnedUpdateLeft u me file id at bytes answered old new → IsGrown old new
-  pinned-grown id answered old new (inl (e, is, failed)) = call-grown u me (call.State file) (outcome.Failed e) old new failed
+  pinned-grown id answered old new (inl (e, is, failed)) = call-grown u me (call.Query (query.State file)) (outcome.Failed e) old new failed
   pinned-grown id answered old new (inr (between, state, told, rest)) =
-      grown-then old between new (call-grown u me (call.State file) (outcome.Done (reply.State state)) old between told) (told-grown id state.log state.sizes.valid answered between new rest)
+      grown-then old between new (call-grown u me (call.Query (query.State file)) (outcome.Done (reply.Value (value.State state))) old between told) (told-grown id state.log state.sizes.valid answered between new rest)
 
   all-recorded : (id handle lsn : ℕ) (answered : Result ℕ CcError) (old new : List Entry) → IsGoodSoFar u new → HasHold me file.stream id (pinned_hold id) old → IsLogged id handle lsn old → HasNoneOpen s log me old →
       RecordedLeft u me id at bytes lsn answered old new → KeepsAll s log me old new
@@ -379,12 +381,12 @@ module _ (u : Setup) (s log me : ℕ) (file : File) (at : ℕ) (bytes : List ℕ
     its : log_of (history (since ++ begun) file.stream) ≡ o
     reached : valid ≡ valid_of (history (since ++ begun) file.stream)
 
-  state-known : (old new : List Entry) (state : FileState) → IsGrown begun old → IsGoodSoFar u new → IsDone me (call.State file) (reply.State state) old new → IsKnown state.log state.sizes.valid new
+  state-known : (old new : List Entry) (state : FileState) → IsGrown begun old → IsGoodSoFar u new → IsDone me (call.Query (query.State file)) (reply.Value (value.State state)) old new → IsKnown state.log state.sizes.valid new
   state-known old new state grown good told =
       let p = told.placed in
       let is = told-state u me file state old new told good in
       let front : List Entry = told.earlier ++ old in
-      let e : Entry = entry.Call me p.nth p.stream (call.State file) (outcome.Done (reply.State state)) in
+      let e : Entry = entry.Call me p.nth p.stream (call.Query (query.State file)) (outcome.Done (reply.Value (value.State state))) in
       let same : (told.earlier ++ grown.0) ++ begun ≡ front = append_assoc told.earlier grown.0 begun ∙ ap (λ (l : List Entry). told.earlier ++ l) (sym grown.1) in
       record {
         later = p.later ++ e ∷ [];
@@ -396,13 +398,13 @@ module _ (u : Setup) (s log me : ℕ) (file : File) (at : ℕ) (bytes : List ℕ
 
   all-pinned : (id : ℕ) (answered : Result ℕ CcError) (old new : List Entry) → IsGrown begun old → IsGoodSoFar u new → HasHold me file.stream id (pinned_hold id) old → HasNoneOpen s log me old →
       PinnedUpdateLeft u me file id at bytes answered old new → KeepsAll s log me old new
-  all-pinned id answered old new grown good has none (inl (e, is, failed)) = all-looks u s log me (call.State file) (outcome.Failed e) old new refl refl failed none
+  all-pinned id answered old new grown good has none (inl (e, is, failed)) = all-looks u s log me (call.Query (query.State file)) (outcome.Failed e) old new refl refl failed none
   all-pinned id answered old new grown good has none (inr (between, state, told, rest)) =
       let good_between : IsGoodSoFar u between = good-grown u between new (told-grown id state.log state.sizes.valid answered between new rest) good in
       let k = state-known old between state grown good_between told in
-      let has_between = call-keeps u me file.stream id (pinned_hold id) (call.State file) (outcome.Done (reply.State state)) old between told good_between refl has in
+      let has_between = call-keeps u me file.stream id (pinned_hold id) (call.Query (query.State file)) (outcome.Done (reply.Value (value.State state))) old between told good_between refl has in
       all-then s log me old between new
-      (all-looks u s log me (call.State file) (outcome.Done (reply.State state)) old between refl refl told none)
+      (all-looks u s log me (call.Query (query.State file)) (outcome.Done (reply.Value (value.State state))) old between refl refl told none)
       (λ now. all-told id state.log state.sizes.valid answered k.later k.since between new k.grew k.its k.reached good has_between now rest)
 
   pub all-update : (answered : Result ℕ CcError) (new : List Entry) → IsGoodSoFar u new → HasNoneOpen s log me begun → UpdateLeft u me file at bytes answered begun new → KeepsAll s log me begun new
@@ -500,12 +502,12 @@ module _ (u : Setup) (s log me : ℕ) (file : File) (at : ℕ) (bytes : List ℕ
 
   leaves-pinned : (id : ℕ) (answered : Result ℕ CcError) (old new : List Entry) → IsGrown begun old → IsGoodSoFar u new → HasHold me file.stream id (pinned_hold id) old → WantsNothing answered →
       PinnedUpdateLeft u me file id at bytes answered old new → LeavesStamped old new
-  leaves-pinned id answered old new grown good has wants (inl (e, is, failed)) = inl (none-call u s log me (call.State file) (outcome.Failed e) old new failed)
+  leaves-pinned id answered old new grown good has wants (inl (e, is, failed)) = inl (none-call u s log me (call.Query (query.State file)) (outcome.Failed e) old new failed)
   leaves-pinned id answered old new grown good has wants (inr (between, state, told, rest)) =
       let good_between : IsGoodSoFar u between = good-grown u between new (told-grown id state.log state.sizes.valid answered between new rest) good in
       let k = state-known old between state grown good_between told in
-      let has_between = call-keeps u me file.stream id (pinned_hold id) (call.State file) (outcome.Done (reply.State state)) old between told good_between refl has in
-      leaves-before old between new (none-call u s log me (call.State file) (outcome.Done (reply.State state)) old between told)
+      let has_between = call-keeps u me file.stream id (pinned_hold id) (call.Query (query.State file)) (outcome.Done (reply.Value (value.State state))) old between told good_between refl has in
+      leaves-before old between new (none-call u s log me (call.Query (query.State file)) (outcome.Done (reply.Value (value.State state))) old between told)
       (leaves-told id state.log state.sizes.valid answered k.later k.since between new k.grew k.its k.reached good has_between wants rest)
 
   pub leaves-update : (answered : Result ℕ CcError) (new : List Entry) → IsGoodSoFar u new → WantsNothing answered → UpdateLeft u me file at bytes answered begun new → LeavesStamped begun new

@@ -3,6 +3,7 @@ use Rattle.std.specs.Prelude.{◌≡◌, ℕ, ◌*◌, ◌^◌, ◌<◌, ◌==�
 use Rattle.std.specs.List.{AllByRecursion, list_any}
 use Rattle.std.specs.declared.option.Option.TheVariants.{None, Some}
 use Rattle.cc_entry.specs.declared.call.Call.TheVariants as call
+use Rattle.cc_entry.specs.declared.query.Query.TheVariants as query
 use Rattle.cc_entry.specs.declared.entry.End.TheVariants as how
 use Rattle.cc_entry.specs.declared.entry.Entry.{Entry}
 use Rattle.cc_entry.specs.declared.entry.Entry.TheVariants as entry
@@ -45,7 +46,7 @@ OthersRecordNone s log me old new =
 -- whether an entry is a table of the log's dirty pages that the pass listed, or an append of the pass to the log
 abbrev pub lists_or_appends : ℕ → ℕ → Entry → Bool
 lists_or_appends me log (entry.Append pass handle lsn bytes) = pass == me && handle == log
-lists_or_appends me log (entry.Call pass nth stream (call.DirtyPages handle) ended) = pass == me && handle == log
+lists_or_appends me log (entry.Call pass nth stream (call.Query (query.DirtyPages handle)) ended) = pass == me && handle == log
 lists_or_appends me log other = false
 
 -- The pass appended the record of a checkpoint to the log, some entries behind a table of its dirty pages that it had listed. Between the
@@ -58,7 +59,7 @@ pub record HasCheckpoint (log me : ℕ) (between listed past : List Entry) : Typ
   pub nth : ℕ
   pub reply : Reply
   pub splits : past
-      ≡ later ++ entry.Append me log lsn bytes ∷ (between ++ entry.Call me nth None (call.DirtyPages log) (outcome.Done reply) ∷ listed)
+      ≡ later ++ entry.Append me log lsn bytes ∷ (between ++ entry.Call me nth None (call.Query (query.DirtyPages log)) (outcome.Done reply) ∷ listed)
   pub said : said_by bytes ≡ Some (Checkpoint rows)
   pub alone : list_any (lists_or_appends me log) between ≡ false
 
@@ -75,7 +76,7 @@ pub record IsCalmForCheckpoint (s log me : ℕ) (old new : List Entry) : Type 0 
       list_any (records_update s log) between ≡ false
   pub known : (between since later during : List Entry) (it : HasCheckpoint log me between (since ++ old) new) →
       between ≡ later ++ entry.Sync me s how.Good ∷ during →
-      AreKnown s (during ++ entry.Call me it.nth None (call.DirtyPages log) (outcome.Done it.reply) ∷ (since ++ old))
+      AreKnown s (during ++ entry.Call me it.nth None (call.Query (query.DirtyPages log)) (outcome.Done it.reply) ∷ (since ++ old))
 
 -- the rows of the log's dirty page table have numbers that the record of a checkpoint can spell
 pub record RowsFit (log : ℕ) (past : List Entry) : Type 0 where

@@ -4,7 +4,9 @@ use Rattle.std.specs.declared.option.Option.TheVariants.{None}
 use Rattle.std.proofs.Common.{inl, inr, subst, sym, ◌∙◌}
 use Rattle.cc_entry.specs.declared.place.FileState.{FileState}
 use Rattle.cc_entry.specs.declared.call.Call.TheVariants as call
+use Rattle.cc_entry.specs.declared.query.Query.TheVariants as query
 use Rattle.cc_entry.specs.declared.reply.Reply.TheVariants as reply
+use Rattle.cc_entry.specs.declared.query.Value.TheVariants as value
 use Rattle.cc_entry.specs.declared.reply.Outcome.TheVariants as outcome
 use Rattle.cc_entry.specs.declared.entry.Entry.{Entry}
 use Rattle.cc_entry.specs.declared.entry.Entry.TheVariants as entry
@@ -37,7 +39,7 @@ newest e x rest between only mine = by only.later only.grew only.quiet_after
 pub read-made : (bytes : List ℕ) (old new : List Entry) → LockedReadLeft setup 1 a Cached 0 1 (Ok bytes) old new → (state : FileState) × Marked 1 (told_state a state ∷ Tested a (tested_range 0 1) false None ∷ Ended first_byte (outcome.Done (reply.Read bytes)) ∷ []) old new
 read-made bytes old new (inl left) = absurd (done_not_refused bytes left.0 left.1)
 read-made bytes old new (inr left) =
-    (left.1, marked-then 1 (told_state a left.1 ∷ []) (Tested a (tested_range 0 1) false None ∷ Ended first_byte (outcome.Done (reply.Read bytes)) ∷ []) old left.0 new (marked-call setup 1 (call.State a) (outcome.Done (reply.State left.1)) old left.0 left.2 refl) (behind left.3))
+    (left.1, marked-then 1 (told_state a left.1 ∷ []) (Tested a (tested_range 0 1) false None ∷ Ended first_byte (outcome.Done (reply.Read bytes)) ∷ []) old left.0 new (marked-call setup 1 (call.Query (query.State a)) (outcome.Done (reply.Value (value.State left.1))) old left.0 left.2 refl) (behind left.3))
   where
     behind : RangeTestedLeft 1 a (tested_range 0 1) false (ReadTested setup 1 a Cached 0 1 (too_long_for Cached 1) (misaligned_for Cached 0 1)) (Ok bytes) left.0 new → Marked 1 (Tested a (tested_range 0 1) false None ∷ Ended first_byte (outcome.Done (reply.Read bytes)) ∷ []) left.0 new
     behind (inl stopped) = absurd (done_not_refused bytes stopped.0 stopped.1)

@@ -4,8 +4,10 @@ use Rattle.std.proofs.Common.{inl, inr}
 use Rattle.cc_entry.specs.Place.{File, Range}
 use Rattle.cc_entry.specs.declared.place.FileState.{FileState}
 use Rattle.cc_entry.specs.declared.call.Call.TheVariants as call
+use Rattle.cc_entry.specs.declared.query.Query.TheVariants as query
 use Rattle.cc_entry.specs.declared.error.CcError.{CcError}
 use Rattle.cc_entry.specs.declared.reply.Reply.TheVariants as reply
+use Rattle.cc_entry.specs.declared.query.Value.TheVariants as value
 use Rattle.cc_entry.specs.declared.reply.Outcome.TheVariants as outcome
 use Rattle.cc_entry.specs.declared.entry.Entry.{Entry}
 use Rattle.cc_model.specs.Setup.{Setup}
@@ -85,7 +87,7 @@ parts-cut u me path (r ∷ rs) e old new (inr left) =
 pub parts-shown : (u : Setup) (me : ℕ) (file : File) (path : HoldPath) (parts : Range → List Range) (at len : ℕ) (bytes : List ℕ) (state : FileState) (rest : List Mark) (piece old : List Entry) → marks me piece ≡ told_state file state ∷ rest → HeldPartsLeft u me file path parts at len (Ok bytes) old (piece ++ old) → PartsMarks path (parts (cut_range state.sizes.size at len)) bytes rest
 parts-shown u me file path parts at len bytes state rest piece old has left =
     let its = parts-read u me path (parts (cut_range left.1.sizes.size at len)) bytes left.0 (piece ++ old) left.3 in
-    let whole = shows me (told_state file left.1 ∷ its.0) piece old (marked-then me (told_state file left.1 ∷ []) its.0 old left.0 (piece ++ old) (marked-call u me (call.State file) (outcome.Done (reply.State left.1)) old left.0 left.2 refl) its.2) in
+    let whole = shows me (told_state file left.1 ∷ its.0) piece old (marked-then me (told_state file left.1 ∷ []) its.0 old left.0 (piece ++ old) (marked-call u me (call.Query (query.State file)) (outcome.Done (reply.Value (value.State left.1))) old left.0 left.2 refl) its.2) in
     let same = same_state file state left.1 rest its.0 (rw has at whole) in
     by left.1 its.0 same.0 same.1 its.1
   where
@@ -93,9 +95,9 @@ parts-shown u me file path parts at len bytes state rest piece old has left =
     by told all is are marked = rw (is, are) at marked
 
 -- one that is refused: at the question, or at a part
-pub refused-parts-shown : (u : Setup) (me : ℕ) (file : File) (path : HoldPath) (parts : Range → List Range) (at len : ℕ) (e : CcError) (piece old : List Entry) → HeldPartsLeft u me file path parts at len (Err e) old (piece ++ old) → (marks me piece ≡ end_of (call.State file) (outcome.Failed e)) ⊎ ((state : FileState) × (rest : List Mark) × (marks me piece ≡ told_state file state ∷ rest) × CutPartsMarks path (parts (cut_range state.sizes.size at len)) e rest)
+pub refused-parts-shown : (u : Setup) (me : ℕ) (file : File) (path : HoldPath) (parts : Range → List Range) (at len : ℕ) (e : CcError) (piece old : List Entry) → HeldPartsLeft u me file path parts at len (Err e) old (piece ++ old) → (marks me piece ≡ end_of (call.Query (query.State file)) (outcome.Failed e)) ⊎ ((state : FileState) × (rest : List Mark) × (marks me piece ≡ told_state file state ∷ rest) × CutPartsMarks path (parts (cut_range state.sizes.size at len)) e rest)
 refused-parts-shown u me file path parts at len e piece old (inl left) =
-    inl (shows me (end_of (call.State file) (outcome.Failed e)) piece old (marked-left u me (call.State file) (outcome.Failed e) old (piece ++ old) left))
+    inl (shows me (end_of (call.Query (query.State file)) (outcome.Failed e)) piece old (marked-left u me (call.Query (query.State file)) (outcome.Failed e) old (piece ++ old) left))
 refused-parts-shown u me file path parts at len e piece old (inr left) =
     let its = parts-cut u me path (parts (cut_range left.1.sizes.size at len)) e left.0 (piece ++ old) left.3 in
-    inr (left.1, its.0, shows me (told_state file left.1 ∷ its.0) piece old (marked-then me (told_state file left.1 ∷ []) its.0 old left.0 (piece ++ old) (marked-call u me (call.State file) (outcome.Done (reply.State left.1)) old left.0 left.2 refl) its.2), its.1)
+    inr (left.1, its.0, shows me (told_state file left.1 ∷ its.0) piece old (marked-then me (told_state file left.1 ∷ []) its.0 old left.0 (piece ++ old) (marked-call u me (call.Query (query.State file)) (outcome.Done (reply.Value (value.State left.1))) old left.0 left.2 refl) its.2), its.1)

@@ -5,8 +5,10 @@ use Rattle.std.proofs.Common.{inl, inr, ap, ◌∙◌, eq-eqb}
 use Rattle.cc_entry.specs.Place.{File}
 use Rattle.cc_entry.specs.declared.place.FileState.{FileState}
 use Rattle.cc_entry.specs.declared.call.Call.TheVariants as call
+use Rattle.cc_entry.specs.declared.query.Query.TheVariants as query
 use Rattle.cc_entry.specs.declared.error.CcError.{CcError}
 use Rattle.cc_entry.specs.declared.reply.Reply.TheVariants as reply
+use Rattle.cc_entry.specs.declared.query.Value.TheVariants as value
 use Rattle.cc_entry.specs.declared.reply.Outcome.TheVariants as outcome
 use Rattle.cc_entry.specs.declared.answer.Answer.TheVariants as answer
 use Rattle.cc_entry.specs.declared.entry.End.{End}
@@ -46,19 +48,19 @@ synced-marked me s first size valid end old new is =
 -- the state was told, and the stream flushed
 abbrev pub flushed_marks : File → FileState → List Mark
 flushed_marks file told =
-    Ended (call.State file) (outcome.Done (reply.State told)) ∷ Ended (call.Flush file None) (outcome.Done reply.Unit) ∷ []
+    Ended (call.Query (query.State file)) (outcome.Done (reply.Value (value.State told))) ∷ Ended (call.Flush file None) (outcome.Done reply.Unit) ∷ []
 
 flushed-marked : (u : Setup) (me : ℕ) (file : File) (told : FileState) (begun old new : List Entry) → StreamHasFlushed u me file told begun old new → Marked me (flushed_marks file told) old new
 flushed-marked u me file told begun old new is =
     let flushed = Ended (call.Flush file None) (outcome.Done reply.Unit) ∷ [] in
-    marked-then me (Ended (call.State file) (outcome.Done (reply.State told)) ∷ []) flushed old is.stated new
-    (marked-call u me (call.State file) (outcome.Done (reply.State told)) old is.stated is.state refl)
+    marked-then me (Ended (call.Query (query.State file)) (outcome.Done (reply.Value (value.State told))) ∷ []) flushed old is.stated new
+    (marked-call u me (call.Query (query.State file)) (outcome.Done (reply.Value (value.State told))) old is.stated is.state refl)
     (marked-then me [] flushed is.stated begun new (marked-idle me is.stated begun is.idle) (marked-call u me (call.Flush file None) (outcome.Done reply.Unit) begun new is.flush refl))
 
 -- a stream was settled: its state was told, it was flushed, and its record was written as the answer tells
 abbrev pub settle_marks : File → FileState → FileState → List Mark
 settle_marks file told state =
-    Ended (call.State file) (outcome.Done (reply.State told))
+    Ended (call.Query (query.State file)) (outcome.Done (reply.Value (value.State told)))
     ∷ Ended (call.Flush file None) (outcome.Done reply.Unit)
     ∷ Recorded file.stream state.sizes.size state.sizes.valid how.Good
     ∷ []

@@ -4,8 +4,10 @@ use Rattle.std.specs.declared.option.Option.{Option}
 use Rattle.std.specs.declared.option.Option.TheVariants.{Some, None}
 use Rattle.std.proofs.Common.{inl, inr, sym, arith}
 use Rattle.cc_entry.specs.declared.call.Call.TheVariants as call
+use Rattle.cc_entry.specs.declared.query.Query.TheVariants as query
 use Rattle.cc_entry.specs.declared.error.CcError.{CcError}
 use Rattle.cc_entry.specs.declared.reply.Reply.TheVariants as reply
+use Rattle.cc_entry.specs.declared.query.Value.TheVariants as value
 use Rattle.cc_entry.specs.declared.reply.Outcome.TheVariants as outcome
 use Rattle.cc_entry.specs.declared.answer.Answer.TheVariants as answer
 use Rattle.cc_entry.specs.declared.answer.LineReply.{LineReply}
@@ -59,15 +61,15 @@ abbrev pub read_mark : Mark
 read_mark = Ended first_byte (outcome.Done a_byte)
 
 abbrev pub state_mark : Mark
-state_mark = Ended (call.State a) (outcome.Done (reply.State two_full))
+state_mark = Ended (call.Query (query.State a)) (outcome.Done (reply.Value (value.State two_full)))
 
 pub read-ran : (limit : ℕ) (bindings : List Binding) (old new : List Entry) → Ran setup limit 1 bindings ((reads, answer.Given a_byte) ∷ []) old new → Marked 1 (read_mark ∷ []) old new
 read-ran limit bindings old new left =
     marked-then 1 (read_mark ∷ []) [] old left.0 new (marked-call setup 1 first_byte (outcome.Done a_byte) old left.0 left.1.served refl) (marked-idle 1 left.0 new left.2)
 
-pub state-ran : (limit : ℕ) (bindings : List Binding) (old new : List Entry) → Ran setup limit 1 bindings ((asks, answer.Given (reply.State two_full)) ∷ []) old new → Marked 1 (state_mark ∷ []) old new
+pub state-ran : (limit : ℕ) (bindings : List Binding) (old new : List Entry) → Ran setup limit 1 bindings ((asks, answer.Given (reply.Value (value.State two_full))) ∷ []) old new → Marked 1 (state_mark ∷ []) old new
 state-ran limit bindings old new left =
-    marked-then 1 (state_mark ∷ []) [] old left.0 new (marked-call setup 1 (call.State a) (outcome.Done (reply.State two_full)) old left.0 left.1.served refl) (marked-idle 1 left.0 new left.2)
+    marked-then 1 (state_mark ∷ []) [] old left.0 new (marked-call setup 1 (call.Query (query.State a)) (outcome.Done (reply.Value (value.State two_full))) old left.0 left.1.served refl) (marked-idle 1 left.0 new left.2)
 
 pub lines-ran : (limit : ℕ) (bindings : List Binding) (old new : List Entry) → Ran setup limit 1 bindings two_lines old new → Marked 1 (read_mark ∷ state_mark ∷ []) old new
 lines-ran limit bindings old new left =

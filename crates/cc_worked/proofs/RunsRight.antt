@@ -4,7 +4,9 @@ use Rattle.std.specs.declared.option.Option.TheVariants.{Some, None}
 use Rattle.std.proofs.Common.{inl, inr, sym, arith}
 use Rattle.std.proofs.lemmas.Bool.{eqb-true}
 use Rattle.cc_entry.specs.declared.call.Call.TheVariants as call
+use Rattle.cc_entry.specs.declared.query.Query.TheVariants as query
 use Rattle.cc_entry.specs.declared.reply.Reply.TheVariants as reply
+use Rattle.cc_entry.specs.declared.query.Value.TheVariants as value
 use Rattle.cc_entry.specs.declared.reply.Outcome.TheVariants as outcome
 use Rattle.cc_entry.specs.declared.entry.Entry.{Entry}
 use Rattle.cc_effects.specs.Moments.{IsIdle}
@@ -63,7 +65,7 @@ phase-with-steps = record {
     idle_beside me other = record { during = page_comes_in; grew = refl; others = (other, (other, tt)) }
 
 asked : List Entry
-asked = answers 1 2 (call.State a) (reply.State two_full) ∷ []
+asked = answers 1 2 (call.Query (query.State a)) (reply.Value (value.State two_full)) ∷ []
 
 none_asked : (me : ℕ) → (1 == me) ≡ false → Ran setup (limit_in (plan_with 0 0) 2) me (bindings_of [] (lines_before (plan_with 0 0) 2 me)) (lines_in (plan_with 0 0) 2 me) (page_comes_in ++ two_pages) (reads_and_asks ++ two_pages)
 unfolding asked

@@ -5,9 +5,11 @@ use Rattle.cc_entry.specs.Place.{File}
 use Rattle.cc_entry.specs.declared.place.FileState.{FileState}
 use Rattle.cc_entry.specs.declared.call.Call.{Call}
 use Rattle.cc_entry.specs.declared.call.Call.TheVariants as call
+use Rattle.cc_entry.specs.declared.query.Query.TheVariants as query
 use Rattle.cc_entry.specs.declared.error.CcError.{CcError}
 use Rattle.cc_entry.specs.declared.error.CcError.TheVariants as error
 use Rattle.cc_entry.specs.declared.reply.Reply.TheVariants as reply
+use Rattle.cc_entry.specs.declared.query.Value.TheVariants as value
 use Rattle.cc_entry.specs.declared.reply.Outcome.TheVariants as outcome
 use Rattle.cc_entry.specs.declared.entry.Entry.{Entry}
 use Rattle.cc_model.specs.Setup.{Setup}
@@ -25,7 +27,7 @@ not-tested x e = neither (done_not_refused x e) (done_not_refused x error.NoMemo
 
 -- the question for the sizes, as it was answered
 abbrev pub told_state : File → FileState → Mark
-told_state file state = Ended (call.State file) (outcome.Done (reply.State state))
+told_state file state = Ended (call.Query (query.State file)) (outcome.Done (reply.Value (value.State state)))
 
 -- two marks of it with what follows are one
 pub same_state : (file : File) (s t : FileState) (xs ys : List Mark) → told_state file s ∷ xs ≡ told_state file t ∷ ys → (t ≡ s) × (ys ≡ xs)
@@ -34,7 +36,7 @@ same_state file s t xs ys same = (cc, cc)
 write-marks : (u : Setup) (me : ℕ) (file : File) (at : ℕ) (bytes : List ℕ) (old new : List Entry) → ShortWriteLeft u me file at bytes (Ok tt) old new → (state : FileState) × Marked me (told_state file state ∷ done_marks (write_calls file at bytes state)) old new
 write-marks u me file at bytes old new (inl left) = absurd (done_not_refused tt left.0 left.1)
 write-marks u me file at bytes old new (inr left) =
-    (left.1, marked-then me (told_state file left.1 ∷ []) (done_marks (write_calls file at bytes left.1)) old left.0 new (marked-call u me (call.State file) (outcome.Done (reply.State left.1)) old left.0 left.2 refl) (calls left.3))
+    (left.1, marked-then me (told_state file left.1 ∷ []) (done_marks (write_calls file at bytes left.1)) old left.0 new (marked-call u me (call.Query (query.State file)) (outcome.Done (reply.Value (value.State left.1))) old left.0 left.2 refl) (calls left.3))
   where
     calls : ToldWriteLeft u me file at bytes left.1 (Ok tt) left.0 new → Marked me (done_marks (write_calls file at bytes left.1)) left.0 new
     calls (inl told) = absurd (not-tested tt (error.GapTooLong 67108864) told.1)
@@ -63,7 +65,7 @@ AfterTold file at bytes e state rest =
 -- and what it leaves as a whole
 abbrev pub RefusedMarks : File → ℕ → List ℕ → CcError → List Mark → Type 0
 RefusedMarks file at bytes e all =
-    (all ≡ end_of (call.State file) (outcome.Failed e))
+    (all ≡ end_of (call.Query (query.State file)) (outcome.Failed e))
     ⊎ ((state : FileState) × (rest : List Mark) × (all ≡ told_state file state ∷ rest) × AfterTold file at bytes e state rest)
 
 told-refused : (u : Setup) (me : ℕ) (file : File) (at : ℕ) (bytes : List ℕ) (e : CcError) (state : FileState) (old new : List Entry) → ToldWriteLeft u me file at bytes state (Err e) old new → (rest : List Mark) × AfterTold file at bytes e state rest × Marked me rest old new
@@ -77,11 +79,11 @@ same_error e f same = cc
 
 pub refusal-shown : (u : Setup) (me : ℕ) (file : File) (at : ℕ) (bytes : List ℕ) (e : CcError) (piece old : List Entry) → ShortWriteLeft u me file at bytes (Err e) old (piece ++ old) → RefusedMarks file at bytes e (marks me piece)
 refusal-shown u me file at bytes e piece old (inl left) =
-    let failed : CallLeft u me (call.State file) (outcome.Failed e) old (piece ++ old) = rw (sym (same_error e left.0 left.1)) at left.2 in
-    inl (shows me (end_of (call.State file) (outcome.Failed e)) piece old (marked-left u me (call.State file) (outcome.Failed e) old (piece ++ old) failed))
+    let failed : CallLeft u me (call.Query (query.State file)) (outcome.Failed e) old (piece ++ old) = rw (sym (same_error e left.0 left.1)) at left.2 in
+    inl (shows me (end_of (call.Query (query.State file)) (outcome.Failed e)) piece old (marked-left u me (call.Query (query.State file)) (outcome.Failed e) old (piece ++ old) failed))
 refusal-shown u me file at bytes e piece old (inr left) =
     let its = told-refused u me file at bytes e left.1 left.0 (piece ++ old) left.3 in
-    inr (left.1, its.0, shows me (told_state file left.1 ∷ its.0) piece old (marked-then me (told_state file left.1 ∷ []) its.0 old left.0 (piece ++ old) (marked-call u me (call.State file) (outcome.Done (reply.State left.1)) old left.0 left.2 refl) its.2), its.1)
+    inr (left.1, its.0, shows me (told_state file left.1 ∷ its.0) piece old (marked-then me (told_state file left.1 ∷ []) its.0 old left.0 (piece ++ old) (marked-call u me (call.Query (query.State file)) (outcome.Done (reply.Value (value.State left.1))) old left.0 left.2 refl) its.2), its.1)
 
 -- a list of marks that a refused call ends has no mark after it, and no refusal before
 pub cut-here : (calls : List Call) (e : CcError) (it : Call) (f : CcError) (rest : List Mark) → Cut calls e (Ended it (outcome.Failed f) ∷ rest) → (rest ≡ []) × (e ≡ f)

@@ -8,8 +8,10 @@ use Rattle.std.proofs.Common.{inl, inr, sym, ap, ◌∙◌, append_assoc}
 use Rattle.std.proofs.lemmas.List.{append_cancel_right}
 use Rattle.cc_entry.specs.Place.{File}
 use Rattle.cc_entry.specs.declared.call.Call.TheVariants as call
+use Rattle.cc_entry.specs.declared.query.Query.TheVariants as query
 use Rattle.cc_entry.specs.declared.error.CcError.TheVariants as error
 use Rattle.cc_entry.specs.declared.reply.Reply.TheVariants as reply
+use Rattle.cc_entry.specs.declared.query.Value.TheVariants as value
 use Rattle.cc_entry.specs.declared.reply.Outcome.TheVariants as outcome
 use Rattle.cc_entry.specs.declared.entry.Entry.{Entry}
 use Rattle.cc_model.specs.Setup.{Setup}
@@ -99,12 +101,12 @@ told-want u me file id at bytes (Some handle) valid old new (inr left) = logged-
 
 pinned-want : (u : Setup) (me : ℕ) (file : File) (id at : ℕ) (bytes : List ℕ) (old new : List Entry) → PinnedUpdateLeft u me file id at bytes (Err error.NoMemory) old new → Unchanged me old new ⊎ WantsAt me id old new
 pinned-want u me file id at bytes old new (inl left) =
-    let failed : CallLeft u me (call.State file) (outcome.Failed error.NoMemory) old new = rw (sym (same_error left.1)) at left.2 in
-    inl ([], refl, marked-left u me (call.State file) (outcome.Failed error.NoMemory) old new failed)
+    let failed : CallLeft u me (call.Query (query.State file)) (outcome.Failed error.NoMemory) old new = rw (sym (same_error left.1)) at left.2 in
+    inl ([], refl, marked-left u me (call.Query (query.State file)) (outcome.Failed error.NoMemory) old new failed)
 pinned-want u me file id at bytes old new (inr left) = by (told-want u me file id at bytes left.1.log left.1.sizes.valid left.0 new left.3)
   where
     told : Marked me (told_state file left.1 ∷ []) old left.0
-    told = marked-call u me (call.State file) (outcome.Done (reply.State left.1)) old left.0 left.2 refl
+    told = marked-call u me (call.Query (query.State file)) (outcome.Done (reply.Value (value.State left.1))) old left.0 left.2 refl
 
     by : Unchanged me left.0 new ⊎ WantsAt me id left.0 new → Unchanged me old new ⊎ WantsAt me id old new
     by (inl none) = inl (told_state file left.1 ∷ none.0, none.1, marked-then me (told_state file left.1 ∷ []) none.0 old left.0 new told none.2)

@@ -7,9 +7,11 @@ use Rattle.cc_entry.specs.Place.{File}
 use Rattle.cc_entry.specs.declared.place.FileState.{FileState}
 use Rattle.cc_entry.specs.declared.call.Call.{Call}
 use Rattle.cc_entry.specs.declared.call.Call.TheVariants as call
+use Rattle.cc_entry.specs.declared.query.Query.TheVariants as query
 use Rattle.cc_entry.specs.declared.error.CcError.{CcError}
 use Rattle.cc_entry.specs.declared.error.CcError.TheVariants as error
 use Rattle.cc_entry.specs.declared.reply.Reply.TheVariants as reply
+use Rattle.cc_entry.specs.declared.query.Value.TheVariants as value
 use Rattle.cc_entry.specs.declared.reply.Outcome.TheVariants as outcome
 use Rattle.cc_entry.specs.declared.entry.Entry.{Entry}
 use Rattle.cc_entry.specs.declared.entry.Entry.TheVariants as entry
@@ -66,7 +68,7 @@ pinned-marks : (u : Setup) (me : ℕ) (file : File) (id at : ℕ) (bytes : List 
 pinned-marks u me file id at bytes lsn old new (inl left) = absurd (done_not_refused lsn left.0 left.1)
 pinned-marks u me file id at bytes lsn old new (inr left) =
     let told = told-marks u me file id at bytes left.1.log left.1.sizes.valid lsn left.0 new left.3 in
-    (left.1, told.0, marked-then me (told_state file left.1 ∷ []) (Logged told.0 lsn (update_record_of_file file at bytes) ∷ done_marks (two_calls id at bytes lsn)) old left.0 new (marked-call u me (call.State file) (outcome.Done (reply.State left.1)) old left.0 left.2 refl) told.2)
+    (left.1, told.0, marked-then me (told_state file left.1 ∷ []) (Logged told.0 lsn (update_record_of_file file at bytes) ∷ done_marks (two_calls id at bytes lsn)) old left.0 new (marked-call u me (call.Query (query.State file)) (outcome.Done (reply.Value (value.State left.1))) old left.0 left.2 refl) told.2)
 
 -- a done update left its pin, the question, the record, the two calls and the end of the pin
 pub update-shown : (u : Setup) (me : ℕ) (file : File) (at : ℕ) (bytes : List ℕ) (lsn : ℕ) (piece old : List Entry) → UpdateLeft u me file at bytes (Ok lsn) old (piece ++ old) → (id : ℕ) × (state : FileState) × (handle : ℕ) × (marks me piece ≡ updated_marks file at bytes id state handle lsn)
@@ -102,7 +104,7 @@ AfterAsked file id at bytes e (Some handle) valid rest =
 -- what it leaves under its pin
 abbrev pub UnderPin : File → ℕ → ℕ → List ℕ → CcError → List Mark → Type 0
 UnderPin file id at bytes e all =
-    (all ≡ end_of (call.State file) (outcome.Failed e))
+    (all ≡ end_of (call.Query (query.State file)) (outcome.Failed e))
     ⊎ ((state : FileState) × (rest : List Mark) × (all ≡ told_state file state ∷ rest) × AfterAsked file id at bytes e state.log state.sizes.valid rest)
 
 -- and as a whole: the pin was refused, or made and ended
@@ -130,13 +132,13 @@ told-refused u me file id at bytes e (Some handle) valid old new (inr left) = lo
 
 pinned-refused : (u : Setup) (me : ℕ) (file : File) (id at : ℕ) (bytes : List ℕ) (e : CcError) (old new : List Entry) → PinnedUpdateLeft u me file id at bytes (Err e) old new → (all : List Mark) × UnderPin file id at bytes e all × Marked me all old new
 pinned-refused u me file id at bytes e old new (inl left) =
-    let failed : CallLeft u me (call.State file) (outcome.Failed e) old new = rw (sym (same_error left.1)) at left.2 in
-    (end_of (call.State file) (outcome.Failed e), inl refl, marked-left u me (call.State file) (outcome.Failed e) old new failed)
+    let failed : CallLeft u me (call.Query (query.State file)) (outcome.Failed e) old new = rw (sym (same_error left.1)) at left.2 in
+    (end_of (call.Query (query.State file)) (outcome.Failed e), inl refl, marked-left u me (call.Query (query.State file)) (outcome.Failed e) old new failed)
 pinned-refused u me file id at bytes e old new (inr left) =
     let its = told-refused u me file id at bytes e left.1.log left.1.sizes.valid left.0 new left.3 in (
       told_state file left.1 ∷ its.0,
       inr (left.1, its.0, refl, its.1),
-      marked-then me (told_state file left.1 ∷ []) its.0 old left.0 new (marked-call u me (call.State file) (outcome.Done (reply.State left.1)) old left.0 left.2 refl) its.2,
+      marked-then me (told_state file left.1 ∷ []) its.0 old left.0 new (marked-call u me (call.Query (query.State file)) (outcome.Done (reply.Value (value.State left.1))) old left.0 left.2 refl) its.2,
     )
 
 pub refused-update-shown : (u : Setup) (me : ℕ) (file : File) (at : ℕ) (bytes : List ℕ) (e : CcError) (piece old : List Entry) → UpdateLeft u me file at bytes (Err e) old (piece ++ old) → RefusedUpdate file at bytes e (marks me piece)
@@ -176,7 +178,7 @@ under-pin file at bytes e id under last (inr left) =
 pub after-question : (file : File) (id at : ℕ) (bytes : List ℕ) (e : CcError) (state : FileState) (rest : List Mark) → UnderPin file id at bytes e (told_state file state ∷ rest) → AfterAsked file id at bytes e state.log state.sizes.valid rest
 after-question file id at bytes e state rest (inl same) = by (leaves_entry (outcome.Failed e)) same
   where
-    by : (leaves : Bool) → told_state file state ∷ rest ≡ (if leaves then Ended (call.State file) (outcome.Failed e) ∷ [] else []) → AfterAsked file id at bytes e state.log state.sizes.valid rest
+    by : (leaves : Bool) → told_state file state ∷ rest ≡ (if leaves then Ended (call.Query (query.State file)) (outcome.Failed e) ∷ [] else []) → AfterAsked file id at bytes e state.log state.sizes.valid rest
     by true same = absurd (cc)
     by false same = absurd (cc)
 after-question file id at bytes e state rest (inr told) =

@@ -3,7 +3,9 @@ use Rattle.std.specs.Prelude.{ℕ, List, [], ◌∷◌, ◌++◌, true, false, r
 use Rattle.std.specs.declared.option.Option.TheVariants.{Some, None}
 use Rattle.cc_entry.specs.Place.{Range}
 use Rattle.cc_entry.specs.declared.call.Call.TheVariants as call
+use Rattle.cc_entry.specs.declared.query.Query.TheVariants as query
 use Rattle.cc_entry.specs.declared.reply.Reply.TheVariants as reply
+use Rattle.cc_entry.specs.declared.query.Value.TheVariants as value
 use Rattle.cc_entry.specs.declared.error.CcError.{CcError}
 use Rattle.cc_entry.specs.declared.error.CcError.TheVariants as error
 use Rattle.cc_entry.specs.declared.entry.End.{End}
@@ -43,7 +45,7 @@ later_dropped = grown_written ++ done 1 2 (call.CopyWrite a 5000 (205 ∷ [])) �
 
 -- the stream's sizes as a caller is told them
 abbrev pub told : ℕ → Entry
-told valid = answers 1 4 (call.State a) (reply.State (record { sizes = sized 8192 valid; log = None }))
+told valid = answers 1 4 (call.Query (query.State a)) (reply.Value (value.State (record { sizes = sized 8192 valid; log = None })))
 
 -- the sizes stay, and the byte is the one that was written
 abbrev pub written_byte_back : List Entry
@@ -89,7 +91,7 @@ abbrev pub barred_as_reopened : List Entry
 barred_as_reopened =
     reverse (
     opened 8192 8192
-    ∷ answers 1 1 (call.Uninitialise a None) (reply.Flag true)
+    ∷ answers 1 1 (call.Uninitialise a None) (reply.Value (value.Flag true))
     ∷ done 1 2 (call.Initialise a (sized 8192 5000) 16 false)
     ∷ read_in 1 1
     ∷ done 1 3 (call.CopyWrite a 5000 (171 ∷ []))

@@ -2,7 +2,9 @@
 use Rattle.std.specs.Prelude.{List, [], ◌∷◌, ◌++◌, true, false, reverse}
 use Rattle.std.specs.declared.option.Option.TheVariants.{Some, None}
 use Rattle.cc_entry.specs.declared.call.Call.TheVariants as call
+use Rattle.cc_entry.specs.declared.query.Query.TheVariants as query
 use Rattle.cc_entry.specs.declared.reply.Reply.TheVariants as reply
+use Rattle.cc_entry.specs.declared.query.Value.TheVariants as value
 use Rattle.cc_entry.specs.declared.error.CcError.TheVariants as error
 use Rattle.cc_entry.specs.declared.entry.Entry.{Entry}
 use Rattle.cc_worked.specs.Values.{a, opened, done, answers, refused, dirty_is, read_in, goes_out, begins, ends, written, synced, discarded}
@@ -131,7 +133,7 @@ stamp_dropped =
     ∷ done 1 2 (call.SetDirty 1 (Some 7))
     ∷ done 1 3 (call.EndHold 1)
     ∷ discarded 1 4
-    ∷ answers 1 5 (call.LsnForFile a) (reply.Lsns None)
+    ∷ answers 1 5 (call.Query (query.LsnForFile a)) (reply.Value (value.Lsns None))
     ∷ [])
 
 -- wrong: the stamp stays
@@ -144,5 +146,5 @@ stamp_kept =
     ∷ done 1 2 (call.SetDirty 1 (Some 7))
     ∷ done 1 3 (call.EndHold 1)
     ∷ discarded 1 4
-    ∷ answers 1 5 (call.LsnForFile a) (reply.Lsns (Some (7, 7)))
+    ∷ answers 1 5 (call.Query (query.LsnForFile a)) (reply.Value (value.Lsns (Some (7, 7))))
     ∷ [])

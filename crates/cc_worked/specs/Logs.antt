@@ -2,7 +2,9 @@
 use Rattle.std.specs.Prelude.{ℕ, List, [], ◌∷◌, ◌++◌, ◌+◌, ◌^◌, false, reverse}
 use Rattle.std.specs.declared.option.Option.TheVariants.{Some, None}
 use Rattle.cc_entry.specs.declared.call.Call.TheVariants as call
+use Rattle.cc_entry.specs.declared.query.Query.TheVariants as query
 use Rattle.cc_entry.specs.declared.reply.Reply.TheVariants as reply
+use Rattle.cc_entry.specs.declared.query.Value.TheVariants as value
 use Rattle.cc_entry.specs.declared.reply.Outcome.TheVariants as outcome
 use Rattle.cc_entry.specs.declared.error.CcError.TheVariants as error
 use Rattle.cc_entry.specs.declared.entry.Entry.{Entry}
@@ -23,7 +25,7 @@ pinned_change =
 -- a caller asks for the dirty page table of log 0, and is told this one row
 abbrev pub table_of : ℕ → ℕ → ℕ → ℕ → Entry
 table_of pass nth oldest newest =
-    entry.Call pass nth None (call.DirtyPages 0) (outcome.Done (reply.Rows (row oldest newest ∷ [])))
+    entry.Call pass nth None (call.Query (query.DirtyPages 0)) (outcome.Done (reply.Rows (row oldest newest ∷ [])))
 
 -- a flush before the stamp is refused; then the pin is stamped and ended
 abbrev pub stamped : List Entry
@@ -106,7 +108,7 @@ greatest_stamped =
     ∷ read_in 1 0
     ∷ answers 1 1 (call.PinRead a 0 1 false) (reply.Hold 1)
     ∷ done 1 2 (call.SetDirty 1 (Some (2 ^ 62)))
-    ∷ answers 1 3 (call.LsnForFile a) (reply.Lsns (Some (2 ^ 62, 2 ^ 62)))
+    ∷ answers 1 3 (call.Query (query.LsnForFile a)) (reply.Value (value.Lsns (Some (2 ^ 62, 2 ^ 62))))
     ∷ done 1 4 (call.EndHold 1)
     ∷ entry.Flushed 1 0 (2 ^ 62)
     ∷ written 1 0

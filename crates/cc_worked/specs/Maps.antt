@@ -3,6 +3,7 @@ use Rattle.std.specs.Prelude.{List, [], ◌∷◌, ◌++◌, true, false, revers
 use Rattle.std.specs.declared.option.Option.TheVariants.{None}
 use Rattle.cc_entry.specs.declared.call.Call.TheVariants as call
 use Rattle.cc_entry.specs.declared.reply.Reply.TheVariants as reply
+use Rattle.cc_entry.specs.declared.query.Value.TheVariants as value
 use Rattle.cc_entry.specs.declared.error.CcError.TheVariants as error
 use Rattle.cc_entry.specs.declared.entry.Entry.{Entry}
 use Rattle.cc_entry.specs.declared.entry.Entry.TheVariants as entry
@@ -15,8 +16,8 @@ closing =
     ∷ read_in 1 0
     ∷ done 1 1 (call.CopyWrite a 0 (171 ∷ []))
     ∷ done 1 2 (call.Initialise second (sized 8192 8192) 16 false)
-    ∷ answers 1 3 (call.Uninitialise a None) (reply.Flag false)
-    ∷ answers 1 4 (call.Uninitialise second None) (reply.Flag false)
+    ∷ answers 1 3 (call.Uninitialise a None) (reply.Value (value.Flag false))
+    ∷ answers 1 4 (call.Uninitialise second None) (reply.Value (value.Flag false))
     ∷ refused 1 5 (call.CopyRead a 0 1 true) error.NotCached
     ∷ []
 
@@ -40,7 +41,7 @@ bytes_outlive_map =
     ++ refused 1 8 (call.CopyRead a 0 2 false) (error.NotResident 0)
     ∷ read_in 1 0
     ∷ answers 1 9 (call.CopyRead a 0 2 true) (reply.Read (171 ∷ 90 ∷ []))
-    ∷ answers 1 10 (call.Uninitialise a None) (reply.Flag true)
+    ∷ answers 1 10 (call.Uninitialise a None) (reply.Value (value.Flag true))
     ∷ [])
 
 -- wrong: the map goes with its last object, though a page is dirty
@@ -50,7 +51,7 @@ gone_while_dirty =
     opened 8192 8192
     ∷ read_in 1 0
     ∷ done 1 1 (call.CopyWrite a 0 (171 ∷ []))
-    ∷ answers 1 2 (call.Uninitialise a None) (reply.Flag true)
+    ∷ answers 1 2 (call.Uninitialise a None) (reply.Value (value.Flag true))
     ∷ [])
 
 -- wrong: an object that went reads on

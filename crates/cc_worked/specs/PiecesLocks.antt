@@ -6,7 +6,9 @@ use Rattle.std.specs.declared.option.Option.TheVariants.{Some, None}
 use Rattle.cc_entry.specs.Place.{File, Range}
 use Rattle.cc_entry.specs.declared.place.FileState.{FileState}
 use Rattle.cc_entry.specs.declared.call.Call.TheVariants as call
+use Rattle.cc_entry.specs.declared.query.Query.TheVariants as query
 use Rattle.cc_entry.specs.declared.reply.Reply.TheVariants as reply
+use Rattle.cc_entry.specs.declared.query.Value.TheVariants as value
 use Rattle.cc_entry.specs.declared.answer.Answer.{Answer}
 use Rattle.cc_entry.specs.declared.entry.Entry.{Entry}
 use Rattle.cc_script.specs.declared.script.Action.TheVariants as action
@@ -42,7 +44,7 @@ LastRead = OneLine (action.Read a Cached 18446744073709551614 4)
 
 -- what the stream tells of itself is the first call of the line
 abbrev pub tells : FileState → List Entry
-tells state = answers 1 1 (call.State a) (reply.State state) ∷ []
+tells state = answers 1 1 (call.Query (query.State a)) (reply.Value (value.State state)) ∷ []
 
 -- and then the line is tested so, and nothing follows
 abbrev pub tested_by : Entry → List Entry
@@ -63,7 +65,7 @@ read_untested = answers 1 2 first_byte a_byte ∷ tells two_full
 -- the byte is written behind its test, by a write that asks the sizes itself
 abbrev pub written_behind : List Entry
 written_behind =
-    done 1 3 (writes_at 0) ∷ answers 1 2 (call.State a) (reply.State two_full) ∷ tested_by (writes a 0 1 None)
+    done 1 3 (writes_at 0) ∷ answers 1 2 (call.Query (query.State a)) (reply.Value (value.State two_full)) ∷ tested_by (writes a 0 1 None)
 
 -- the last byte of all, and a test of four bytes from it on
 abbrev pub last_byte : Range

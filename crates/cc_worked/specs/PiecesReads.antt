@@ -6,6 +6,7 @@ use Rattle.cc_entry.specs.declared.call.Call.{Call}
 use Rattle.cc_entry.specs.declared.call.Call.TheVariants as call
 use Rattle.cc_entry.specs.declared.reply.Reply.{Reply}
 use Rattle.cc_entry.specs.declared.reply.Reply.TheVariants as reply
+use Rattle.cc_entry.specs.declared.query.Value.TheVariants as value
 use Rattle.cc_entry.specs.declared.error.CcError.TheVariants as error
 use Rattle.cc_entry.specs.declared.entry.Entry.{Entry}
 use Rattle.cc_entry.specs.declared.entry.Entry.TheVariants as entry
@@ -71,7 +72,7 @@ abbrev pub closed_meanwhile : List Entry
 closed_meanwhile =
     refused 1 1 first_byte error.NotCached
     ∷ entry.FillFailed 1 (page 0)
-    ∷ answers 2 1 (call.Uninitialise a None) (reply.Flag true)
+    ∷ answers 2 1 (call.Uninitialise a None) (reply.Value (value.Flag true))
     ∷ []
 
 -- wrong: the fault has no entry, or that of another caller

@@ -4,7 +4,9 @@ use Rattle.std.specs.Prelude.{ℕ, List, [], ◌∷◌, true, false}
 use Rattle.std.specs.declared.option.Option.TheVariants.{Some, None}
 use Rattle.cc_entry.specs.declared.place.FileState.{FileState}
 use Rattle.cc_entry.specs.declared.call.Call.TheVariants as call
+use Rattle.cc_entry.specs.declared.query.Query.TheVariants as query
 use Rattle.cc_entry.specs.declared.reply.Reply.TheVariants as reply
+use Rattle.cc_entry.specs.declared.query.Value.TheVariants as value
 use Rattle.cc_entry.specs.declared.answer.Answer.{Answer}
 use Rattle.cc_entry.specs.declared.answer.Answer.TheVariants as answer
 use Rattle.cc_entry.specs.declared.entry.End.TheVariants as how
@@ -64,7 +66,7 @@ valid_up_to valid = record { sizes = sized 8192 valid; log = None }
 
 -- the settling told this
 abbrev pub told_state : FileState → Answer
-told_state state = answer.Given (reply.State state)
+told_state state = answer.Given (reply.Value (value.State state))
 
 -- disks on which each page is the record of the first version, of 8192 bytes
 abbrev pub first_versions : Setup
@@ -88,7 +90,7 @@ opens_recorded = done 0 1 (call.Initialise a (sized 8192 5001) 16 false) ∷ []
 -- it is opened, its state is told, and it is flushed
 abbrev pub opens_and_flushes : List Entry
 opens_and_flushes =
-    done 0 3 (call.Flush a None) ∷ synced 0 ∷ answers 0 2 (call.State a) (reply.State two_full) ∷ opens
+    done 0 3 (call.Flush a None) ∷ synced 0 ∷ answers 0 2 (call.Query (query.State a)) (reply.Value (value.State two_full)) ∷ opens
 
 -- and its record is written anew
 abbrev pub migrates : List Entry

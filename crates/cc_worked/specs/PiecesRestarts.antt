@@ -3,7 +3,9 @@ use Rattle.std.specs.Prelude.{ℕ, List, [], ◌∷◌}
 use Rattle.std.specs.declared.option.Option.TheVariants.{Some, None}
 use Rattle.cc_entry.specs.declared.place.DirtyRow.{DirtyRow}
 use Rattle.cc_entry.specs.declared.call.Call.TheVariants as call
+use Rattle.cc_entry.specs.declared.query.Query.TheVariants as query
 use Rattle.cc_entry.specs.declared.reply.Reply.TheVariants as reply
+use Rattle.cc_entry.specs.declared.query.Value.TheVariants as value
 use Rattle.cc_entry.specs.declared.reply.Outcome.TheVariants as outcome
 use Rattle.cc_entry.specs.declared.answer.Answer.{Answer}
 use Rattle.cc_entry.specs.declared.answer.Answer.TheVariants as answer
@@ -65,8 +67,8 @@ one_row_record = 255 ∷ 1 ∷ 0 ∷ 0 ∷ 0 ∷ 0 ∷ 0 ∷ 0 ∷ 0 ∷ 0 ∷ 0
 -- the table has the row, and the stream has the log
 abbrev pub checkpoint_asks : List Entry
 checkpoint_asks =
-    answers 1 2 (call.State a) (reply.State (logged_state 8192))
-    ∷ entry.Call 1 1 None (call.DirtyPages 0) (outcome.Done (reply.Rows (first_dirty ∷ []))) ∷ []
+    answers 1 2 (call.Query (query.State a)) (reply.Value (value.State (logged_state 8192)))
+    ∷ entry.Call 1 1 None (call.Query (query.DirtyPages 0)) (outcome.Done (reply.Rows (first_dirty ∷ []))) ∷ []
 
 -- so its disk is synced
 abbrev pub checkpoint_syncs : List Entry

@@ -7,8 +7,10 @@ use Rattle.cc_entry.specs.Place.{Range}
 use Rattle.cc_entry.specs.declared.place.FileState.{FileState}
 use Rattle.cc_entry.specs.declared.call.Call.{Call}
 use Rattle.cc_entry.specs.declared.call.Call.TheVariants as call
+use Rattle.cc_entry.specs.declared.query.Query.TheVariants as query
 use Rattle.cc_entry.specs.declared.reply.Reply.{Reply}
 use Rattle.cc_entry.specs.declared.reply.Reply.TheVariants as reply
+use Rattle.cc_entry.specs.declared.query.Value.TheVariants as value
 use Rattle.cc_entry.specs.declared.reply.Outcome.TheVariants as outcome
 use Rattle.cc_entry.specs.declared.error.CcError.TheVariants as error
 use Rattle.cc_entry.specs.declared.answer.Answer.{Answer}
@@ -114,24 +116,24 @@ reads = action.CopyRead a 0 1 true
 
 -- it asks for the sizes
 abbrev pub asks : Action
-asks = action.State a
+asks = action.Query (query.State a)
 
 -- it reads, and then it asks
 abbrev pub reads_and_asks : List Entry
-reads_and_asks = answers 1 2 (call.State a) (reply.State two_full) ∷ page_comes_in
+reads_and_asks = answers 1 2 (call.Query (query.State a)) (reply.Value (value.State two_full)) ∷ page_comes_in
 
 -- wrong: it asks first
 abbrev pub asks_and_reads : List Entry
 asks_and_reads =
-    answers 1 2 (call.CopyRead a 0 1 true) a_byte ∷ read_in 1 0 ∷ answers 1 1 (call.State a) (reply.State two_full) ∷ []
+    answers 1 2 (call.CopyRead a 0 1 true) a_byte ∷ read_in 1 0 ∷ answers 1 1 (call.Query (query.State a)) (reply.Value (value.State two_full)) ∷ []
 
 -- wrong: it asks once more
 abbrev pub asks_twice : List Entry
-asks_twice = answers 1 3 (call.State a) (reply.State two_full) ∷ reads_and_asks
+asks_twice = answers 1 3 (call.Query (query.State a)) (reply.Value (value.State two_full)) ∷ reads_and_asks
 
 -- the two lines with their answers
 abbrev pub two_lines : List (Action × Answer)
-two_lines = (reads, answer.Given a_byte) ∷ (asks, answer.Given (reply.State two_full)) ∷ []
+two_lines = (reads, answer.Given a_byte) ∷ (asks, answer.Given (reply.Value (value.State two_full))) ∷ []
 
 -- a line of a script: its number, its phase, its caller and what it does
 abbrev pub line_of : ℕ → ℕ → ℕ → Action → ActionLine
@@ -148,7 +150,7 @@ of_two = line_of 2 1 1 reads ∷ line_of 3 1 2 asks ∷ []
 -- the replies of the one caller's lines
 abbrev pub of_one_answered : List LineReply
 of_one_answered =
-    record { line = 2; answer = answer.Given a_byte } ∷ record { line = 3; answer = answer.Given (reply.State two_full) } ∷ []
+    record { line = 2; answer = answer.Given a_byte } ∷ record { line = 3; answer = answer.Given (reply.Value (value.State two_full)) } ∷ []
 
 -- a plan of those lines with so many ticks and steps
 abbrev pub plan_with : ℕ → ℕ → Plan

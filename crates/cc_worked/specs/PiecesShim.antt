@@ -5,7 +5,9 @@ use Rattle.std.specs.declared.option.Option.TheVariants.{Some, None}
 use Rattle.cc_entry.specs.declared.place.FileState.{FileState}
 use Rattle.cc_entry.specs.declared.call.Call.{Call}
 use Rattle.cc_entry.specs.declared.call.Call.TheVariants as call
+use Rattle.cc_entry.specs.declared.query.Query.TheVariants as query
 use Rattle.cc_entry.specs.declared.reply.Reply.TheVariants as reply
+use Rattle.cc_entry.specs.declared.query.Value.TheVariants as value
 use Rattle.cc_entry.specs.declared.answer.Answer.{Answer}
 use Rattle.cc_entry.specs.declared.answer.Answer.TheVariants as answer
 use Rattle.cc_entry.specs.declared.error.CcError.TheVariants as error
@@ -52,7 +54,7 @@ one_page_valid = record { sizes = sized 8192 4096; log = None }
 
 -- the question for that is the first call
 abbrev pub asked : List Entry
-asked = answers 1 1 (call.State a) (reply.State one_page_valid) ∷ []
+asked = answers 1 1 (call.Query (query.State a)) (reply.Value (value.State one_page_valid)) ∷ []
 
 -- a byte is written at the end of that stream: first it is extended
 abbrev pub extends : Call
@@ -122,7 +124,7 @@ goes_on = done 1 3 zeroes ∷ entry.PageIn 1 (page 1) false ∷ extension_is_ref
 
 -- the first call is refused: the object is not cached
 abbrev pub state_is_refused : List Entry
-state_is_refused = refused 1 1 (call.State a) error.NotCached ∷ []
+state_is_refused = refused 1 1 (call.Query (query.State a)) error.NotCached ∷ []
 
 -- a stream with log 0, valid up to a place
 abbrev pub logged : ℕ → List Entry
@@ -138,7 +140,7 @@ pins = call.PinRead a 258 1 true
 
 -- the pin is made, and the stream tells this of itself
 abbrev pub pinned_and_asked : FileState → List Entry
-pinned_and_asked state = answers 1 2 (call.State a) (reply.State state) ∷ answers 1 1 pins (reply.Hold 1) ∷ read_in 1 0 ∷ []
+pinned_and_asked state = answers 1 2 (call.Query (query.State a)) (reply.Value (value.State state)) ∷ answers 1 1 pins (reply.Hold 1) ∷ read_in 1 0 ∷ []
 
 -- the record: the stream, the place in 8 bytes, the length in 4, and the byte
 abbrev pub its_record : List ℕ
@@ -193,7 +195,7 @@ unlogged_state = record { sizes = sized 8192 8192; log = None }
 abbrev pub nothing_behind : List Entry
 nothing_behind =
     done 1 3 (call.EndHold 1)
-    ∷ answers 1 2 (call.State a) (reply.State (logged_state 4096))
+    ∷ answers 1 2 (call.Query (query.State a)) (reply.Value (value.State (logged_state 4096)))
     ∷ answers 1 1 (call.PinRead a 4097 1 true) (reply.Hold 1)
     ∷ entry.PageIn 1 (page 1) false
     ∷ []
@@ -236,7 +238,7 @@ maps nth id at len p bytes = holds nth id (call.Map a at len) (call.MappedRead i
 
 -- what a stream of such a size without a log tells of itself, as the first call
 abbrev pub says : ℕ → List Entry
-says size = answers 1 1 (call.State a) (reply.State (record { sizes = sized size size; log = None })) ∷ []
+says size = answers 1 1 (call.Query (query.State a)) (reply.Value (value.State (record { sizes = sized size size; log = None }))) ∷ []
 
 -- a read of two bytes from the last one on: that one is held
 abbrev pub reads_last : List Entry

@@ -2,7 +2,9 @@
 use Rattle.std.specs.Prelude.{ℕ, List, [], ◌∷◌, ◌++◌, true, false, reverse}
 use Rattle.std.specs.declared.option.Option.TheVariants.{Some, None}
 use Rattle.cc_entry.specs.declared.call.Call.TheVariants as call
+use Rattle.cc_entry.specs.declared.query.Query.TheVariants as query
 use Rattle.cc_entry.specs.declared.reply.Reply.TheVariants as reply
+use Rattle.cc_entry.specs.declared.query.Value.TheVariants as value
 use Rattle.cc_entry.specs.declared.error.CcError.TheVariants as error
 use Rattle.cc_entry.specs.declared.entry.Entry.{Entry}
 use Rattle.cc_worked.specs.Values.{a, opened, done, answers, refused, read_in}
@@ -94,7 +96,7 @@ lsns_told oldest newest =
     ∷ done 1 3 (call.SetDirty 2 (Some 5))
     ∷ done 1 4 (call.SetDirty 1 (Some 7))
     ∷ done 1 5 (call.SetDirty 1 (Some 6))
-    ∷ answers 1 6 (call.LsnForFile a) (reply.Lsns (Some (oldest, newest)))
+    ∷ answers 1 6 (call.Query (query.LsnForFile a)) (reply.Value (value.Lsns (Some (oldest, newest))))
     ∷ [])
 
 -- a pin of a page that is valid up to 5000

@@ -3,6 +3,7 @@ use Rattle.std.specs.Prelude.{ℕ, List, [], ◌∷◌, ◌++◌, true, false, r
 use Rattle.std.specs.declared.option.Option.TheVariants.{None}
 use Rattle.cc_entry.specs.declared.call.Call.TheVariants as call
 use Rattle.cc_entry.specs.declared.reply.Reply.TheVariants as reply
+use Rattle.cc_entry.specs.declared.query.Value.TheVariants as value
 use Rattle.cc_entry.specs.declared.entry.End.{End}
 use Rattle.cc_entry.specs.declared.entry.End.TheVariants as how
 use Rattle.cc_entry.specs.declared.entry.Entry.{Entry}
@@ -57,7 +58,7 @@ reopened =
     ∷ read_in 1 0
     ∷ done 1 1 (call.CopyWrite a 0 (171 ∷ []))
     ∷ written 1 0
-    ++ answers 1 2 (call.Uninitialise a None) (reply.Flag true)
+    ++ answers 1 2 (call.Uninitialise a None) (reply.Value (value.Flag true))
     ∷ done 1 3 (call.Initialise a (sized 8192 1) 16 false)
     ∷ []
 

@@ -3,6 +3,7 @@ use Rattle.std.specs.Prelude.{List, [], ◌∷◌, true, false, reverse}
 use Rattle.std.specs.declared.option.Option.TheVariants.{None}
 use Rattle.cc_entry.specs.declared.call.Call.{Call}
 use Rattle.cc_entry.specs.declared.call.Call.TheVariants as call
+use Rattle.cc_entry.specs.declared.query.Query.TheVariants as query
 use Rattle.cc_entry.specs.declared.reply.Reply.TheVariants as reply
 use Rattle.cc_entry.specs.declared.reply.Outcome.TheVariants as outcome
 use Rattle.cc_entry.specs.declared.error.CcError.{CcError}
@@ -23,7 +24,7 @@ first_reasons =
     ∷ refused 1 5 (call.PreparePin a 6000 1 true true) (error.BeyondValid 5000)
     ∷ refused 1 6 (call.SetSizes a 8 9) error.BadSizes
     ∷ refused 1 7 (call.SetLog a 4) (error.NoLog 4)
-    ∷ entry.Call 1 8 None (call.DirtyPages 4) (outcome.Failed (error.NoLog 4))
+    ∷ entry.Call 1 8 None (call.Query (query.DirtyPages 4)) (outcome.Failed (error.NoLog 4))
     ∷ [])
 
 -- wrong: a later reason is told

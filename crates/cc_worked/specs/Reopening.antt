@@ -4,7 +4,9 @@ use Rattle.std.specs.declared.option.Option.TheVariants.{Some, None}
 use Rattle.cc_entry.specs.declared.place.FileState.{FileState}
 use Rattle.cc_entry.specs.declared.place.Request.{Request}
 use Rattle.cc_entry.specs.declared.call.Call.TheVariants as call
+use Rattle.cc_entry.specs.declared.query.Query.TheVariants as query
 use Rattle.cc_entry.specs.declared.reply.Reply.TheVariants as reply
+use Rattle.cc_entry.specs.declared.query.Value.TheVariants as value
 use Rattle.cc_entry.specs.declared.error.CcError.{CcError}
 use Rattle.cc_entry.specs.declared.error.CcError.TheVariants as error
 use Rattle.cc_entry.specs.declared.entry.Entry.{Entry}
@@ -18,14 +20,14 @@ one_left =
     ∷ read_in 1 1
     ∷ done 1 1 (call.CopyWrite a 4096 (171 ∷ []))
     ∷ done 1 2 (call.Initialise second (sized 8192 8192) 16 false)
-    ∷ answers 1 3 (call.Uninitialise a (Some 0)) (reply.Flag false)
-    ∷ answers 1 4 (call.State second) (reply.State (record { sizes = sized 8192 8192; log = None }))
+    ∷ answers 1 3 (call.Uninitialise a (Some 0)) (reply.Value (value.Flag false))
+    ∷ answers 1 4 (call.Query (query.State second)) (reply.Value (value.State (record { sizes = sized 8192 8192; log = None })))
     ∷ begins 2 1
     ∷ []
 
 -- The second goes with a truncate to the first page: nothing is dirty, and the map goes at once.
 abbrev pub truncated : List Entry
-truncated = one_left ++ answers 1 5 (call.Uninitialise second (Some 4096)) (reply.Flag true) ∷ []
+truncated = one_left ++ answers 1 5 (call.Uninitialise second (Some 4096)) (reply.Value (value.Flag true)) ∷ []
 
 abbrev pub opened_under_way : List Entry
 opened_under_way = truncated ++ done 1 6 (call.Initialise a (sized 8192 4096) 16 false) ∷ []
@@ -43,7 +45,7 @@ opened_before_end =
 
 -- wrong: the map stays
 abbrev pub map_stays : List Entry
-map_stays = reverse (one_left ++ answers 1 5 (call.Uninitialise second (Some 4096)) (reply.Flag false) ∷ [])
+map_stays = reverse (one_left ++ answers 1 5 (call.Uninitialise second (Some 4096)) (reply.Value (value.Flag false)) ∷ [])
 
 -- wrong: the stream comes back with the valid bytes that were cut
 abbrev pub cut_bytes_valid : List Entry
@@ -59,7 +61,7 @@ closing =
     opened 8192 8192
     ∷ read_in 1 0
     ∷ done 1 1 (call.CopyWrite a 0 (171 ∷ []))
-    ∷ answers 1 2 (call.Uninitialise a None) (reply.Flag false)
+    ∷ answers 1 2 (call.Uninitialise a None) (reply.Value (value.Flag false))
     ∷ []
 
 -- an object that joins it has its sizes ignored, and finds its page
@@ -68,7 +70,7 @@ closing_joined =
     reverse (
     closing
     ++ done 1 3 (call.Initialise second (record { allocation = 0; size = 5; valid = 9 }) 64 true)
-    ∷ answers 1 4 (call.State second) (reply.State (record { sizes = sized 8192 8192; log = None }))
+    ∷ answers 1 4 (call.Query (query.State second)) (reply.Value (value.State (record { sizes = sized 8192 8192; log = None })))
     ∷ answers 1 5 (call.CopyRead second 0 1 false) (reply.Read (171 ∷ []))
     ∷ [])
 
@@ -96,10 +98,10 @@ abbrev pub settings_after_reopening : List Entry
 settings_after_reopening =
     reverse (
     settings_set
-    ++ answers 1 5 (call.State a) (reply.State (told_sizes 9000))
-    ∷ answers 1 6 (call.Uninitialise a None) (reply.Flag true)
+    ++ answers 1 5 (call.Query (query.State a)) (reply.Value (value.State (told_sizes 9000)))
+    ∷ answers 1 6 (call.Uninitialise a None) (reply.Value (value.Flag true))
     ∷ done 1 7 (call.Initialise a (sized 8192 8192) 16 false)
-    ∷ answers 1 8 (call.State a) (reply.State (told_sizes 8192))
+    ∷ answers 1 8 (call.Query (query.State a)) (reply.Value (value.State (told_sizes 8192)))
     ∷ answers 1 9 (call.AskAhead a 4 2) (reply.Ahead None)
     ∷ [])
 
@@ -126,7 +128,7 @@ object_went cause =
     reverse (
     opened 8192 8192
     ∷ entry.FillFailed 1 (page 0)
-    ∷ answers 2 1 (call.Uninitialise a None) (reply.Flag true)
+    ∷ answers 2 1 (call.Uninitialise a None) (reply.Value (value.Flag true))
     ∷ refused 1 1 (call.CopyRead a 0 1 true) cause
     ∷ [])
 
@@ -139,7 +141,7 @@ step_met_fault =
     reverse (
     opened 8192 8192
     ∷ entry.FillFailed 1 (page 0)
-    ∷ answers 2 1 (call.Uninitialise a None) (reply.Flag true)
+    ∷ answers 2 1 (call.Uninitialise a None) (reply.Value (value.Flag true))
     ∷ refused 1 1 (call.AheadStep first_page) (error.ReadFault 0)
     ∷ answers 1 2 (call.AheadStep first_page) (reply.Whole false)
     ∷ [])

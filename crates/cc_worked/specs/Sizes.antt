@@ -3,7 +3,9 @@ use Rattle.std.specs.Prelude.{ℕ, List, [], ◌∷◌, ◌++◌, true, false, r
 use Rattle.std.specs.declared.option.Option.TheVariants.{None}
 use Rattle.cc_entry.specs.declared.place.FileState.{FileState}
 use Rattle.cc_entry.specs.declared.call.Call.TheVariants as call
+use Rattle.cc_entry.specs.declared.query.Query.TheVariants as query
 use Rattle.cc_entry.specs.declared.reply.Reply.TheVariants as reply
+use Rattle.cc_entry.specs.declared.query.Value.TheVariants as value
 use Rattle.cc_entry.specs.declared.error.CcError.TheVariants as error
 use Rattle.cc_entry.specs.declared.entry.Entry.{Entry}
 use Rattle.cc_entry.specs.declared.entry.Entry.TheVariants as entry
@@ -59,7 +61,7 @@ abbrev pub valid_lowered : List Entry
 valid_lowered =
     reverse (
     lowered
-    ++ answers 1 3 (call.State a) (reply.State (told 5000))
+    ++ answers 1 3 (call.Query (query.State a)) (reply.Value (value.State (told 5000)))
     ∷ refused 1 4 (call.CopyWrite a 5001 (171 ∷ [])) (error.BeyondValid 5000)
     ∷ done 1 5 (call.Zero a (record { from = 5000; to = 6000 }))
     ∷ done 1 6 (call.CopyWrite a 6000 (171 ∷ []))
@@ -70,7 +72,7 @@ valid_lowered =
 
 -- wrong: the valid data length is kept
 abbrev pub valid_kept : List Entry
-valid_kept = reverse (lowered ++ answers 1 3 (call.State a) (reply.State (told 8192)) ∷ [])
+valid_kept = reverse (lowered ++ answers 1 3 (call.Query (query.State a)) (reply.Value (value.State (told 8192))) ∷ [])
 
 -- wrong: the bytes past it are kept
 abbrev pub bytes_kept : List Entry

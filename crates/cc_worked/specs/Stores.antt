@@ -2,7 +2,9 @@
 use Rattle.std.specs.Prelude.{ℕ, List, [], ◌∷◌, ◌++◌, false, reverse, replicate}
 use Rattle.std.specs.declared.option.Option.TheVariants.{Some, None}
 use Rattle.cc_entry.specs.declared.call.Call.TheVariants as call
+use Rattle.cc_entry.specs.declared.query.Query.TheVariants as query
 use Rattle.cc_entry.specs.declared.reply.Reply.TheVariants as reply
+use Rattle.cc_entry.specs.declared.query.Value.TheVariants as value
 use Rattle.cc_entry.specs.declared.error.CcError.TheVariants as error
 use Rattle.cc_entry.specs.declared.entry.Entry.{Entry}
 use Rattle.cc_entry.specs.declared.entry.Entry.TheVariants as entry
@@ -22,7 +24,7 @@ store_cut_at_size =
     reverse (
     stored
     ++ done 1 2 (call.NcWrite a 1)
-    ∷ answers 1 3 (call.State a) (reply.State (record { sizes = record { allocation = 4100; size = 4100; valid = 4100 }; log = None }))
+    ∷ answers 1 3 (call.Query (query.State a)) (reply.Value (value.State (record { sizes = record { allocation = 4100; size = 4100; valid = 4100 }; log = None })))
     ∷ answers 1 4 (call.CopyRead a 4096 9 false) (reply.Read (205 ∷ 205 ∷ 205 ∷ 205 ∷ []))
     ∷ [])
 

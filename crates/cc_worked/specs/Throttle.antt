@@ -2,7 +2,9 @@
 use Rattle.std.specs.Prelude.{List, [], ◌∷◌, ◌++◌, true, false, reverse}
 use Rattle.std.specs.declared.option.Option.TheVariants.{None}
 use Rattle.cc_entry.specs.declared.call.Call.TheVariants as call
+use Rattle.cc_entry.specs.declared.query.Query.TheVariants as query
 use Rattle.cc_entry.specs.declared.reply.Reply.TheVariants as reply
+use Rattle.cc_entry.specs.declared.query.Value.TheVariants as value
 use Rattle.cc_entry.specs.declared.entry.Entry.{Entry}
 use Rattle.cc_entry.specs.declared.entry.Entry.TheVariants as entry
 use Rattle.cc_worked.specs.Values.{a, second, opened, done, answers, read_in, written, synced}
@@ -52,7 +54,7 @@ held_back =
     ∷ done 1 2 (call.CopyWrite a 4096 (171 ∷ []))
     ∷ read_in 1 2
     ∷ done 1 3 (call.CopyWrite a 8192 (171 ∷ []))
-    ∷ answers 1 4 (call.CanWrite a 4096) (reply.Flag false)
+    ∷ answers 1 4 (call.Query (query.CanWrite a 4096)) (reply.Value (value.Flag false))
     ∷ entry.Defer 1 1 a 1 false
     ∷ []
 
@@ -67,10 +69,10 @@ let_go =
     ++ synced 1
     ∷ done 1 5 (call.Flush a None)
     ∷ entry.Posted 1
-    ∷ answers 1 6 (call.CanWrite a 4096) (reply.Flag true)
+    ∷ answers 1 6 (call.Query (query.CanWrite a 4096)) (reply.Value (value.Flag true))
     ∷ done 1 7 (call.SetThreshold a 2)
     ∷ done 1 8 (call.CopyWrite a 0 (171 ∷ []))
-    ∷ answers 1 9 (call.CanWrite a 4096) (reply.Flag false)
+    ∷ answers 1 9 (call.Query (query.CanWrite a 4096)) (reply.Value (value.Flag false))
     ∷ [])
 
 -- wrong: it is posted while it may not go

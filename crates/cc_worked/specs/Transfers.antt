@@ -3,6 +3,7 @@ use Rattle.std.specs.Prelude.{List, [], ◌∷◌, ◌++◌, true, false, revers
 use Rattle.std.specs.declared.option.Option.TheVariants.{Some, None}
 use Rattle.cc_entry.specs.declared.place.DirtyRow.{DirtyRow}
 use Rattle.cc_entry.specs.declared.call.Call.TheVariants as call
+use Rattle.cc_entry.specs.declared.query.Query.TheVariants as query
 use Rattle.cc_entry.specs.declared.reply.Reply.TheVariants as reply
 use Rattle.cc_entry.specs.declared.reply.Outcome.TheVariants as outcome
 use Rattle.cc_entry.specs.declared.entry.Entry.{Entry}
@@ -35,7 +36,7 @@ ended_badly = reverse (changed_under_way ++ fails 2 0 ∷ [])
 
 -- a third caller is told the table
 abbrev pub told : List DirtyRow → Entry
-told rows = entry.Call 3 1 None (call.DirtyPages 0) (outcome.Done (reply.Rows rows))
+told rows = entry.Call 3 1 None (call.Query (query.DirtyPages 0)) (outcome.Done (reply.Rows rows))
 
 -- wrong: the transfer is ended by a caller that did not begin it
 abbrev pub ended_by_another : List Entry

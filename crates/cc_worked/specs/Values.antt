@@ -7,8 +7,10 @@ use Rattle.cc_entry.specs.declared.place.FileSizes.{FileSizes}
 use Rattle.cc_entry.specs.declared.place.DirtyRow.{DirtyRow}
 use Rattle.cc_entry.specs.declared.call.Call.{Call}
 use Rattle.cc_entry.specs.declared.call.Call.TheVariants as call
+use Rattle.cc_entry.specs.declared.query.Query.TheVariants as query
 use Rattle.cc_entry.specs.declared.reply.Reply.{Reply}
 use Rattle.cc_entry.specs.declared.reply.Reply.TheVariants as reply
+use Rattle.cc_entry.specs.declared.query.Value.TheVariants as value
 use Rattle.cc_entry.specs.declared.reply.Outcome.TheVariants as outcome
 use Rattle.cc_entry.specs.declared.answer.Answer.{Answer}
 use Rattle.cc_entry.specs.declared.answer.Answer.TheVariants as answer
@@ -63,7 +65,7 @@ refused pass nth it e = entry.Call pass nth (Some 0) it (outcome.Failed e)
 
 -- the question whether a page is dirty, and its answer; it is of no stream
 abbrev pub dirty_is : ℕ → ℕ → Bool → Entry
-dirty_is pass nth flag = entry.Call pass nth None call.IsDirtyData (outcome.Done (reply.Flag flag))
+dirty_is pass nth flag = entry.Call pass nth None (call.Query query.IsDirtyData) (outcome.Done (reply.Value (value.Flag flag)))
 
 -- the row of the first page in a dirty page table
 abbrev pub row : ℕ → ℕ → DirtyRow

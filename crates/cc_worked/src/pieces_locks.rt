@@ -3,6 +3,7 @@
 ghost use Rattle.std.specs.Prelude.{◌≡◌, [], ◌∷◌, true, false, Some, None};
 ghost use Rattle.cc_entry.specs.declared.error.CcError.TheVariants as error;
 ghost use Rattle.cc_entry.specs.declared.reply.Reply.TheVariants as reply;
+ghost use Rattle.cc_entry.specs.declared.query.Value.TheVariants as value;
 ghost use Rattle.cc_entry.specs.declared.answer.Answer.TheVariants as answer;
 ghost use Rattle.cc_entry.specs.declared.entry.Entry.TheVariants as entry;
 ghost use Rattle.cc_pieces.specs.Locks.{tested_range};
@@ -21,16 +22,16 @@ pub fn lock_lines_leave_what_they_are_answered()
     ensures granted { Leaves (LockLine a true) (answer.LockId 1) two_pages (grants a 0 10 true 1 ∷ []) }
     ensures refused { Leaves (LockLine second false) (answer.Refused (error.LockConflict 1))
         two_pages (refuses second 0 10 false 1 ∷ []) }
-    ensures ended { Leaves (UnlockLine a) (answer.Given (reply.Flag true)) two_pages (entry.Unlocked 1 a 1 true ∷ []) }
+    ensures ended { Leaves (UnlockLine a) (answer.Given (reply.Value (value.Flag true))) two_pages (entry.Unlocked 1 a 1 true ∷ []) }
     ensures no_memory { LeavesNothing (UnlockLine a) (answer.Refused error.NoMemory) two_pages }
     ensures no_other_id { Leaves (LockLine a true) (answer.LockId 2) two_pages (grants a 0 10 true 1 ∷ []) → ⊥ }
     ensures not_shared { Leaves (LockLine a true) (answer.LockId 1) two_pages (grants a 0 10 false 1 ∷ []) → ⊥ }
     ensures no_other_bytes { Leaves (LockLine a true) (answer.LockId 1) two_pages (grants a 0 11 true 1 ∷ []) → ⊥ }
     ensures not_granted { Leaves (LockLine a true) (answer.Refused (error.LockConflict 1))
         two_pages (grants a 0 10 true 1 ∷ []) → ⊥ }
-    ensures not_kept { Leaves (UnlockLine a) (answer.Given (reply.Flag true))
+    ensures not_kept { Leaves (UnlockLine a) (answer.Given (reply.Value (value.Flag true)))
         two_pages (entry.Unlocked 1 a 1 false ∷ []) → ⊥ }
-    ensures not_of_another { Leaves (UnlockLine a) (answer.Given (reply.Flag true))
+    ensures not_of_another { Leaves (UnlockLine a) (answer.Given (reply.Value (value.Flag true)))
         two_pages (entry.Unlocked 1 second 1 true ∷ []) → ⊥ }
 {}
 

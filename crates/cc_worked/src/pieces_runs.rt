@@ -3,8 +3,10 @@
 
 ghost use Rattle.std.specs.Prelude.{◌≡◌, ◌++◌, [], ◌∷◌, Some, None, true, false};
 ghost use Rattle.cc_entry.specs.declared.call.Call.TheVariants as call;
+ghost use Rattle.cc_entry.specs.declared.query.Query.TheVariants as query;
 ghost use Rattle.cc_entry.specs.declared.error.CcError.TheVariants as error;
 ghost use Rattle.cc_entry.specs.declared.reply.Reply.TheVariants as reply;
+ghost use Rattle.cc_entry.specs.declared.query.Value.TheVariants as value;
 ghost use Rattle.cc_entry.specs.declared.answer.Answer.TheVariants as answer;
 ghost use Rattle.cc_script.specs.declared.script.Action.TheVariants as action;
 ghost use Rattle.cc_pieces.specs.Rooms.{HadNoRoom, is_alone, room_limit};
@@ -67,16 +69,16 @@ pub fn each_verb_is_served()
     ensures written { MakesOneCall (action.CopyWrite a 0 (171 ∷ [])) (call.CopyWrite a 0 (171 ∷ [])) reply.Unit }
     ensures zeroed { MakesOneCall (action.Zero a first_bytes) (call.Zero a first_bytes) reply.Unit }
     ensures sized { MakesOneCall (action.SetSizes a 8192 4096) (call.SetSizes a 8192 4096) reply.Unit }
-    ensures asked { MakesOneCall asks (call.State a) (reply.State two_full) }
+    ensures asked { MakesOneCall asks (call.Query (query.State a)) (reply.Value (value.State two_full)) }
     ensures flushed { Leaves (OneLine (action.Flush a None)) unit first_resident (flushes None) }
-    ensures asked_dirty { Leaves (OneLine action.IsDirtyData) (answer.Given (reply.Flag false))
+    ensures asked_dirty { Leaves (OneLine (action.Query query.IsDirtyData)) (answer.Given (reply.Value (value.Flag false)))
         first_resident (dirty_is 1 1 false ∷ []) }
     ensures log_set { MakesOneCall (action.SetLog a 3) (call.SetLog a 3) reply.Unit }
     ensures appended { Leaves (OneLine (action.Append 0 (1 ∷ []))) (answer.NewLsn 4) flushed_to_three appended }
     ensures log_flushed { Leaves (OneLine (action.LogFlush 0 4)) unit flushed_to_three flushed_to_four }
     ensures opened_again { MakesOneCall (action.Initialise second (sized 8192 8192) 16 false)
         (call.Initialise second (sized 8192 8192) 16 false) reply.Unit }
-    ensures closed { MakesOneCall (action.Uninitialise a (Some 0)) (call.Uninitialise a (Some 0)) (reply.Flag false) }
+    ensures closed { MakesOneCall (action.Uninitialise a (Some 0)) (call.Uninitialise a (Some 0)) (reply.Value (value.Flag false)) }
     ensures purged { MakesOneCall (action.Purge a None) (call.Purge a None) reply.Unit }
     ensures no_page_read { LeavesNothing (OneLine (action.NcRead a 0 0)) (gives []) two_pages }
     ensures page_read_refused { Leaves (OneLine (action.NcRead a 1 4096)) (answer.NcRefused 0 error.Unaligned)
@@ -92,9 +94,9 @@ pub fn each_verb_is_served()
         flushed_to_three flushed_to_four → ⊥ }
     ensures no_other_span { Leaves (OneLine (action.Flush a None)) unit
         first_resident (flushes (Some first_bytes)) → ⊥ }
-    ensures no_other_file { MakesOneCall asks (call.State second) (reply.State two_full) → ⊥ }
+    ensures no_other_file { MakesOneCall asks (call.Query (query.State second)) (reply.Value (value.State two_full)) → ⊥ }
     ensures no_other_truncate { MakesOneCall (action.Uninitialise a None)
-        (call.Uninitialise a (Some 0)) (reply.Flag false) → ⊥ }
+        (call.Uninitialise a (Some 0)) (reply.Value (value.Flag false)) → ⊥ }
     ensures purge_is_no_flush { Leaves (OneLine (action.Purge a None)) unit first_resident (flushes None) → ⊥ }
     ensures told_with_its_pages { Leaves (OneLine (action.NcRead a 1 4096)) (answer.Refused error.Unaligned)
         two_pages misaligned → ⊥ }

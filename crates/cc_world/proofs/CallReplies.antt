@@ -8,6 +8,7 @@ use Rattle.cc_entry.specs.Pages.{pages_of}
 use Rattle.cc_entry.specs.Place.{File, Range}
 use Rattle.cc_entry.specs.declared.call.Call.{Call}
 use Rattle.cc_entry.specs.declared.call.Call.TheVariants as call
+use Rattle.cc_entry.specs.declared.query.Query.TheVariants as query
 use Rattle.cc_entry.specs.declared.entry.Entry.{Entry}
 use Rattle.cc_entry.specs.declared.reply.Reply.{Reply}
 use Rattle.cc_book.specs.Book.{BookState}
@@ -95,8 +96,8 @@ module _ {Q : Type 0} (u : Setup) (pass : ℕ) (it : Call) (b : BookState) (j : 
 pub stepped-else : (it : Call) → ends_on_book it ≡ true → ((file : File) (page : ℕ) → it ≡ call.NcWrite file page → ⊥) → ((file : File) (span : Option Range) → it ≡ call.Flush file span → ⊥) → ((file : File) (span : Option Range) → it ≡ call.Purge file span → ⊥) → ((file : File) (span : Option Range) → it ≡ call.Discard file span → ⊥) → is_stepped it ≡ true
 stepped-else (call.NcRead file page) on_book a b c d = absurd (cc)
 stepped-else (call.NcStore file page bytes) on_book a b c d = absurd (cc)
-stepped-else (call.DirtyPages handle) on_book a b c d = absurd (cc)
-stepped-else call.IsDirtyData on_book a b c d = absurd (cc)
+stepped-else (call.Query (query.DirtyPages handle)) on_book a b c d = absurd (cc)
+stepped-else (call.Query query.IsDirtyData) on_book a b c d = absurd (cc)
 stepped-else (call.NcWrite file page) on_book a b c d = absurd (a file page refl)
 stepped-else (call.Flush file span) on_book a b c d = absurd (b file span refl)
 stepped-else (call.Purge file span) on_book a b c d = absurd (c file span refl)

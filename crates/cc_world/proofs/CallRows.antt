@@ -5,6 +5,7 @@ use Rattle.std.proofs.Common.{ap, sym, ◌∙◌, subst, arith}
 use Rattle.cc_entry.specs.Place.{File}
 use Rattle.cc_entry.specs.declared.call.Call.{Call}
 use Rattle.cc_entry.specs.declared.call.Call.TheVariants as call
+use Rattle.cc_entry.specs.declared.query.Query.TheVariants as query
 use Rattle.cc_entry.specs.declared.entry.Entry.{Entry}
 use Rattle.cc_entry.specs.declared.entry.Entry.TheVariants as entry
 use Rattle.cc_entry.specs.declared.error.CcError.TheVariants as error
@@ -57,8 +58,8 @@ at-rest told faults first past s disk (Some kept) false is carrying = λ none. a
 pub on-book : (past : List Entry) (s : ℕ) (it : Call) → filed_under past it ≡ Some s → ((file : File) (page : ℕ) → it ≡ call.NcRead file page → ⊥) → ((file : File) (page : ℕ) (bytes : List ℕ) → it ≡ call.NcStore file page bytes → ⊥) → ends_on_book it ≡ true
 on-book past s (call.NcRead file page) here a b = absurd (a file page refl)
 on-book past s (call.NcStore file page bytes) here a b = absurd (b file page bytes refl)
-on-book past s (call.DirtyPages handle) here a b = absurd (cc)
-on-book past s call.IsDirtyData here a b = absurd (cc)
+on-book past s (call.Query (query.DirtyPages handle)) here a b = absurd (cc)
+on-book past s (call.Query query.IsDirtyData) here a b = absurd (cc)
 on-book past s other here a b = refl
 
 pub alone-on-book : (it : Call) → ends_on_book it ≡ true → places_one it ≡ true

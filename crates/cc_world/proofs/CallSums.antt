@@ -7,6 +7,7 @@ use Rattle.std.proofs.Common.{ap, sym, ◌∙◌, subst, arith}
 use Rattle.cc_entry.specs.Place.{File, Page}
 use Rattle.cc_entry.specs.declared.call.Call.{Call}
 use Rattle.cc_entry.specs.declared.call.Call.TheVariants as call
+use Rattle.cc_entry.specs.declared.query.Query.TheVariants as query
 use Rattle.cc_entry.specs.declared.entry.Entry.{Entry}
 use Rattle.cc_entry.specs.declared.entry.Entry.TheVariants as entry
 use Rattle.cc_entry.specs.declared.error.CcError.{CcError}
@@ -109,8 +110,8 @@ module _ (u : Setup) (past : List Entry) (pass s : ℕ) (r : Reply) (below : s <
   pub sum-on : (it : Call) → places_one it ≡ true → IsFiledOn past pass s it → MayEnd u past pass (Some s) it (outcome.Done r) → reserved_in past + asked_on (holds_of (history past s)) it ≡ reserved_in (after past pass s it r) + (1 + spared_on past pass s it)
   sum-on (call.NcStore file page bytes) alone filed may = absurd (cc)
   sum-on (call.NcRead file page) alone filed may = kept-sum (call.NcRead file page) refl refl
-  sum-on (call.DirtyPages handle) alone filed may = kept-sum (call.DirtyPages handle) refl refl
-  sum-on call.IsDirtyData alone filed may = kept-sum call.IsDirtyData refl refl
+  sum-on (call.Query (query.DirtyPages handle)) alone filed may = kept-sum (call.Query (query.DirtyPages handle)) refl refl
+  sum-on (call.Query query.IsDirtyData) alone filed may = kept-sum (call.Query query.IsDirtyData) refl refl
   sum-on (call.NcWrite file page) alone filed may =
       of-end _ _ _ (reserved-kept past pass nth s (call.NcWrite file page) r refl refl) (owes-one (record { stream = s; page = page }) past pass may.1.stored)
   sum-on (call.Flush file span) alone filed may = kept-sum (call.Flush file span) refl refl

@@ -7,6 +7,7 @@ use Rattle.cc_entry.specs.Kinds.{is_map, is_pin, is_read_chain, is_write_chain}
 use Rattle.cc_entry.specs.Place.{File}
 use Rattle.cc_entry.specs.declared.call.Call.{Call}
 use Rattle.cc_entry.specs.declared.call.Call.TheVariants as call
+use Rattle.cc_entry.specs.declared.query.Query.TheVariants as query
 use Rattle.cc_entry.specs.declared.entry.Entry.{Entry}
 use Rattle.cc_entry.specs.declared.hold.HoldKind.{HoldKind}
 use Rattle.cc_model.specs.Acts.{file_of}
@@ -25,7 +26,7 @@ use Rattle.cc_world.specs.declared.rows.StreamRow.{StreamRow}
 use Rattle.cc_world.proofs.JournalSteps.{are-books}
 
 -- a call that names a file is filed under its stream
-filed-file : (past : List Entry) (it : Call) (file : File) → file_of it ≡ Some file → filed_under past it ≡ Some file.stream
+pub filed-file : (past : List Entry) (it : Call) (file : File) → file_of it ≡ Some file → filed_under past it ≡ Some file.stream
 filed-file past (call.PinMapped hold exclusive) file is = absurd (cc)
 filed-file past (call.MappedRead hold at len) file is = absurd (cc)
 filed-file past (call.PinnedRead hold at len) file is = absurd (cc)
@@ -35,8 +36,8 @@ filed-file past (call.EndHold hold) file is = absurd (cc)
 filed-file past (call.Repin hold) file is = absurd (cc)
 filed-file past (call.MdlBytes hold at len) file is = absurd (cc)
 filed-file past (call.MdlStore hold at bytes) file is = absurd (cc)
-filed-file past (call.DirtyPages handle) file is = absurd (cc)
-filed-file past call.IsDirtyData file is = absurd (cc)
+filed-file past (call.Query (query.DirtyPages handle)) file is = absurd (cc)
+filed-file past (call.Query query.IsDirtyData) file is = absurd (cc)
 filed-file past other file is = stream-of _ file is
   where
     stream-of : (a b : File) → Some a ≡ Some b → Some a.stream ≡ Some b.stream
@@ -94,8 +95,8 @@ unfiled pass (call.EndHold hold) plain filed = serves-none pass _ hold filed
 unfiled pass (call.Repin hold) plain filed = serves-none pass is_pin hold filed
 unfiled pass (call.MdlBytes hold at len) plain filed = serves-no-range pass is_read_chain at len hold filed
 unfiled pass (call.MdlStore hold at bytes) plain filed = serves-no-range pass is_write_chain at _ hold filed
-unfiled pass (call.DirtyPages handle) plain filed = absurd (cc)
-unfiled pass call.IsDirtyData plain filed = absurd (cc)
+unfiled pass (call.Query (query.DirtyPages handle)) plain filed = absurd (cc)
+unfiled pass (call.Query query.IsDirtyData) plain filed = absurd (cc)
 unfiled pass other plain filed = none-some _ filed
   where
     none-some : (n : ℕ) → None ≡ Some n → ⊥

@@ -6,6 +6,7 @@ use Rattle.std.specs.Option.{option_map}
 use Rattle.std.proofs.Common.{ap, sym, ◌∙◌, subst}
 use Rattle.cc_entry.specs.declared.call.Call.{Call}
 use Rattle.cc_entry.specs.declared.call.Call.TheVariants as call
+use Rattle.cc_entry.specs.declared.query.Query.TheVariants as query
 use Rattle.cc_entry.specs.declared.entry.Entry.{Entry}
 use Rattle.cc_entry.specs.declared.hold.HoldKind.{HoldKind}
 use Rattle.cc_entry.specs.declared.hold.HoldKind.TheVariants as kind
@@ -56,8 +57,8 @@ module _ (past : List Entry) (pass s : ℕ) where
   says-filed (call.Repin hold) here = tells-so _ _ (whole pass hold (Some kind.Pin) (its hold))
   says-filed (call.MdlBytes hold at len) here = tells-so _ _ (part pass hold at len (Some kind.ReadChain) (its hold))
   says-filed (call.MdlStore hold at bytes) here = tells-so _ _ (part pass hold at (length bytes) (Some kind.WriteChain) (its hold))
-  says-filed (call.DirtyPages handle) here = absurd (cc)
-  says-filed call.IsDirtyData here = absurd (cc)
+  says-filed (call.Query (query.DirtyPages handle)) here = absurd (cc)
+  says-filed (call.Query query.IsDirtyData) here = absurd (cc)
   says-filed other here = sym here
 
   -- whether the hold that a call names serves it says so

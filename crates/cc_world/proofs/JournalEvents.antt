@@ -8,6 +8,7 @@ use Rattle.std.proofs.Common.{ap, sym, ◌∙◌, subst, arith}
 use Rattle.cc_entry.specs.Place.{File}
 use Rattle.cc_entry.specs.declared.call.Call.{Call}
 use Rattle.cc_entry.specs.declared.call.Call.TheVariants as call
+use Rattle.cc_entry.specs.declared.query.Query.TheVariants as query
 use Rattle.cc_entry.specs.declared.entry.Entry.{Entry}
 use Rattle.cc_entry.specs.declared.entry.Entry.TheVariants as entry
 use Rattle.cc_entry.specs.declared.error.CcError.TheVariants as error
@@ -83,11 +84,11 @@ done-left posted u pass it placed told j k unfiled may none same one room went =
     plain (call.NcStore file page bytes) is = absurd (cc)
     plain other is = ap (λ (r : Reply). call_entry j.entries pass other (outcome.Done r) ∷ []) same
 
-pub no-log-left : {Q : Type 0} (posted : Q → Bool) (u : Setup) (pass handle missing : ℕ) (j k : JournalState Q) → reason_of u j.entries (call.DirtyPages handle) ≡ Some (error.NoLog missing) → 1 ≤ room_of j → JournalWent posted u (call_entry j.entries pass (call.DirtyPages handle) (outcome.Failed (error.NoLog missing)) ∷ []) j k → JournalEnded posted u (event.Do pass (call.DirtyPages handle)) (step.Refused (error.NoLog missing)) j k
+pub no-log-left : {Q : Type 0} (posted : Q → Bool) (u : Setup) (pass handle missing : ℕ) (j k : JournalState Q) → reason_of u j.entries (call.Query (query.DirtyPages handle)) ≡ Some (error.NoLog missing) → 1 ≤ room_of j → JournalWent posted u (call_entry j.entries pass (call.Query (query.DirtyPages handle)) (outcome.Failed (error.NoLog missing)) ∷ []) j k → JournalEnded posted u (event.Do pass (call.Query (query.DirtyPages handle))) (step.Refused (error.NoLog missing)) j k
 no-log-left posted u pass handle missing j k refused room went = (
   may-ask-table u j.entries pass handle,
   subst (λ (n : ℕ). n ≤ room_of j) (sym (asked-table j.entries pass handle _)) room,
-  (call_entry j.entries pass (call.DirtyPages handle) (outcome.Failed (error.NoLog missing)) ∷ [], (refused, refl), went),
+  (call_entry j.entries pass (call.Query (query.DirtyPages handle)) (outcome.Failed (error.NoLog missing)) ∷ [], (refused, refl), went),
 )
 
 -- What a call leaves that told the oldest fault.

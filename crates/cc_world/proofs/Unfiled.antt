@@ -4,9 +4,11 @@ use Rattle.std.specs.Bool.{OnTrue}
 use Rattle.std.specs.declared.option.Option.{Option}
 use Rattle.std.specs.declared.option.Option.TheVariants.{Some, None}
 use Rattle.std.proofs.Common.{ap, sym, ◌∙◌, subst, arith}
+use Rattle.std.proofs.lemmas.Option.{same_Some}
 use Rattle.std.proofs.lemmas.Bool.{le-leb, lt-leb}
 use Rattle.cc_entry.specs.declared.call.Call.{Call}
 use Rattle.cc_entry.specs.declared.call.Call.TheVariants as call
+use Rattle.cc_entry.specs.declared.query.Query.TheVariants as query
 use Rattle.cc_entry.specs.declared.entry.Entry.{Entry}
 use Rattle.cc_entry.specs.declared.entry.Entry.TheVariants as entry
 use Rattle.cc_entry.specs.declared.error.CcError.{CcError}
@@ -15,6 +17,7 @@ use Rattle.cc_entry.specs.declared.place.DirtyRow.{DirtyRow}
 use Rattle.cc_entry.specs.declared.reply.Outcome.{Outcome}
 use Rattle.cc_entry.specs.declared.reply.Outcome.TheVariants as outcome
 use Rattle.cc_entry.specs.declared.reply.Reply.TheVariants as reply
+use Rattle.cc_entry.specs.declared.query.Value.TheVariants as value
 use Rattle.cc_journal.specs.Calls.{owed_end}
 use Rattle.cc_laws.proofs.HistorySteps.{history-no_effect}
 use Rattle.cc_model.specs.Acts.{file_of}
@@ -36,36 +39,42 @@ use Rattle.cc_model.specs.Setup.{Setup}
 use Rattle.cc_model.specs.Stamps.{dirty_table}
 use Rattle.cc_model.specs.Touches.{size_of}
 use Rattle.cc_step.proofs.Reserved.{stores-call, sum-same}
-use Rattle.cc_world.specs.Filing.{is_unfiled}
+use Rattle.cc_world.specs.Filing.{is_unfiled, log_named}
 use Rattle.cc_effects.specs.Events.{MayDo, MayStandIf, asked_for, asked_to_fail, call_entry, error_of, fault_told, filed_under}
 use Rattle.cc_world.proofs.FaultTold.{failure}
 use Rattle.cc_world.proofs.Placing.{nothing-owed}
 
 -- such a call is filed under no stream, has no range, and is no store
 pub unfiled-under : (past : List Entry) (it : Call) → is_unfiled it ≡ true → filed_under past it ≡ None
-unfiled-under past (call.DirtyPages handle) unfiled = refl
-unfiled-under past call.IsDirtyData unfiled = refl
+unfiled-under past (call.Query (query.DirtyPages handle)) unfiled = refl
+unfiled-under past (call.Query query.IsDirtyData) unfiled = refl
 unfiled-under past other unfiled = absurd (cc)
 
 filed : (holds : List Hold) (pass : ℕ) (it : Call) → is_unfiled it ≡ true → IsFiled holds pass None it (file_of it)
-filed holds pass (call.DirtyPages handle) unfiled = refl
-filed holds pass call.IsDirtyData unfiled = refl
+filed holds pass (call.Query (query.DirtyPages handle)) unfiled = refl
+filed holds pass (call.Query query.IsDirtyData) unfiled = refl
 filed holds pass other unfiled = absurd (cc)
 
 no-range : (size : ℕ) (it : Call) → is_unfiled it ≡ true → range_of size it ≡ None
-no-range size (call.DirtyPages handle) unfiled = refl
-no-range size call.IsDirtyData unfiled = refl
+no-range size (call.Query (query.DirtyPages handle)) unfiled = refl
+no-range size (call.Query query.IsDirtyData) unfiled = refl
 no-range size other unfiled = absurd (cc)
 
 no-store : (it : Call) (ended : Outcome) → is_unfiled it ≡ true → is_store it ended ≡ false
 no-store (call.NcStore file page bytes) ended unfiled = absurd (cc)
 no-store other ended unfiled = refl
 
--- the one that asks for no table asks whether a page is dirty
-pub asks-dirty : (it : Call) → is_unfiled it ≡ true → ((handle : ℕ) → it ≡ call.DirtyPages handle → ⊥) → it ≡ call.IsDirtyData
-asks-dirty (call.DirtyPages handle) unfiled other = absurd (other handle refl)
-asks-dirty call.IsDirtyData unfiled other = refl
-asks-dirty it unfiled other = absurd (cc)
+-- the one that names no log asks whether a page is dirty
+pub asks-dirty : (it : Call) → is_unfiled it ≡ true → log_named it ≡ None → it ≡ (call.Query query.IsDirtyData)
+asks-dirty (call.Query (query.DirtyPages handle)) unfiled none = absurd (cc)
+asks-dirty (call.Query query.IsDirtyData) unfiled none = refl
+asks-dirty it unfiled none = absurd (cc)
+
+-- and one that names a log asks for its table
+pub asks-rows : (it : Call) (handle : ℕ) → log_named it ≡ Some handle → it ≡ call.Query (query.DirtyPages handle)
+asks-rows (call.Query (query.DirtyPages named)) handle names = ap (λ (n : ℕ). call.Query (query.DirtyPages n)) (same_Some _ _ names)
+asks-rows (call.Query other) handle names = absurd (cc)
+asks-rows it handle names = absurd (cc)
 
 on-needed : (b : Bool) (P : Type 0) → P → OnTrue b P
 on-needed true P p = p
@@ -106,64 +115,64 @@ reserved-unfiled past pass it ended unfiled =
     with-stores n m now was owed same stores = omega (arith, same, stores)
 
 -- The dirty page table is refused where there is no such log, and for nothing else.
-pub log-there : (u : Setup) (past : List Entry) (handle : ℕ) → nat_le u.logs handle ≡ false → refusal u past [] (call.DirtyPages handle) ≡ None
+pub log-there : (u : Setup) (past : List Entry) (handle : ℕ) → nat_le u.logs handle ≡ false → refusal u past [] (call.Query (query.DirtyPages handle)) ≡ None
 unfolding refusal
 log-there u past handle there = rw there refl
 
-pub log-missing : (u : Setup) (past : List Entry) (handle : ℕ) → nat_le u.logs handle ≡ true → refusal u past [] (call.DirtyPages handle) ≡ Some (error.NoLog handle)
+pub log-missing : (u : Setup) (past : List Entry) (handle : ℕ) → nat_le u.logs handle ≡ true → refusal u past [] (call.Query (query.DirtyPages handle)) ≡ Some (error.NoLog handle)
 unfolding refusal
 log-missing u past handle missing = rw missing refl
 
-pub log-asked : (u : Setup) (past : List Entry) (handle logs : ℕ) → u.logs ≡ logs → nat_le logs handle ≡ is_some (refusal u past [] (call.DirtyPages handle))
+pub log-asked : (u : Setup) (past : List Entry) (handle logs : ℕ) → u.logs ≡ logs → nat_le logs handle ≡ is_some (refusal u past [] (call.Query (query.DirtyPages handle)))
 log-asked u past handle logs same = ap (λ (n : ℕ). nat_le n handle) (sym same) ∙ by (nat_le u.logs handle) refl
   where
-    by : (b : Bool) → nat_le u.logs handle ≡ b → nat_le u.logs handle ≡ is_some (refusal u past [] (call.DirtyPages handle))
+    by : (b : Bool) → nat_le u.logs handle ≡ b → nat_le u.logs handle ≡ is_some (refusal u past [] (call.Query (query.DirtyPages handle)))
     by true missing = missing ∙ sym (ap is_some (log-missing u past handle missing))
     by false there = there ∙ sym (ap is_some (log-there u past handle there))
 
 -- nothing refuses the question whether a page is dirty
-pub dirty-unrefused : (u : Setup) (past : List Entry) → refusal u past [] call.IsDirtyData ≡ None
+pub dirty-unrefused : (u : Setup) (past : List Entry) → refusal u past [] (call.Query query.IsDirtyData) ≡ None
 unfolding refusal
 dirty-unrefused u past = refl
 
 -- Both may be made at any time, and ask one place.
-pub may-ask-table : (u : Setup) (past : List Entry) (pass handle : ℕ) → MayDo u past pass (call.DirtyPages handle)
+pub may-ask-table : (u : Setup) (past : List Entry) (pass handle : ℕ) → MayDo u past pass (call.Query (query.DirtyPages handle))
 may-ask-table u past pass handle = by (nat_le u.logs handle) refl
   where
-    by : (b : Bool) → nat_le u.logs handle ≡ b → MayDo u past pass (call.DirtyPages handle)
+    by : (b : Bool) → nat_le u.logs handle ≡ b → MayDo u past pass (call.Query (query.DirtyPages handle))
     by true missing = record { filed = refl; can_end = rw (log-missing u past handle missing) tt }
     by false there = record { filed = refl; can_end = rw (log-there u past handle there) (reply.Rows (dirty_table past handle), refl, (tt, tt)) }
 
-pub may-ask-dirty : (u : Setup) (past : List Entry) (pass : ℕ) → MayDo u past pass call.IsDirtyData
-may-ask-dirty u past pass = record { filed = refl; can_end = rw (dirty-unrefused u past) (reply.Flag (is_any_dirty past), refl, (tt, tt)) }
+pub may-ask-dirty : (u : Setup) (past : List Entry) (pass : ℕ) → MayDo u past pass (call.Query query.IsDirtyData)
+may-ask-dirty u past pass = record { filed = refl; can_end = rw (dirty-unrefused u past) (reply.Value (value.Flag (is_any_dirty past)), refl, (tt, tt)) }
 
 -- How both end.
-pub table-outcome : (u : Setup) (past : List Entry) (pass handle : ℕ) (rows : List DirtyRow) → handle < u.logs → rows ≡ dirty_table past handle → IsOutcome u past pass None (call.DirtyPages handle) (outcome.Done (reply.Rows rows))
+pub table-outcome : (u : Setup) (past : List Entry) (pass handle : ℕ) (rows : List DirtyRow) → handle < u.logs → rows ≡ dirty_table past handle → IsOutcome u past pass None (call.Query (query.DirtyPages handle)) (outcome.Done (reply.Rows rows))
 table-outcome u past pass handle rows known is = (log-there u past handle (lt-leb u.logs handle known), ap reply.Rows is)
 
-pub no-log-outcome : (u : Setup) (past : List Entry) (pass handle missing : ℕ) → missing ≡ handle → u.logs ≤ handle → IsOutcome u past pass None (call.DirtyPages handle) (outcome.Failed (error.NoLog missing))
+pub no-log-outcome : (u : Setup) (past : List Entry) (pass handle missing : ℕ) → missing ≡ handle → u.logs ≤ handle → IsOutcome u past pass None (call.Query (query.DirtyPages handle)) (outcome.Failed (error.NoLog missing))
 no-log-outcome u past pass handle missing is most =
     log-missing u past handle (le-leb u.logs handle most) ∙ ap (λ (n : ℕ). Some (error.NoLog n)) (sym is)
 
-pub dirty-outcome : (u : Setup) (past : List Entry) (pass : ℕ) (flag : Bool) → flag ≡ is_any_dirty past → IsOutcome u past pass None call.IsDirtyData (outcome.Done (reply.Flag flag))
-dirty-outcome u past pass flag is = (dirty-unrefused u past, ap reply.Flag is)
+pub dirty-outcome : (u : Setup) (past : List Entry) (pass : ℕ) (flag : Bool) → flag ≡ is_any_dirty past → IsOutcome u past pass None (call.Query query.IsDirtyData) (outcome.Done (reply.Value (value.Flag flag)))
+dirty-outcome u past pass flag is = (dirty-unrefused u past, ap (λ (flag : Bool). reply.Value (value.Flag flag)) is)
 
-pub asked-table : (past : List Entry) (pass handle : ℕ) (o : Option CcError) → asked_for past pass (call.DirtyPages handle) o ≡ 1
+pub asked-table : (past : List Entry) (pass handle : ℕ) (o : Option CcError) → asked_for past pass (call.Query (query.DirtyPages handle)) o ≡ 1
 asked-table past pass handle None = refl
 asked-table past pass handle (Some e) = refl
 
-pub asked-dirty : (past : List Entry) (pass : ℕ) (o : Option CcError) → asked_for past pass call.IsDirtyData o ≡ 1
+pub asked-dirty : (past : List Entry) (pass : ℕ) (o : Option CcError) → asked_for past pass (call.Query query.IsDirtyData) o ≡ 1
 asked-dirty past pass None = refl
 asked-dirty past pass (Some e) = refl
 
 pub may-ask : (u : Setup) (past : List Entry) (pass : ℕ) (it : Call) → is_unfiled it ≡ true → MayDo u past pass it
-may-ask u past pass (call.DirtyPages handle) unfiled = may-ask-table u past pass handle
-may-ask u past pass call.IsDirtyData unfiled = may-ask-dirty u past pass
+may-ask u past pass (call.Query (query.DirtyPages handle)) unfiled = may-ask-table u past pass handle
+may-ask u past pass (call.Query query.IsDirtyData) unfiled = may-ask-dirty u past pass
 may-ask u past pass other unfiled = absurd (cc)
 
 pub asked-ask : (past : List Entry) (pass : ℕ) (it : Call) (o : Option CcError) → is_unfiled it ≡ true → asked_for past pass it o ≡ 1
-asked-ask past pass (call.DirtyPages handle) o unfiled = asked-table past pass handle o
-asked-ask past pass call.IsDirtyData o unfiled = asked-dirty past pass o
+asked-ask past pass (call.Query (query.DirtyPages handle)) o unfiled = asked-table past pass handle o
+asked-ask past pass (call.Query query.IsDirtyData) o unfiled = asked-dirty past pass o
 asked-ask past pass other o unfiled = absurd (cc)
 
 pub asked-fail : (past : List Entry) (pass : ℕ) (it : Call) → is_unfiled it ≡ true → asked_to_fail past pass it ≡ 1

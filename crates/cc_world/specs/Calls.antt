@@ -2,6 +2,7 @@
 use Rattle.std.specs.Prelude.{◌≡◌, ℕ, ◌+◌, ◌<◌, ◌≤◌, Bool, true, false, List, [], ◌∷◌, ◌++◌, length, Result, Ok, Err}
 use Rattle.std.specs.declared.option.Option.{Option}
 use Rattle.std.specs.declared.option.Option.TheVariants.{Some, None}
+use Rattle.cc_entry.specs.Queries.{is_of_stream}
 use Rattle.cc_entry.specs.declared.call.Call.{Call}
 use Rattle.cc_entry.specs.declared.call.Call.TheVariants as call
 use Rattle.cc_entry.specs.declared.entry.Entry.{Entry}
@@ -31,8 +32,7 @@ use Rattle.cc_effects.specs.declared.events.StepReply.TheVariants as step
 abbrev pub ends_on_book : Call → Bool
 ends_on_book (call.NcRead file page) = false
 ends_on_book (call.NcStore file page bytes) = false
-ends_on_book (call.DirtyPages handle) = false
-ends_on_book call.IsDirtyData = false
+ends_on_book (call.Query query) = is_of_stream query
 ends_on_book other = true
 
 -- A book and a journal stand under a setup. So many places are reserved in the journal beyond what its entries owe.

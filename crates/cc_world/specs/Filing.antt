@@ -1,7 +1,8 @@
 -- What tells under which stream a call is filed.
-use Rattle.std.specs.Prelude.{◌≡◌, ℕ, ◌<◌, ◌≤◌, Bool, true, false, List, [], length, slice_get}
+use Rattle.std.specs.Prelude.{◌≡◌, ℕ, ◌<◌, ◌≤◌, Bool, true, false, not, List, [], length, slice_get}
 use Rattle.std.specs.declared.option.Option.{Option}
 use Rattle.std.specs.declared.option.Option.TheVariants.{Some, None}
+use Rattle.cc_entry.specs.Queries.{is_of_stream, log_of_query}
 use Rattle.cc_entry.specs.declared.call.Call.{Call}
 use Rattle.cc_entry.specs.declared.call.Call.TheVariants as call
 use Rattle.cc_entry.specs.declared.entry.Entry.{Entry}
@@ -13,11 +14,15 @@ use Rattle.cc_world.specs.declared.filing.Filing.{Filing}
 use Rattle.cc_world.specs.declared.filing.Filing.TheVariants as filing
 use Rattle.cc_world.specs.declared.rows.StreamRow.{StreamRow}
 
--- a call is filed under no stream: it asks for the dirty page table of a log, or whether any page is dirty
+-- a call is filed under no stream: it is a query that names no file
 abbrev pub is_unfiled : Call → Bool
-is_unfiled (call.DirtyPages handle) = true
-is_unfiled call.IsDirtyData = true
+is_unfiled (call.Query query) = not (is_of_stream query)
 is_unfiled other = false
+
+-- the log that a call names
+abbrev pub log_named : Call → Option ℕ
+log_named (call.Query query) = log_of_query query
+log_named other = None
 
 -- There is a row for each stream to which something happened, at most 16, in their order, and its book stands.
 pub record AreBooks {D : Type 0} (past : List Entry) (rows : List (StreamRow D)) : Type 0 where

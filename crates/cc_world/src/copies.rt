@@ -13,10 +13,8 @@ pub(crate) fn copy_of(alloc: Global, reply: &Reply) -> Result<Reply, NoMemory>
         Reply::Unit => Ok(Reply::Unit),
         Reply::Read(bytes) => Ok(Reply::Read(Bytes::of(alloc, &bytes.to_vec(alloc)?)?)),
         Reply::Hold(id) => Ok(Reply::Hold(*id)),
-        Reply::Flag(flag) => Ok(Reply::Flag(*flag)),
+        Reply::Value(value) => Ok(Reply::Value(*value)),
         Reply::Rows(rows) => Ok(Reply::Rows(Rows::from_vec(rows.as_slice().to_vec(alloc)?))),
-        Reply::Lsns(lsns) => Ok(Reply::Lsns(*lsns)),
-        Reply::State(state) => Ok(Reply::State(*state)),
         Reply::Ahead(request) => Ok(Reply::Ahead(*request)),
         Reply::Whole(whole) => Ok(Reply::Whole(*whole)),
     }

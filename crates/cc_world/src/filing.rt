@@ -14,7 +14,7 @@ use cc_entry::{Call, FileId, StreamId};
 pub(crate) enum Filing {
     /// Under this stream.
     Stream(StreamId),
-    /// Under none: it is a question for the journal.
+    /// Under none: it is a query that the journal answers.
     Journal,
     /// It names a hold that is open in no stream.
     NoHold,
@@ -56,7 +56,10 @@ fn named_by(call: &Call) -> Named
         | Call::Repin { hold }
         | Call::MdlBytes { hold, .. }
         | Call::MdlStore { hold, .. } => Named::Hold(*hold),
-        Call::DirtyPages { .. } | Call::IsDirtyData => Named::Nothing,
+        Call::Query(query) => match query.file() {
+            Some(file) => Named::File(file),
+            None => Named::Nothing,
+        },
         Call::AheadStep { request } => Named::File(request.file),
         Call::Initialise { file, .. }
         | Call::Uninitialise { file, .. }
@@ -72,17 +75,14 @@ fn named_by(call: &Call) -> Named
         | Call::NcStore { file, .. }
         | Call::NcWrite { file, .. }
         | Call::SetSizes { file, .. }
-        | Call::State { file }
         | Call::Flush { file, .. }
         | Call::Purge { file, .. }
         | Call::Discard { file, .. }
         | Call::SetLog { file, .. }
-        | Call::LsnForFile { file }
         | Call::SetGranularity { file, .. }
         | Call::SetAttributes { file, .. }
         | Call::SetThreshold { file, .. }
-        | Call::AskAhead { file, .. }
-        | Call::CanWrite { file, .. } => Named::File(*file),
+        | Call::AskAhead { file, .. } => Named::File(*file),
     }
 }
 

@@ -3,13 +3,14 @@
 ghost use Rattle.std.specs.Prelude.{◌≡◌, ◌<◌, ◌^◌, ℕ, ◌+◌, true, false, is_some, List, Option, Some, [], ◌∷◌, IfOk, IfErr, OnOk, OnErr};
 ghost use Rattle.cc_book.specs.Book.{BookStands};
 ghost use Rattle.cc_entry.specs.declared.call.Call.TheVariants as call;
+ghost use Rattle.cc_entry.specs.declared.query.Query.TheVariants as query;
 ghost use Rattle.cc_model.specs.Faults.{faults_since, oldest};
 ghost use Rattle.cc_model.specs.Good.{IsGood};
 ghost use Rattle.cc_model.specs.Refusals.{refusal};
 ghost use Rattle.cc_model.specs.Setup.{Setup};
 ghost use Rattle.cc_model.specs.Stamps.{dirty_table};
 ghost use Rattle.cc_readers.specs.FaultReads.{fault_in};
-ghost use Rattle.cc_world.specs.Filing.{is_unfiled};
+ghost use Rattle.cc_world.specs.Filing.{is_unfiled, log_named};
 ghost use Rattle.cc_world.specs.Journals.{IsJournalStanding, JournalLeft, JournalStandsUnder, JournalWent};
 ghost use Rattle.cc_world.specs.Reserving.{CanDefer, HasReserved, IsDeferralRefusal, unreserved};
 ghost use Rattle.cc_effects.specs.Events.{call_entry};
@@ -18,7 +19,7 @@ ghost use Rattle.cc_effects.specs.declared.events.Event.TheVariants as event;
 use crate::told::error_of;
 use cc_book::Book;
 use cc_effects::StepReply;
-use cc_entry::{Call, CcError, Entry, FileId, NoMemory, Outcome, Reply, Rows};
+use cc_entry::{Call, CcError, Entry, FileId, NoMemory, Outcome, Query, Reply, Rows, Value};
 use cc_journal::{Journal, dirty_table, is_any_dirty};
 use cc_readers::faults::{Fault, oldest_fault};
 use cc_traits::PostRoutine;
@@ -122,9 +123,9 @@ pub(crate) fn do_unfiled<Q: PostRoutine>(
         JournalLeft Q.posted u (event.Do pass call) result journal.old journal.new }
 {
     match journal.reserve(1) {
-        Ok(()) => match call {
-            Call::DirtyPages { handle } => tell_rows(alloc, journal, pass, handle),
-            _ => tell_dirty(journal, pass),
+        Ok(()) => match log_of(&call) {
+            Some(handle) => tell_rows(alloc, journal, pass, handle),
+            None => tell_dirty(journal, pass),
         },
         Err(error) => StepReply::Refused(error),
     }
@@ -140,20 +141,30 @@ fn tell_rows<Q: PostRoutine>(
 ) -> StepReply<Q>
     requires reserved { HasReserved Q.posted journal.old }
     ensures { (u : Setup) → JournalStandsUnder Q.posted u (unreserved journal.old) →
-        JournalLeft Q.posted u (event.Do pass (call.DirtyPages handle)) result (unreserved journal.old) journal.new }
+        JournalLeft Q.posted u (event.Do pass (call.Query (query.DirtyPages handle))) result (unreserved journal.old) journal.new }
 {
     if journal.logs() <= handle {
         let error = CcError::NoLog {
             handle: u64::from(handle),
         };
         let outcome = Outcome::Failed(error);
-        place(journal, pass, Call::DirtyPages { handle }, outcome);
+        place(
+            journal,
+            pass,
+            Call::Query(Query::DirtyPages { handle }),
+            outcome,
+        );
         return StepReply::Refused(error);
     }
     match two_tables(alloc, journal, handle) {
         Ok((rows, told)) => {
             let outcome = Outcome::Done(Reply::Rows(rows));
-            place(journal, pass, Call::DirtyPages { handle }, outcome);
+            place(
+                journal,
+                pass,
+                Call::Query(Query::DirtyPages { handle }),
+                outcome,
+            );
             StepReply::Done(Reply::Rows(told))
         }
         Err(NoMemory) => {
@@ -177,12 +188,12 @@ fn two_tables<Q>(alloc: Global, journal: &Journal<Q>, handle: u8) -> Result<(Row
 fn tell_dirty<Q: PostRoutine>(journal: &mut Journal<Q>, pass: u32) -> StepReply<Q>
     requires reserved { HasReserved Q.posted journal.old }
     ensures { (u : Setup) → JournalStandsUnder Q.posted u (unreserved journal.old) →
-        JournalLeft Q.posted u (event.Do pass call.IsDirtyData) result (unreserved journal.old) journal.new }
+        JournalLeft Q.posted u (event.Do pass (call.Query query.IsDirtyData)) result (unreserved journal.old) journal.new }
 {
     let flag = is_any_dirty(journal);
-    let outcome = Outcome::Done(Reply::Flag(flag));
-    place(journal, pass, Call::IsDirtyData, outcome);
-    StepReply::Done(Reply::Flag(flag))
+    let outcome = Outcome::Done(Reply::Value(Value::Flag(flag)));
+    place(journal, pass, Call::Query(Query::IsDirtyData), outcome);
+    StepReply::Done(Reply::Value(Value::Flag(flag)))
 }
 
 /// A call of a pass that is filed under no stream tells the oldest fault of the pass since its last call.
@@ -236,9 +247,19 @@ fn is_refused<Q>(journal: &Journal<Q>, call: &Call) -> bool
     ensures { (u : Setup) → u.logs ≡ journal.now.logs →
         result ≡ is_some (refusal u journal.now.entries [] call.now) }
 {
+    match log_of(call) {
+        Some(handle) => journal.logs() <= handle,
+        None => false,
+    }
+}
+
+// The log that a call names.
+fn log_of(call: &Call) -> Option<u8>
+    ensures { result ≡ log_named call.now }
+{
     match call {
-        Call::DirtyPages { handle } => journal.logs() <= *handle,
-        _ => false,
+        Call::Query(query) => query.log(),
+        _ => None,
     }
 }
 

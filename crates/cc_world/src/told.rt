@@ -1,11 +1,12 @@
 //! The error by which a call tells a fault.
 
 ghost use Rattle.std.specs.Prelude.{◌≡◌};
-ghost use Rattle.cc_model.specs.Ranges.{first_of_span, first_page};
+ghost use Rattle.cc_entry.specs.Queries.{extent_of_query};
+ghost use Rattle.cc_model.specs.Ranges.{first_of_span, first_page, first_queried};
 ghost use Rattle.cc_readers.specs.FaultReads.{fault_in};
 ghost use Rattle.cc_effects.specs.Events.{error_of};
 
-use cc_entry::{Call, CcError, Span};
+use cc_entry::{Call, CcError, Query, Span};
 use cc_readers::faults::Fault;
 
 /// The error by which a call tells a fault; a failed sync names the first page of the call's range.
@@ -43,7 +44,18 @@ fn first_page(call: &Call) -> u64
         Call::Flush { span, .. } | Call::Purge { span, .. } | Call::Discard { span, .. } => {
             first_of_span(*span)
         }
+        Call::Query(query) => first_queried(query),
         _ => 0,
+    }
+}
+
+// The first page of the bytes whose pages a query needs, 0 where it needs none.
+fn first_queried(query: &Query) -> u64
+    ensures { result ≡ first_queried (extent_of_query query.now) }
+{
+    match query.extent() {
+        Some((at, _)) => at / 4096,
+        None => 0,
     }
 }
 

@@ -1,6 +1,8 @@
 -- One attempt at a call in a visit: what it gives, and what it leaves of the call.
-use Rattle.std.specs.Prelude.{◌≡◌, ℕ, suc, ◌+◌, ◌<◌, ◌≤◌, ◌⊎◌, Bool, true, false, List, [], ◌∷◌, IfSome, Some, Err}
+use Rattle.std.specs.Prelude.{◌≡◌, ℕ, suc, ◌+◌, ◌<◌, ◌≤◌, ◌⊎◌, Bool, true, false, List, [], ◌∷◌, IfSome, Option, Some, None, Err}
 use Rattle.std.proofs.Common.{ap, sym, ◌∙◌, subst, inl, inr, arith}
+use Rattle.cc_entry.specs.Place.{File}
+use Rattle.cc_entry.specs.Queries.{file_of_query}
 use Rattle.cc_entry.specs.declared.call.Call.{Call}
 use Rattle.cc_entry.specs.declared.call.Call.TheVariants as call
 use Rattle.cc_entry.specs.declared.entry.Entry.{Entry}
@@ -61,17 +63,19 @@ of-file Says holds pass s (call.NcRead file page) filed said = moved Says s file
 of-file Says holds pass s (call.NcStore file page bytes) filed said = moved Says s file.stream filed said
 of-file Says holds pass s (call.NcWrite file page) filed said = moved Says s file.stream filed said
 of-file Says holds pass s (call.SetSizes file allocation size) filed said = moved Says s file.stream filed said
-of-file Says holds pass s (call.State file) filed said = moved Says s file.stream filed said
+of-file Says holds pass s (call.Query asked) filed said = by (file_of_query asked) filed
+  where
+    by : (named : Option File) → IsFiled holds pass (Some s) (call.Query asked) named → IfSome named (λ file. Says file.stream)
+    by None filed = tt
+    by (Some file) filed = moved Says s file.stream filed said
 of-file Says holds pass s (call.Flush file span) filed said = moved Says s file.stream filed said
 of-file Says holds pass s (call.Purge file span) filed said = moved Says s file.stream filed said
 of-file Says holds pass s (call.Discard file span) filed said = moved Says s file.stream filed said
 of-file Says holds pass s (call.SetLog file handle) filed said = moved Says s file.stream filed said
-of-file Says holds pass s (call.LsnForFile file) filed said = moved Says s file.stream filed said
 of-file Says holds pass s (call.SetGranularity file bytes) filed said = moved Says s file.stream filed said
 of-file Says holds pass s (call.SetAttributes file no_read_ahead no_write_behind) filed said = moved Says s file.stream filed said
 of-file Says holds pass s (call.SetThreshold file pages) filed said = moved Says s file.stream filed said
 of-file Says holds pass s (call.AskAhead file at len) filed said = moved Says s file.stream filed said
-of-file Says holds pass s (call.CanWrite file bytes) filed said = moved Says s file.stream filed said
 of-file Says holds pass s (call.AheadStep request) filed said = moved Says s request.file.stream filed said
 of-file Says holds pass s other filed said = tt
 

@@ -63,6 +63,7 @@ asks-one (call.PreparePin file at len false exclusive) brings = omega arith
 asks-one (call.MdlRead file at len) brings = omega arith
 asks-one (call.MdlWrite file at len) brings = omega arith
 asks-one (call.AheadStep request) brings = omega arith
+asks-one (call.Query asked) brings = omega arith
 asks-one other brings = absurd (true≢false (sym brings))
 
 -- and where a page of its range comes in, or fails to

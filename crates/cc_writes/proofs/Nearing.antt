@@ -6,6 +6,7 @@ use Rattle.std.specs.List.{range_with_len}
 use Rattle.std.proofs.Common.{ap, sym, ◌∙◌, subst, inl, inr, arith}
 use Rattle.std.proofs.lemmas.Bool.{and_parts, or_parts, not-false, eqb-true, ltb-true, leb-false}
 use Rattle.std.proofs.lemmas.List.FromFn.{length-range_with_len}
+use Rattle.cc_entry.specs.Queries.{extent_of_query}
 use Rattle.cc_entry.specs.Pages.{block_of, has_page, last_page, pages_of}
 use Rattle.cc_entry.specs.Place.{Range}
 use Rattle.cc_entry.specs.declared.call.Call.{Call}
@@ -15,7 +16,7 @@ use Rattle.cc_effects.specs.Asked.{brings_in}
 use Rattle.cc_laws.proofs.SoundFacts.{size_of-good}
 use Rattle.cc_model.specs.Good.{IsGoodSoFar}
 use Rattle.cc_model.specs.History.{Effect, history}
-use Rattle.cc_model.specs.Ranges.{range_of}
+use Rattle.cc_model.specs.Ranges.{range_of, cut_range, queried_range}
 use Rattle.cc_model.specs.Residency.{is_resident}
 use Rattle.cc_model.specs.Setup.{Setup}
 use Rattle.cc_model.specs.Touches.{is_dirty, size_of}
@@ -87,6 +88,11 @@ widest-has size it r page most brings is has = go it brings is
     go (call.PreparePin file at len zero exclusive) brings is = in-both _ _ (call.PreparePin file at len zero exclusive) is refl refl (omega arith)
     go (call.MdlRead file at len) brings is = in-both _ _ (call.MdlRead file at len) is refl refl (omega arith)
     go (call.MdlWrite file at len) brings is = in-both _ _ (call.MdlWrite file at len) is refl refl (omega arith)
+    go (call.Query asked) brings is = by (extent_of_query asked) refl is
+      where
+        by : (extent : Option (ℕ × ℕ)) → extent_of_query asked ≡ extent → queried_range size extent ≡ Some r → IsWidest (call.Query asked) page
+        by None same is = absurd (cc)
+        by (Some (at, n)) same is = in-both (cut_range size at n) (cut_range (2 ^ 63) at n) (call.Query asked) is (ap (queried_range (2 ^ 63)) same) refl (omega (arith, most))
     go other brings is = absurd (cc)
 
 -- a page that a call waits for is one of its widest range

@@ -1,16 +1,18 @@
 -- A page that a call waits for is one of its range.
-use Rattle.std.specs.Prelude.{◌≡◌, ℕ, zero, suc, ◌+◌, ◌-◌, ◌*◌, ◌/◌, ◌<◌, ◌≤◌, Bool, true, false, not, cond, ◌&&◌, ◌==◌, nat_lt, List, [], refl}
+use Rattle.std.specs.Prelude.{◌≡◌, ℕ, zero, suc, ◌+◌, ◌-◌, ◌*◌, ◌/◌, ◌<◌, ◌≤◌, Bool, true, false, not, cond, ◌&&◌, ◌==◌, nat_lt, List, [], refl, is_some}
 use Rattle.std.specs.declared.option.Option.{Option}
 use Rattle.std.specs.declared.option.Option.TheVariants.{Some, None}
 use Rattle.std.specs.List.{find, range_with_len}
 use Rattle.std.proofs.Common.{arith, eq-eqb}
 use Rattle.std.proofs.lemmas.Bool.{ltb-true, lt-ltb}
+use Rattle.cc_entry.specs.Queries.{file_of_query}
 use Rattle.cc_entry.specs.Pages.{has_page, pages_of}
-use Rattle.cc_entry.specs.Place.{Range}
+use Rattle.cc_entry.specs.Place.{Range, File}
 use Rattle.cc_entry.specs.declared.call.Call.{Call}
 use Rattle.cc_entry.specs.declared.call.Call.TheVariants as call
 use Rattle.cc_entry.specs.declared.entry.Entry.{Entry}
 use Rattle.cc_effects.specs.Asked.{brings_in, is_file_of_page, range_has, reaches}
+use Rattle.cc_model.specs.Filing.{IsFiled}
 use Rattle.cc_model.specs.Acts.{file_of}
 use Rattle.cc_model.specs.History.{Effect, history}
 use Rattle.cc_model.specs.Ranges.{range_of}
@@ -63,6 +65,11 @@ of-stream (call.PreparePin file at len clears exclusive) s p stepped brings file
 of-stream (call.MdlRead file at len) s p stepped brings filed = same-stream s file.stream (filed [] 0)
 of-stream (call.MdlWrite file at len) s p stepped brings filed = same-stream s file.stream (filed [] 0)
 of-stream (call.AheadStep request) s p stepped brings filed = same-stream s request.file.stream (filed [] 0)
+of-stream (call.Query asked) s p stepped brings filed = by (file_of_query asked) stepped (filed [] 0)
+  where
+    by : (named : Option File) → is_some named ≡ true → IsFiled [] 0 (Some s) (call.Query asked) named → is_file_of_page named (record { stream = s; page = p }) ≡ true
+    by None some is = absurd (cc)
+    by (Some file) some is = same-stream s file.stream is
 of-stream other s p stepped brings filed = absurd (cc)
 
 pub reached : (it : Call) (s p : ℕ) (past : List Entry) → is_stepped it ≡ true → brings_in it ≡ true → CallIsOfStream it s → least_absent (history past s) (needed_range (history past s) it) ≡ Some p → reaches it (record { stream = s; page = p }) past ≡ true

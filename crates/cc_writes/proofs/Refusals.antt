@@ -1,21 +1,25 @@
 -- Which refusals a call may answer whose entry is placed with its book.
-use Rattle.std.specs.Prelude.{◌≡◌, ℕ, Bool, true, false, List, ◌∷◌, Option, None, Some, refl}
-use Rattle.std.proofs.Common.{subst}
+use Rattle.std.specs.Prelude.{◌≡◌, ℕ, Bool, true, false, List, ◌∷◌, Option, None, Some, is_some, refl}
+use Rattle.std.proofs.Common.{ap, ◌∙◌, subst}
 use Rattle.std.specs.Option.{option_map}
-use Rattle.cc_entry.specs.Place.{Range}
+use Rattle.cc_entry.specs.Place.{File, Range}
+use Rattle.cc_entry.specs.Queries.{extent_of_query, file_of_query, log_of_query}
 use Rattle.cc_entry.specs.declared.call.Call.{Call}
 use Rattle.cc_entry.specs.declared.call.Call.TheVariants as call
 use Rattle.cc_entry.specs.declared.entry.Entry.{Entry}
 use Rattle.cc_entry.specs.declared.error.CcError.{CcError}
 use Rattle.cc_entry.specs.declared.error.CcError.TheVariants as error
+use Rattle.cc_entry.specs.declared.query.Query.{Query}
 use Rattle.cc_effects.specs.Asked.{brings_in}
 use Rattle.cc_effects.specs.Refusals.{may_refuse, may_want}
 use Rattle.cc_model.specs.Allowed.{is_fault}
 use Rattle.cc_model.specs.Conflicts.{held, held_by, busy, busy_by}
 use Rattle.cc_model.specs.History.{Effect}
 use Rattle.cc_model.specs.Holds.{holds_of}
-use Rattle.cc_model.specs.Ranges.{range_of, cut_range}
-use Rattle.cc_model.specs.Reasons.{refuse_if, not_cached, too_long, bad_sizes, bad_granularity, no_log, beyond_size, beyond_valid, view_boundary}
+use Rattle.cc_model.specs.Numbers.{is_among}
+use Rattle.cc_model.specs.Queries.{refusals_of_query, refusals_where}
+use Rattle.cc_model.specs.Ranges.{range_of, cut_range, queried_range}
+use Rattle.cc_model.specs.Reasons.{refuse_if, not_cached, too_long, bad_sizes, bad_granularity, missing_log, no_log, beyond_size, beyond_valid, view_boundary}
 use Rattle.cc_model.specs.Refusals.{first_of, refusal}
 use Rattle.cc_model.specs.Settings.{quota_of}
 use Rattle.cc_model.specs.Setup.{Setup}
@@ -51,6 +55,50 @@ among-views it h (Some r) among = among-if it _ _ (among (active_blocks (holds_o
 among-first : (it : Call) (o : Option CcError) (rest : List (Option CcError)) → IsAmong it o → IsAmong it (first_of rest) → IsAmong it (first_of (o ∷ rest))
 among-first it None rest here later = later
 among-first it (Some e) rest here later = here
+
+-- the refusals of a query, by what it names and needs
+lists-not_cached : (on_log paged : Bool) → is_among 1 (refusals_where true on_log paged) ≡ true
+lists-not_cached on_log true = refl
+lists-not_cached on_log false = refl
+
+lists-no_log : (on_file paged : Bool) → is_among 21 (refusals_where on_file true paged) ≡ true
+lists-no_log true true = refl
+lists-no_log true false = refl
+lists-no_log false true = refl
+lists-no_log false false = refl
+
+lists-paged : (asked : Query) (number : ℕ) → is_some (extent_of_query asked) ≡ true → is_among number (refusals_where (is_some (file_of_query asked)) (is_some (log_of_query asked)) true) ≡ true → is_among number (refusals_of_query asked) ≡ true
+lists-paged asked number paged listed =
+    ap (λ (b : Bool). is_among number (refusals_where (is_some (file_of_query asked)) (is_some (log_of_query asked)) b)) paged ∙ listed
+
+among-cached : (asked : Query) (h : List Effect) → IsAmong (call.Query asked) (not_cached h (file_of_query asked))
+among-cached asked h = by (file_of_query asked) refl
+  where
+    by : (named : Option File) → file_of_query asked ≡ named → IsAmong (call.Query asked) (not_cached h named)
+    by None is = tt
+    by (Some file) is =
+        among-if (call.Query asked) _ error.NotCached
+        (ap (λ (o : Option File). is_among 1 (refusals_where (is_some o) (is_some (log_of_query asked)) (is_some (extent_of_query asked)))) is
+        ∙ lists-not_cached (is_some (log_of_query asked)) (is_some (extent_of_query asked)))
+
+among-log : (u : Setup) (asked : Query) → IsAmong (call.Query asked) (missing_log u (log_of_query asked))
+among-log u asked = by (log_of_query asked) refl
+  where
+    by : (named : Option ℕ) → log_of_query asked ≡ named → IsAmong (call.Query asked) (missing_log u named)
+    by None is = tt
+    by (Some handle) is =
+        among-if (call.Query asked) _ (error.NoLog handle)
+        (ap (λ (o : Option ℕ). is_among 21 (refusals_where (is_some (file_of_query asked)) (is_some o) (is_some (extent_of_query asked)))) is
+        ∙ lists-no_log (is_some (file_of_query asked)) (is_some (extent_of_query asked)))
+
+among-queried : (asked : Query) (h : List Effect) → IsAmong (call.Query asked) (no_views h (queried_range (size_of h) (extent_of_query asked)))
+among-queried asked h = by (extent_of_query asked) refl
+  where
+    by : (extent : Option (ℕ × ℕ)) → extent_of_query asked ≡ extent → IsAmong (call.Query asked) (no_views h (queried_range (size_of h) extent))
+    by None is = tt
+    by (Some (at, n)) is =
+        among-views (call.Query asked) h (Some (cut_range (size_of h) at n))
+        (λ active quota. lists-paged asked 10 (ap is_some is) refl)
 
 among : (u : Setup) (past : List Entry) (h : List Effect) (it : Call) → is_answered it ≡ true → IsAmong it (refusal u past h it)
 unfolding refusal
@@ -147,12 +195,11 @@ among u past h (call.SetSizes file allocation size) here =
     among-first it (not_cached h (Some file)) _ (among-if it _ _ refl)
     (among-first it (bad_sizes h it) _ (among-if it _ _ refl)
     (among-first it (held h it) _ (among-held it _ (λ n. refl)) tt))
-among u past h (call.State file) here =
-    let it : Call = call.State file in
-    among-first it (not_cached h (Some file)) _ (among-if it _ _ refl) tt
-among u past h (call.LsnForFile file) here =
-    let it : Call = call.LsnForFile file in
-    among-first it (not_cached h (Some file)) _ (among-if it _ _ refl) tt
+among u past h (call.Query asked) here =
+    let it : Call = call.Query asked in
+    among-first it (not_cached h (file_of_query asked)) _ (among-cached asked h)
+    (among-first it (missing_log u (log_of_query asked)) _ (among-log u asked)
+    (among-first it (no_views h (queried_range (size_of h) (extent_of_query asked))) _ (among-queried asked h) tt))
 among u past h (call.SetLog file handle) here =
     let it : Call = call.SetLog file handle in
     among-first it (not_cached h (Some file)) _ (among-if it _ _ refl)
@@ -169,9 +216,6 @@ among u past h (call.SetThreshold file pages) here =
     among-first it (not_cached h (Some file)) _ (among-if it _ _ refl) tt
 among u past h (call.AskAhead file at len) here =
     let it : Call = call.AskAhead file at len in
-    among-first it (not_cached h (Some file)) _ (among-if it _ _ refl) tt
-among u past h (call.CanWrite file bytes) here =
-    let it : Call = call.CanWrite file bytes in
     among-first it (not_cached h (Some file)) _ (among-if it _ _ refl) tt
 among u past h (call.Flush file span) here =
     let it : Call = call.Flush file span in
@@ -264,4 +308,6 @@ may-tell (call.PreparePin file at len false exclusive) e here brings fault = fau
 may-tell (call.MdlRead file at len) e here brings fault = fault-listed (call.MdlRead file at len) e fault (λ n. refl) (λ n. refl) (λ n. refl)
 may-tell (call.MdlWrite file at len) e here brings fault = fault-listed (call.MdlWrite file at len) e fault (λ n. refl) (λ n. refl) (λ n. refl)
 may-tell (call.AheadStep request) e here brings fault = fault-listed (call.AheadStep request) e fault (λ n. refl) (λ n. refl) (λ n. refl)
+may-tell (call.Query asked) e here brings fault =
+    fault-listed (call.Query asked) e fault (λ n. lists-paged asked 14 brings refl) (λ n. lists-paged asked 15 brings refl) (λ n. lists-paged asked 16 brings refl)
 may-tell it e here brings fault = absurd (cc)

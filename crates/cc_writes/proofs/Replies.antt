@@ -1,21 +1,26 @@
 -- What the reply of a call has room in, and what is said of a journal that is full.
-use Rattle.std.specs.Prelude.{◌≡◌, ℕ, ◌+◌, ◌-◌, ◌<◌, ◌≤◌, Bool, true, List, ◌∷◌, length, Option, None, Some, Err}
+use Rattle.std.specs.Prelude.{◌≡◌, ℕ, ◌+◌, ◌-◌, ◌<◌, ◌≤◌, Bool, true, false, List, ◌∷◌, length, Option, None, Some, Err, refl}
 use Rattle.std.specs.List.{range_with_len}
 use Rattle.std.proofs.Common.{ap, sym, ◌∙◌, subst, inl, inr, arith}
 use Rattle.std.proofs.lemmas.List.{length-map}
 use Rattle.std.proofs.lemmas.List.FromFn.{length-range_with_len}
+use Rattle.cc_entry.specs.Queries.{is_of_stream}
 use Rattle.cc_entry.specs.declared.call.Call.{Call}
 use Rattle.cc_entry.specs.declared.call.Call.TheVariants as call
+use Rattle.cc_entry.specs.declared.query.Query.TheVariants as query
 use Rattle.cc_entry.specs.declared.entry.Entry.{Entry}
 use Rattle.cc_entry.specs.declared.error.CcError.{CcError}
 use Rattle.cc_entry.specs.declared.error.CcError.TheVariants as error
+use Rattle.cc_entry.specs.declared.query.Query.{Query}
 use Rattle.cc_entry.specs.declared.reply.Reply.{Reply}
+use Rattle.cc_entry.specs.declared.reply.Reply.TheVariants as reply
 use Rattle.cc_book.specs.Book.{done}
 use Rattle.cc_journal.specs.Journal.{JournalState}
 use Rattle.cc_model.specs.Bytes.{answer, answer_length, byte_of}
 use Rattle.cc_model.specs.Good.{IsGood}
 use Rattle.cc_model.specs.History.{Effect, history}
 use Rattle.cc_model.specs.Legal.{IsLegal, IsLegalEntry}
+use Rattle.cc_model.specs.Queries.{IsQueryReply}
 use Rattle.cc_model.specs.Replies.{IsReply, Reads}
 use Rattle.cc_model.specs.Setup.{Setup}
 use Rattle.cc_step.specs.Step.{is_stepped, IsStop}
@@ -44,6 +49,22 @@ reads-fit (Some pages) h at len r out reads fits =
     let long : length (answer pages h at len) ≡ answer_length h at len = length-map (range_with_len at (answer_length h at len)) (byte_of pages h) ∙ length-range_with_len at (answer_length h at len) in
     subst (λ (x : Reply). FitsReply x out) (sym reads) (omega (arith, long, short, fits))
 
+-- a reply that a caller is told without what it handed in
+abbrev pub is_told_whole : Reply → Bool
+is_told_whole (reply.Value found) = true
+is_told_whole other = false
+
+whole-fits : (r : Reply) (out : List ℕ) → is_told_whole r ≡ true → FitsReply r out
+whole-fits (reply.Value found) out whole = tt
+whole-fits other out whole = absurd (cc)
+
+-- such is the reply of a query of a stream
+pub query-told_whole : (u : Setup) (past : List Entry) (told : Option (ℕ → List ℕ)) (h : List Effect) (asked : Query) (r : Reply) → is_of_stream asked ≡ true → IsQueryReply u past told h asked r → is_told_whole r ≡ true
+query-told_whole u past told h (query.State file) r here is = rw is refl
+query-told_whole u past told h (query.LsnForFile file) r here is = rw is refl
+query-told_whole u past told h (query.CanWrite file bytes) r here is = rw is refl
+query-told_whole u past told h other r here is = absurd (cc)
+
 pub fits-reply : (u : Setup) (past : List Entry) (told : Option (ℕ → List ℕ)) (h : List Effect) (pass : ℕ) (it : Call) (r : Reply) (out : List ℕ) → is_stepped it ≡ true → IsReply u past told h pass it r → ReadFitsIn it out → FitsReply r out
 fits-reply u past told h pass (call.CopyRead file at len wait) r out here is fits = reads-fit told h at len r out is fits
 fits-reply u past told h pass (call.MappedRead hold at len) r out here is fits = reads-fit told h at len r out is fits
@@ -65,15 +86,13 @@ fits-reply u past told h pass (call.MdlRead file at len) r out here is fits = rw
 fits-reply u past told h pass (call.MdlWrite file at len) r out here is fits = rw is tt
 fits-reply u past told h pass (call.MdlStore hold at bytes) r out here is fits = rw is tt
 fits-reply u past told h pass (call.SetSizes file allocation size) r out here is fits = rw is tt
-fits-reply u past told h pass (call.State file) r out here is fits = rw is tt
+fits-reply u past told h pass (call.Query asked) r out here is fits = whole-fits r out (query-told_whole u past told h asked r here is)
 fits-reply u past told h pass (call.SetLog file handle) r out here is fits = rw is tt
-fits-reply u past told h pass (call.LsnForFile file) r out here is fits = rw is tt
 fits-reply u past told h pass (call.SetGranularity file bytes) r out here is fits = rw is tt
 fits-reply u past told h pass (call.SetAttributes file no_read_ahead no_write_behind) r out here is fits = rw is tt
 fits-reply u past told h pass (call.SetThreshold file pages) r out here is fits = rw is tt
 fits-reply u past told h pass (call.AskAhead file at len) r out here is fits = rw is tt
 fits-reply u past told h pass (call.AheadStep request) r out here is fits = rw is tt
-fits-reply u past told h pass (call.CanWrite file bytes) r out here is fits = rw is tt
 fits-reply u past told h pass other r out here is fits = absurd (cc)
 
 -- a listed refusal says nothing of a full journal, nor does a fault

@@ -10,6 +10,7 @@ use Rattle.cc_entry.specs.declared.entry.Entry.{Entry}
 use Rattle.cc_entry.specs.declared.reply.Outcome.TheVariants as outcome
 use Rattle.cc_entry.specs.declared.reply.Reply.{Reply}
 use Rattle.cc_entry.specs.declared.reply.Reply.TheVariants as reply
+use Rattle.cc_entry.specs.declared.query.Value.TheVariants as value
 use Rattle.cc_effects.specs.Asked.{Work, Calls, reaches}
 use Rattle.cc_effects.specs.Calls.{CallLeft}
 use Rattle.cc_effects.specs.Moments.{AtSome}
@@ -80,17 +81,15 @@ is_met other = false
 abbrev pub IsCallReason : Setup → ℕ → Call → CcError → Type 0
 IsCallReason u s it e = (is_met e ≡ true) ⊎ ((past : List Entry) × (refusal u past (history past s) it ≡ Some e))
 
--- what a caller is told of a reply: the bytes of a read, in the front of what it handed in, the id of a hold, a flag, as
--- that of a read-ahead step too, the LSNs of a stream, or its state
+-- what a caller is told of a reply: the bytes of a read, in the front of what it handed in, the id of a hold, or what was
+-- found, which of a read-ahead step is a flag
 abbrev pub IsTold : Reply → Returned → List ℕ → List ℕ → Type 0
 IsTold (reply.Read bytes) told was now =
     (told ≡ returned.Bytes (length bytes)) × (take (length bytes) now ≡ bytes)
     × (drop (length bytes) now ≡ drop (length bytes) was)
 IsTold (reply.Hold id) told was now = (told ≡ returned.Hold id) × (now ≡ was)
-IsTold (reply.Flag flag) told was now = (told ≡ returned.Flag flag) × (now ≡ was)
-IsTold (reply.Whole whole) told was now = (told ≡ returned.Flag whole) × (now ≡ was)
-IsTold (reply.Lsns lsns) told was now = (told ≡ returned.Lsns lsns) × (now ≡ was)
-IsTold (reply.State state) told was now = (told ≡ returned.State state) × (now ≡ was)
+IsTold (reply.Value found) told was now = (told ≡ returned.Value found) × (now ≡ was)
+IsTold (reply.Whole whole) told was now = (told ≡ returned.Value (value.Flag whole)) × (now ≡ was)
 IsTold other told was now = (told ≡ returned.Nothing) × (now ≡ was)
 
 -- A call ended so: done, and its caller told the reply, or failed, and what the caller handed in is as it was.

@@ -5,7 +5,7 @@ ghost use Rattle.std.specs.Option.{option_copied};
 ghost use Rattle.cc_writes.specs.Told.{FitsLast, FitsReply, ToldLast, reply_of};
 ghost use Rattle.cc_writes.specs.Ways.{IsTold};
 
-use cc_entry::{Bytes, Entry, FileState, Lsn, Outcome, Reply};
+use cc_entry::{Bytes, Entry, Outcome, Reply, Value};
 use cc_journal::Journal;
 
 /// What a call that was done returns to its caller.
@@ -15,12 +15,8 @@ pub enum Returned {
     Bytes(usize),
     /// The id of a hold.
     Hold(u64),
-    /// Whether it is so: of an uninitialise, whether the shared map went; of a read-ahead step, whether its pages are there.
-    Flag(bool),
-    /// The least and the greatest LSN stamped on dirty pages of a stream, where there is one.
-    Lsns(Option<(Lsn, Lsn)>),
-    /// The sizes and the log of a stream.
-    State(FileState),
+    /// What was found: of an uninitialise, whether the shared map went; of a read-ahead step, whether its pages are there.
+    Value(Value),
     /// Nothing more.
     Nothing,
 }
@@ -60,10 +56,8 @@ fn told(reply: &Reply, out: &mut [u8]) -> Returned
     match reply {
         Reply::Read(bytes) => Returned::Bytes(copy(bytes, out)),
         Reply::Hold(id) => Returned::Hold(*id),
-        Reply::Flag(flag) => Returned::Flag(*flag),
-        Reply::Whole(whole) => Returned::Flag(*whole),
-        Reply::Lsns(lsns) => Returned::Lsns(*lsns),
-        Reply::State(state) => Returned::State(*state),
+        Reply::Value(found) => Returned::Value(*found),
+        Reply::Whole(whole) => Returned::Value(Value::Flag(*whole)),
         _ => Returned::Nothing,
     }
 }

@@ -53,7 +53,7 @@ fn log(alloc: Global) -> MemLog
     MemLog::new(alloc, fails)
 }
 
-/// The 64 post routines: a script of steps with more lines that defer a write ends with status 7. Answers `AllocError`
+/// The 64 post routines: a script with more lines that defer a write ends with status 7. Answers `AllocError`
 /// where memory is wanting.
 pub fn routines(alloc: Global) -> Result<Vec<Routine>, AllocError>
     ensures { IfOk result (λ routines. routines.items ≡ replicate 64 new_routine) }

@@ -2,7 +2,9 @@
 use Rattle.std.specs.Prelude.{refl}
 use Rattle.std.proofs.Common.{arith}
 use Rattle.cc_entry.specs.declared.call.Call.TheVariants as call
+use Rattle.cc_entry.specs.declared.query.Query.TheVariants as query
 use Rattle.cc_entry.specs.declared.reply.Reply.TheVariants as reply
+use Rattle.cc_entry.specs.declared.query.Value.TheVariants as value
 use Rattle.cc_writes.proofs.Visiting.{few-left}
 use Rattle.cc_calls.specs.Answers.{flag_outcome}
 use Rattle.cc_calls.proofs.Streamless.{gives-streamless, journal-owes, whole-streamless}
@@ -14,20 +16,20 @@ tell_dirty-answer-requires-clause-owed g c =
 
 pub give_journal-requires-clause-adds : goal.give_journal-requires-clause-adds
 give_journal-requires-clause-adds g c =
-    (gives-streamless g.T.Post.PostRoutine.posted (g.T.Turns.standing c.args.turns.now) (g.T.Turns.standing c.take_journal-journal.new.self) call.IsDirtyData
+    (gives-streamless g.T.Post.PostRoutine.posted (g.T.Turns.standing c.args.turns.now) (g.T.Turns.standing c.take_journal-journal.new.self) (call.Query query.IsDirtyData)
     c.take_journal-journal.result c.tell_dirty-answer.new.journal c.me-pass.result c.requires.can c.take_journal-journal.ensures.took
     c.take_journal-journal.ensures.stands refl c.me-pass.ensures flag_outcome c.tell_dirty-answer.result c.tell_dirty-answer.ensures).adds
 
 pub give_journal-requires-clause-stands : goal.give_journal-requires-clause-stands
 give_journal-requires-clause-stands g c =
-    (gives-streamless g.T.Post.PostRoutine.posted (g.T.Turns.standing c.args.turns.now) (g.T.Turns.standing c.take_journal-journal.new.self) call.IsDirtyData
+    (gives-streamless g.T.Post.PostRoutine.posted (g.T.Turns.standing c.args.turns.now) (g.T.Turns.standing c.take_journal-journal.new.self) (call.Query query.IsDirtyData)
     c.take_journal-journal.result c.tell_dirty-answer.new.journal c.me-pass.result c.requires.can c.take_journal-journal.ensures.took
     c.take_journal-journal.ensures.stands refl c.me-pass.ensures flag_outcome c.tell_dirty-answer.result c.tell_dirty-answer.ensures).journal
 
 pub give_journal-requires-clause-few : goal.give_journal-requires-clause-few
 give_journal-requires-clause-few g c =
     few-left (g.T.Turns.standing c.args.turns.now).in_flight
-    (gives-streamless g.T.Post.PostRoutine.posted (g.T.Turns.standing c.args.turns.now) (g.T.Turns.standing c.take_journal-journal.new.self) call.IsDirtyData
+    (gives-streamless g.T.Post.PostRoutine.posted (g.T.Turns.standing c.args.turns.now) (g.T.Turns.standing c.take_journal-journal.new.self) (call.Query query.IsDirtyData)
     c.take_journal-journal.result c.tell_dirty-answer.new.journal c.me-pass.result c.requires.can c.take_journal-journal.ensures.took
     c.take_journal-journal.ensures.stands refl c.me-pass.ensures flag_outcome c.tell_dirty-answer.result c.tell_dirty-answer.ensures).went
     (omega (arith, c.requires.can.none))
@@ -35,8 +37,8 @@ give_journal-requires-clause-few g c =
 pub returns : goal.returns
 returns g c = record {
   ends =
-      whole-streamless g.T.Post.PostRoutine.posted (g.T.Turns.standing c.args.turns.now) (g.T.Turns.standing c.take_journal-journal.new.self) call.IsDirtyData
+      whole-streamless g.T.Post.PostRoutine.posted (g.T.Turns.standing c.args.turns.now) (g.T.Turns.standing c.take_journal-journal.new.self) (call.Query query.IsDirtyData)
       c.take_journal-journal.result c.tell_dirty-answer.new.journal c.me-pass.result c.requires.can c.take_journal-journal.ensures.took
       c.take_journal-journal.ensures.stands refl c.me-pass.ensures flag_outcome c.tell_dirty-answer.result c.tell_dirty-answer.ensures
-      (λ flag. reply.Flag flag) (λ flag. refl) (λ e. refl) (g.T.Turns.standing c.give_journal.new.self) c.give_journal.ensures;
+      (λ flag. reply.Value (value.Flag flag)) (λ flag. refl) (λ e. refl) (g.T.Turns.standing c.give_journal.new.self) c.give_journal.ensures;
 }

@@ -2,6 +2,7 @@
 use Rattle.std.specs.Prelude.{ℕ, ◌-◌, ◌<◌, ◌≤◌, ◌≡◌}
 use Rattle.std.proofs.Common.{ap, arith}
 use Rattle.cc_entry.specs.declared.call.Call.TheVariants as call
+use Rattle.cc_entry.specs.declared.query.Query.TheVariants as query
 use Rattle.cc_calls.proofs.Streamless.{placed-streamless}
 use Rattle.cc_calls.proofs.Tables.{pushed-table}
 use Rattle.cc_calls.proofs.queries.place.Goals as goal
@@ -31,5 +32,5 @@ release-requires g c = within _ _ _ _ c.requires.reserved c.owed_end-owed.ensure
 
 pub returns : goal.returns
 returns g c =
-    placed-streamless c.args.pass c.next_call-nth.result c.owed_end-owed.result (call.DirtyPages c.args.handle) c.args.outcome c.args.journal.now c.push.new.self c.release.new.self
+    placed-streamless c.args.pass c.next_call-nth.result c.owed_end-owed.result (call.Query (query.DirtyPages c.args.handle)) c.args.outcome c.args.journal.now c.push.new.self c.release.new.self
     c.next_call-nth.ensures c.owed_end-owed.ensures c.push.ensures.placed c.release.ensures

@@ -3,9 +3,11 @@ use Rattle.std.specs.Prelude.{◌≡◌, ℕ, ◌-◌, ◌<◌, ◌≤◌, not, 
 use Rattle.std.proofs.Common.{ap, sym, ◌∙◌, subst, arith}
 use Rattle.cc_dirty.specs.declared.row.Row.{Row}
 use Rattle.cc_entry.specs.declared.call.Call.TheVariants as call
+use Rattle.cc_entry.specs.declared.query.Query.TheVariants as query
 use Rattle.cc_entry.specs.declared.entry.Entry.{Entry}
 use Rattle.cc_entry.specs.declared.reply.Outcome.TheVariants as outcome
 use Rattle.cc_entry.specs.declared.reply.Reply.TheVariants as reply
+use Rattle.cc_entry.specs.declared.query.Value.TheVariants as value
 use Rattle.cc_journal.specs.Rows.{Follows}
 use Rattle.cc_model.specs.Good.{IsGood}
 use Rattle.cc_calls.proofs.Dirty.{dirty-rows, dirty-outcome}
@@ -20,7 +22,7 @@ push-requires-clause-may g c =
     let is = ap not c.is_empty-flag.ensures ∙ dirty-rows past c.rows.result.now follows c.rows.ensures.sound in
     let good = subst (λ (past : List Entry). IsGood u past) (sym (ap (λ x. x.entries) c.in_ok-reserve.ensures.reserved)) c.requires.good.1 in
     rw c.next_call-nth.ensures
-    (pushed-streamless u past c.args.pass call.IsDirtyData (outcome.Done (reply.Flag (not c.is_empty-flag.result))) refl
+    (pushed-streamless u past c.args.pass (call.Query query.IsDirtyData) (outcome.Done (reply.Value (value.Flag (not c.is_empty-flag.result)))) refl
     (dirty-outcome u past c.args.pass (not c.is_empty-flag.result) is) good)
 
 pub release-requires : goal.release-requires
@@ -35,7 +37,7 @@ returns g c =
     let past = c.reserve.new.self.entries in
     let follows = subst (λ (rows : List Row). Follows past rows) (sym c.rows.ensures.rows) c.dirty.ensures.follows in
     let is = ap not c.is_empty-flag.ensures ∙ dirty-rows past c.rows.result.now follows c.rows.ensures.sound in
-    ended-streamless c.args.pass c.next_call-nth.result c.owed_end-owed.result call.IsDirtyData (outcome.Done (reply.Flag (not c.is_empty-flag.result)))
+    ended-streamless c.args.pass c.next_call-nth.result c.owed_end-owed.result (call.Query query.IsDirtyData) (outcome.Done (reply.Value (value.Flag (not c.is_empty-flag.result))))
     c.args.journal.now c.reserve.new.self c.push.new.self c.release.new.self refl c.requires.owed c.in_ok-reserve.ensures.reserved c.next_call-nth.ensures
     c.owed_end-owed.ensures c.push.ensures.placed c.release.ensures
     (λ u logs. dirty-outcome u past c.args.pass (not c.is_empty-flag.result) is)

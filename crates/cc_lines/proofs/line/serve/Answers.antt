@@ -2,7 +2,7 @@
 use Rattle.std.proofs.Common.{ap, arith}
 use Rattle.cc_entry.specs.declared.call.Call.TheVariants as call
 use Rattle.cc_lines.proofs.PlainLines.{append-line, nc_read-line, nc_write-line, plain-line, plain_call}
-use Rattle.cc_lines.proofs.ServeLines.{asked-as, can-as, change-line, discard-line, flag-line, flush-line, flushed-line, lsns-line, may-free, may-on, next-chain, next-map, next-pin, next-prepare, next-repin, next-write_chain, purge-line, rows-line, set-line, state-line}
+use Rattle.cc_lines.proofs.ServeLines.{asked-as, can-as, change-line, discard-line, flag-line, flush-line, flushed-line, may-free, may-on, next-chain, next-map, next-pin, next-prepare, next-repin, next-write_chain, purge-line, query-line, set-line}
 use Rattle.cc_lines.proofs.ThrottleLines.{defer-line, post-line}
 use Rattle.cc_lines.proofs.TickLines.{tick-line}
 use Rattle.cc_lines.proofs.ShimServed.{levels-line, read-line, update-line, write-line, lock-line, unlock-line}
@@ -178,12 +178,18 @@ pub returns-in-SetSizes : goal.returns-in-SetSizes
 returns-in-SetSizes g c =
     set-line _ _ c.args.names.now _ _ c.requires.can.good (call.SetSizes c.in-SetSizes.file c.in-SetSizes.allocation c.in-SetSizes.size) c.set_file_sizes.result (ap plain_call c.in-SetSizes.is) (omega arith) c.answered-in-SetSizes.ensures c.set_file_sizes.ensures
 
-pub file_state-requires : goal.file_state-requires
-file_state-requires g c = record { can = may-on (g.T.Turns.standing c.args.turns.now) _ c.args.names.now c.in-State.file.stream c.requires.can (can-as (g.T.Turns.standing c.args.turns.now) _ _ c.args.names.now c.in-State.is c.requires.can).servable }
+pub ask-requires : goal.ask-requires
+ask-requires g c = record {
+  can = record {
+    known = (can-as (g.T.Turns.standing c.args.turns.now) _ _ c.args.names.now c.in-Query.is c.requires.can).servable;
+    free = c.requires.can.free;
+    none = c.requires.can.none;
+  };
+}
 
-pub returns-in-State : goal.returns-in-State
-returns-in-State g c =
-    state-line _ _ c.args.names.now _ _ c.requires.can.good (call.State c.in-State.file) c.file_state.result (ap plain_call c.in-State.is) (omega arith) c.state.ensures c.file_state.ensures.ends
+pub returns-in-Query : goal.returns-in-Query
+returns-in-Query g c =
+    query-line _ _ c.args.names.now _ _ c.requires.can.good c.in-Query.query c.ask.result (ap plain_call c.in-Query.is) c.replied.ensures c.ask.ensures.ends
 
 pub flush-requires : goal.flush-requires
 flush-requires g c = record { can = may-on (g.T.Turns.standing c.args.turns.now) _ c.args.names.now c.in-Flush.file.stream c.requires.can (can-as (g.T.Turns.standing c.args.turns.now) _ _ c.args.names.now c.in-Flush.is c.requires.can).servable }
@@ -191,27 +197,6 @@ flush-requires g c = record { can = may-on (g.T.Turns.standing c.args.turns.now)
 pub returns-in-Flush : goal.returns-in-Flush
 returns-in-Flush g c =
     flush-line _ _ c.args.names.now _ _ c.requires.can.good c.in-Flush.file c.in-Flush.span c.flush.result c.in-Flush.is c.answered-in-Flush.ensures c.flush.ensures.ends
-
-pub is_dirty_data-requires : goal.is_dirty_data-requires
-is_dirty_data-requires g c = record { can = may-free _ _ c.args.names.now c.requires.can }
-
-pub returns-in-IsDirtyData : goal.returns-in-IsDirtyData
-returns-in-IsDirtyData g c =
-    flag-line _ _ c.args.names.now _ _ c.requires.can.good call.IsDirtyData c.is_dirty_data.result (ap plain_call c.in-IsDirtyData.is) (omega arith) c.flag-in-IsDirtyData.ensures c.is_dirty_data.ensures.ends
-
-pub dirty_pages-requires : goal.dirty_pages-requires
-dirty_pages-requires g c = record { can = may-free _ _ c.args.names.now c.requires.can }
-
-pub returns-in-DirtyPages : goal.returns-in-DirtyPages
-returns-in-DirtyPages g c =
-    rows-line _ _ c.args.names.now _ _ c.requires.can.good (call.DirtyPages c.in-DirtyPages.handle) c.dirty_pages.result (ap plain_call c.in-DirtyPages.is) (omega arith) c.rows.ensures c.dirty_pages.ensures.ends
-
-pub lsn_for_file-requires : goal.lsn_for_file-requires
-lsn_for_file-requires g c = record { can = may-on (g.T.Turns.standing c.args.turns.now) _ c.args.names.now c.in-LsnForFile.file.stream c.requires.can (can-as (g.T.Turns.standing c.args.turns.now) _ _ c.args.names.now c.in-LsnForFile.is c.requires.can).servable }
-
-pub returns-in-LsnForFile : goal.returns-in-LsnForFile
-returns-in-LsnForFile g c =
-    lsns-line _ _ c.args.names.now _ _ c.requires.can.good (call.LsnForFile c.in-LsnForFile.file) c.lsn_for_file.result (ap plain_call c.in-LsnForFile.is) (omega arith) c.lsns.ensures c.lsn_for_file.ensures.ends
 
 pub set_log_handle-requires : goal.set_log_handle-requires
 set_log_handle-requires g c = may-on (g.T.Turns.standing c.args.turns.now) _ c.args.names.now c.in-SetLog.file.stream c.requires.can (can-as (g.T.Turns.standing c.args.turns.now) _ _ c.args.names.now c.in-SetLog.is c.requires.can).servable
@@ -322,13 +307,6 @@ pub returns-in-Settle : goal.returns-in-Settle
 returns-in-Settle g c =
     asked-as _ _ _ _ _ _ _ c.in-Settle.is
     (settle-line _ _ _ c.args.names.now c.settle_stream.ensures.full c.settle_stream.ensures.goes_on (c.settle_stream.ensures.good c.requires.can.good) c.in-Settle.file c.settle_stream.ensures.answered)
-
-pub can_i_write-requires : goal.can_i_write-requires
-can_i_write-requires g c = record { can = may-on (g.T.Turns.standing c.args.turns.now) _ c.args.names.now c.in-CanWrite.file.stream c.requires.can (can-as (g.T.Turns.standing c.args.turns.now) _ _ c.args.names.now c.in-CanWrite.is c.requires.can).servable }
-
-pub returns-in-CanWrite : goal.returns-in-CanWrite
-returns-in-CanWrite g c =
-    flag-line _ _ c.args.names.now _ _ c.requires.can.good (call.CanWrite c.in-CanWrite.file c.in-CanWrite.bytes) c.can_i_write.result (ap plain_call c.in-CanWrite.is) (omega arith) c.flag-in-CanWrite.ensures c.can_i_write.ensures.ends
 
 pub defer_write-requires : goal.defer_write-requires
 defer_write-requires g c = may-on (g.T.Turns.standing c.args.turns.now) _ c.args.names.now c.in-Defer.file.stream c.requires.can (can-as (g.T.Turns.standing c.args.turns.now) _ _ c.args.names.now c.in-Defer.is c.requires.can).servable

@@ -22,9 +22,9 @@ returns-in_ok-read-in-CopyRead g c u pass stand filed ready =
       | inr (inr (inr chain)) ↦ rw chain.1 (reads (served-resident u pass s chain.0 is_read_chain at len past good (rw chain.1 at filed)))
     ]
 
-pub returns-in-State : goal.returns-in-State
-returns-in-State g c u pass stand filed ready =
-    rw c.in-State.is (ap reply.State (c.state_of.ensures (u.opening c.args.book.now.stream) c.args.journal.now.entries stand.stands))
+pub returns-in-Query : goal.returns-in-Query
+returns-in-Query g c u pass stand filed ready =
+    rw c.in-Query.is (c.reply_to.ensures u pass stand (rw c.in-Query.is at filed) (rw c.in-Query.is at ready))
 
 pub returns-in-AskAhead : goal.returns-in-AskAhead
 returns-in-AskAhead g c u pass stand filed ready =

@@ -137,3 +137,11 @@ returns-in-AheadStep c u opening past page stands waits =
     rw c.in-AheadStep.is
     (step u past s c.in-AheadStep.request page c.span_below-in-AheadStep.result (rw c.in-AheadStep.is at waits)
     (c.span_below-in-AheadStep.ensures opening past stands))
+
+pub returns-in-Query : goal.returns-in-Query
+returns-in-Query c u opening past page stands waits =
+    let s = c.args.book.now.stream in
+    let it = call.Query c.in-Query.query in
+    let n = needs u past s it page (rw c.in-Query.is at waits) in
+    rw c.in-Query.is
+    (c.span_for.ensures opening past n.range stands n.range_is (in-order n.range n.range page refl n.has) ∙ sym n.range_is)

@@ -72,3 +72,6 @@ returns-in-MdlWrite c u opening past stands admitted =
 pub returns-in-AheadStep : goal.returns-in-AheadStep
 returns-in-AheadStep c u opening past stands admitted =
     rw c.in-AheadStep.is (c.absent_below-in-AheadStep.ensures opening past stands)
+
+pub returns-in-Query : goal.returns-in-Query
+returns-in-Query c u opening past stands admitted = rw c.in-Query.is (c.absent_for.ensures opening past stands)

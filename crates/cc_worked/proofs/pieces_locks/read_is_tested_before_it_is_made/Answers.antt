@@ -5,6 +5,7 @@ use Rattle.std.proofs.Common.{ap, arith, inl, inr}
 use Rattle.cc_entry.specs.Place.{File, Range}
 use Rattle.cc_entry.specs.declared.place.FileState.{FileState}
 use Rattle.cc_entry.specs.declared.call.Call.TheVariants as call
+use Rattle.cc_entry.specs.declared.query.Query.TheVariants as query
 use Rattle.cc_entry.specs.declared.error.CcError.TheVariants as error
 use Rattle.cc_entry.specs.declared.reply.Outcome.TheVariants as outcome
 use Rattle.cc_entry.specs.declared.entry.Entry.{Entry}
@@ -51,7 +52,7 @@ returns-clause-barred c =
 pub returns-clause-not_cached : goal.returns-clause-not_cached
 unfolding computed
 returns-clause-not_cached c =
-    inl (error.NotCached, refl, inl (ends_refused 1 1 (Some 0) (call.State a) error.NotCached [] [] (begins 1 (call.State a) []) refl refl))
+    inl (error.NotCached, refl, inl (ends_refused 1 1 (Some 0) (call.Query (query.State a)) error.NotCached [] [] (begins 1 (call.Query (query.State a)) []) refl refl))
 
 -- the marks of a read that is made, as its stretch shows them
 its_marks : FileState → List Mark

@@ -4,8 +4,10 @@ use Rattle.std.specs.declared.option.Option.TheVariants.{Some, None}
 use Rattle.std.proofs.Common.{ap, arith, inl, inr}
 use Rattle.cc_entry.specs.Place.{Range}
 use Rattle.cc_entry.specs.declared.call.Call.TheVariants as call
+use Rattle.cc_entry.specs.declared.query.Query.TheVariants as query
 use Rattle.cc_entry.specs.declared.error.CcError.TheVariants as error
 use Rattle.cc_entry.specs.declared.reply.Reply.TheVariants as reply
+use Rattle.cc_entry.specs.declared.query.Value.TheVariants as value
 use Rattle.cc_entry.specs.declared.entry.Entry.{Entry}
 use Rattle.cc_entry.specs.declared.entry.Entry.TheVariants as entry
 use Rattle.cc_script.specs.declared.script.ReadPath.TheVariants.{Cached}
@@ -27,7 +29,7 @@ pub returns-clause-made : goal.returns-clause-made
 unfolding computed
 returns-clause-made c =
     let tested = tested_by (writes a 0 1 None) ++ first_resident in
-    let asked = answers 1 2 (call.State a) (reply.State two_full) ∷ tested in
+    let asked = answers 1 2 (call.Query (query.State a)) (reply.Value (value.State two_full)) ∷ tested in
     let written = written_behind ++ first_resident in
     inr (
       tells two_full ++ first_resident,

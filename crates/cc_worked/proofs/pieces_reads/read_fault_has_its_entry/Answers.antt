@@ -5,6 +5,7 @@ use Rattle.std.specs.declared.option.Option.TheVariants.{Some, None}
 use Rattle.std.proofs.Common.{inr, arith}
 use Rattle.cc_entry.specs.declared.call.Call.TheVariants as call
 use Rattle.cc_entry.specs.declared.reply.Reply.TheVariants as reply
+use Rattle.cc_entry.specs.declared.query.Value.TheVariants as value
 use Rattle.cc_entry.specs.declared.error.CcError.TheVariants as error
 use Rattle.cc_entry.specs.declared.reply.Outcome.TheVariants as outcome
 use Rattle.cc_entry.specs.declared.entry.Entry.{Entry}
@@ -23,7 +24,7 @@ returns-clause-told c =
     ends_unread 1 1 (Some 0) first_byte (page 0) two_pages two_pages (begins 1 first_byte two_pages) refl refl refl refl refl
 
 closing : Entry
-closing = answers 2 1 (call.Uninitialise a None) (reply.Flag true)
+closing = answers 2 1 (call.Uninitialise a None) (reply.Value (value.Flag true))
 
 pub returns-clause-overtaken : goal.returns-clause-overtaken
 unfolding computed closing

@@ -5,8 +5,10 @@ use Rattle.std.proofs.Common.{ap, append_assoc, arith, inl, inr, subst, sym, ◌
 use Rattle.std.proofs.lemmas.List.{append_cancel_right}
 use Rattle.cc_entry.specs.declared.place.FileState.{FileState}
 use Rattle.cc_entry.specs.declared.call.Call.TheVariants as call
+use Rattle.cc_entry.specs.declared.query.Query.TheVariants as query
 use Rattle.cc_entry.specs.declared.error.CcError.TheVariants as error
 use Rattle.cc_entry.specs.declared.reply.Reply.TheVariants as reply
+use Rattle.cc_entry.specs.declared.query.Value.TheVariants as value
 use Rattle.cc_entry.specs.declared.reply.Outcome.TheVariants as outcome
 use Rattle.cc_entry.specs.declared.entry.End.TheVariants as how
 use Rattle.cc_entry.specs.declared.entry.Entry.{Entry}
@@ -33,7 +35,7 @@ use Rattle.cc_worked.proofs.pieces_records.settling_leaves_its_record.Goals as g
 
 -- marks of the calls of a settling
 abbrev told : FileState → Mark
-told state = Ended (call.State a) (outcome.Done (reply.State state))
+told state = Ended (call.Query (query.State a)) (outcome.Done (reply.Value (value.State state)))
 
 abbrev flush_mark : Mark
 flush_mark = Ended (call.Flush a None) (outcome.Done reply.Unit)
@@ -132,7 +134,7 @@ returns-clause-not_more c left =
     let new = settles_beside 4097 ++ one_valid in
     let rest = Recorded 0 8192 4097 how.Good ∷ [] in
     let behind = marked-then 1 (flush_mark ∷ []) rest left.begun left.flushed new (marked-call setup 1 (call.Flush a None) (outcome.Done reply.Unit) left.begun left.flushed left.has_flushed.flush refl) (synced-marked 1 0 _ 8192 4097 how.Good left.flushed new left.recorded) in
-    let before = marked-then 1 (told left.told ∷ []) [] one_valid left.has_flushed.stated left.begun (marked-call setup 1 (call.State a) (outcome.Done (reply.State left.told)) one_valid left.has_flushed.stated left.has_flushed.state refl) (marked-idle 1 left.has_flushed.stated left.begun left.has_flushed.idle) in
+    let before = marked-then 1 (told left.told ∷ []) [] one_valid left.has_flushed.stated left.begun (marked-call setup 1 (call.Query (query.State a)) (outcome.Done (reply.Value (value.State left.told))) one_valid left.has_flushed.stated left.has_flushed.state refl) (marked-idle 1 left.has_flushed.stated left.begun left.has_flushed.idle) in
     let split : settles_beside 4097 ≡ behind.during ++ before.during =
     append_cancel_right (settles_beside 4097) (behind.during ++ before.during) one_valid (behind.grew ∙ (ap (λ (l : List Entry). behind.during ++ l) before.grew ∙ sym (append_assoc behind.during before.during one_valid))) in
     let taken : take (length behind.during) (settles_beside 4097) ≡ behind.during = ap (take (length behind.during)) split ∙ split-take behind.during before.during in
@@ -207,14 +209,14 @@ unwritten = record_ends (recorded 8192 8192 how.Failed)
 pub returns-clause-no_other_page : goal.returns-clause-no_other_page
 unfolding unwritten
 returns-clause-no_other_page c (inl left) =
-    other (shows 1 (Ended (call.State a) (outcome.Failed (error.WriteFault 0)) ∷ []) unwritten first_resident (marked-call setup 1 (call.State a) (outcome.Failed (error.WriteFault 0)) first_resident (unwritten ++ first_resident) left refl))
+    other (shows 1 (Ended (call.Query (query.State a)) (outcome.Failed (error.WriteFault 0)) ∷ []) unwritten first_resident (marked-call setup 1 (call.Query (query.State a)) (outcome.Failed (error.WriteFault 0)) first_resident (unwritten ++ first_resident) left refl))
   where
-    other : marks 1 unwritten ≡ Ended (call.State a) (outcome.Failed (error.WriteFault 0)) ∷ [] → ⊥
+    other : marks 1 unwritten ≡ Ended (call.Query (query.State a)) (outcome.Failed (error.WriteFault 0)) ∷ [] → ⊥
     other same = absurd (cc)
 returns-clause-no_other_page c (inr (inl is)) =
     other is.told (shows 1 (told is.told ∷ fails ∷ []) unwritten first_resident
     (marked-then 1 (told is.told ∷ []) (fails ∷ []) first_resident is.stated (unwritten ++ first_resident)
-    (marked-call setup 1 (call.State a) (outcome.Done (reply.State is.told)) first_resident is.stated is.state refl)
+    (marked-call setup 1 (call.Query (query.State a)) (outcome.Done (reply.Value (value.State is.told))) first_resident is.stated is.state refl)
     (marked-then 1 [] (fails ∷ []) is.stated is.begun (unwritten ++ first_resident) (marked-idle 1 is.stated is.begun is.idle) (marked-call setup 1 (call.Flush a None) (outcome.Failed (error.WriteFault 0)) is.begun (unwritten ++ first_resident) is.flush refl))))
   where
     other : (state : FileState) → marks 1 unwritten ≡ told state ∷ fails ∷ [] → ⊥

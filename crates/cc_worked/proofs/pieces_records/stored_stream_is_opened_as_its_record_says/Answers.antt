@@ -6,10 +6,12 @@ use Rattle.std.specs.declared.option.Option.TheVariants.{Some, None}
 use Rattle.std.proofs.Common.{ap, arith, inl, inr, subst, sym}
 use Rattle.std.proofs.lemmas.Option.{same_Some}
 use Rattle.cc_entry.specs.declared.call.Call.TheVariants as call
+use Rattle.cc_entry.specs.declared.query.Query.TheVariants as query
 use Rattle.cc_entry.specs.declared.error.CcError.{CcError}
 use Rattle.cc_entry.specs.declared.error.CcError.TheVariants as error
 use Rattle.cc_entry.specs.declared.place.FileState.{FileState}
 use Rattle.cc_entry.specs.declared.reply.Reply.TheVariants as reply
+use Rattle.cc_entry.specs.declared.query.Value.TheVariants as value
 use Rattle.cc_entry.specs.declared.reply.Outcome.TheVariants as outcome
 use Rattle.cc_entry.specs.declared.answer.Answer.TheVariants as answer
 use Rattle.cc_entry.specs.declared.entry.End.TheVariants as how
@@ -68,7 +70,7 @@ its_opening = ends_done 0 1 (Some 0) initialises reply.Unit [] [] (begins 0 init
 its_migration : SettleLeft first_versions 0 (first_object_of 0) (Ok two_full) opens migrates
 unfolding computed
 its_migration =
-    let stated = answers 0 2 (call.State a) (reply.State two_full) ∷ opens in
+    let stated = answers 0 2 (call.Query (query.State a)) (reply.Value (value.State two_full)) ∷ opens in
     let written = entry.Record 0 0 8192 8192 how.Good ∷ opens_and_flushes in
     record {
       told = two_full;
@@ -76,7 +78,7 @@ its_migration =
       flushed = opens_and_flushes;
       has_flushed = record {
         stated = stated;
-        state = ends_done 0 2 (Some 0) (call.State a) (reply.State two_full) opens opens (begins 0 (call.State a) opens) refl (λ during. tt);
+        state = ends_done 0 2 (Some 0) (call.Query (query.State a)) (reply.Value (value.State two_full)) opens opens (begins 0 (call.Query (query.State a)) opens) refl (λ during. tt);
         idle = idle-none 0 stated;
         flush = done_by 0 3 (Some 0) (call.Flush a None) reply.Unit (synced 0 ∷ []) stated (record { each = ((λ is. (refl, some-begin (λ moment. is_admitted (call.Flush a None) 0 moment ≡ true) [] stated refl)), tt); one_sync = omega arith; whole = refl }) refl refl (record { after = []; before = []; split = refl; quiet = tt; settled = refl });
       };

@@ -3,6 +3,7 @@ use Rattle.std.specs.Prelude.{◌≡◌, List, [], ◌∷◌, ◌++◌, true, Ok
 use Rattle.std.specs.declared.option.Option.TheVariants.{Some, None}
 use Rattle.std.proofs.Common.{arith, inl, inr}
 use Rattle.cc_entry.specs.declared.call.Call.TheVariants as call
+use Rattle.cc_entry.specs.declared.query.Query.TheVariants as query
 use Rattle.cc_entry.specs.declared.reply.Reply.TheVariants as reply
 use Rattle.cc_entry.specs.declared.reply.Outcome.TheVariants as outcome
 use Rattle.cc_entry.specs.declared.entry.Entry.{Entry}
@@ -20,12 +21,12 @@ use Rattle.cc_worked.proofs.StateAsked.{state-told}
 use Rattle.cc_worked.proofs.pieces_restarts.checkpoint_makes_its_calls.Goals as goal
 
 tabled : List Entry
-tabled = entry.Call 1 1 None (call.DirtyPages 0) (outcome.Done (reply.Rows (first_dirty ∷ []))) ∷ logged 8192
+tabled = entry.Call 1 1 None (call.Query (query.DirtyPages 0)) (outcome.Done (reply.Rows (first_dirty ∷ []))) ∷ logged 8192
 
-its_table : CallLeft setup 1 (call.DirtyPages 0) (outcome.Done (reply.Rows (first_dirty ∷ []))) (logged 8192) tabled
+its_table : CallLeft setup 1 (call.Query (query.DirtyPages 0)) (outcome.Done (reply.Rows (first_dirty ∷ []))) (logged 8192) tabled
 unfolding computed tabled
 its_table =
-    ends_done 1 1 None (call.DirtyPages 0) (reply.Rows (first_dirty ∷ [])) (logged 8192) (logged 8192) (begins 1 (call.DirtyPages 0) (logged 8192)) refl (λ during. tt)
+    ends_done 1 1 None (call.Query (query.DirtyPages 0)) (reply.Rows (first_dirty ∷ [])) (logged 8192) (logged 8192) (begins 1 (call.Query (query.DirtyPages 0)) (logged 8192)) refl (λ during. tt)
 
 its_states : StatesAsked setup 1 0 1 (0 ∷ []) tabled (checkpoint_asks ++ logged 8192)
 unfolding computed tabled

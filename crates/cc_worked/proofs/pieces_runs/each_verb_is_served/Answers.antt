@@ -4,8 +4,10 @@ use Rattle.std.specs.declared.option.Option.TheVariants.{Some, None}
 use Rattle.std.proofs.Common.{arith, ap, inl}
 use Rattle.cc_entry.specs.declared.call.Call.{Call}
 use Rattle.cc_entry.specs.declared.call.Call.TheVariants as call
+use Rattle.cc_entry.specs.declared.query.Query.TheVariants as query
 use Rattle.cc_entry.specs.declared.reply.Reply.{Reply}
 use Rattle.cc_entry.specs.declared.reply.Reply.TheVariants as reply
+use Rattle.cc_entry.specs.declared.query.Value.TheVariants as value
 use Rattle.cc_entry.specs.declared.reply.Outcome.TheVariants as outcome
 use Rattle.cc_entry.specs.declared.entry.Entry.{Entry}
 use Rattle.cc_entry.specs.declared.entry.Entry.TheVariants as entry
@@ -47,7 +49,7 @@ returns-clause-flushed c = record {
 
 pub returns-clause-asked_dirty : goal.returns-clause-asked_dirty
 returns-clause-asked_dirty c =
-    ends_done 1 1 None call.IsDirtyData (reply.Flag false) first_resident first_resident (begins 1 call.IsDirtyData first_resident) refl (λ during. tt)
+    ends_done 1 1 None (call.Query query.IsDirtyData) (reply.Value (value.Flag false)) first_resident first_resident (begins 1 (call.Query query.IsDirtyData) first_resident) refl (λ during. tt)
 
 pub returns-clause-log_set : goal.returns-clause-log_set
 returns-clause-log_set c =
@@ -66,7 +68,7 @@ returns-clause-opened_again c =
 
 pub returns-clause-closed : goal.returns-clause-closed
 returns-clause-closed c =
-    ends_done 1 1 (Some 0) (call.Uninitialise a (Some 0)) (reply.Flag false) first_resident first_resident (begins 1 (call.Uninitialise a (Some 0)) first_resident) refl (λ during. tt)
+    ends_done 1 1 (Some 0) (call.Uninitialise a (Some 0)) (reply.Value (value.Flag false)) first_resident first_resident (begins 1 (call.Uninitialise a (Some 0)) first_resident) refl (λ during. tt)
 
 pub returns-clause-purged : goal.returns-clause-purged
 returns-clause-purged c =
@@ -122,15 +124,15 @@ returns-clause-no_other_span c left = other (one_call (call.Flush a None) reply.
     other same = absurd (cc)
 
 pub returns-clause-no_other_file : goal.returns-clause-no_other_file
-returns-clause-no_other_file c left = other (one_call (call.State a) (reply.State two_full) (answers 1 1 (call.State second) (reply.State two_full) ∷ []) left)
+returns-clause-no_other_file c left = other (one_call (call.Query (query.State a)) (reply.Value (value.State two_full)) (answers 1 1 (call.Query (query.State second)) (reply.Value (value.State two_full)) ∷ []) left)
   where
-    other : Ended (call.State second) (outcome.Done (reply.State two_full)) ∷ [] ≡ Ended (call.State a) (outcome.Done (reply.State two_full)) ∷ [] → ⊥
+    other : Ended (call.Query (query.State second)) (outcome.Done (reply.Value (value.State two_full))) ∷ [] ≡ Ended (call.Query (query.State a)) (outcome.Done (reply.Value (value.State two_full))) ∷ [] → ⊥
     other same = let file : second ≡ a = cc in let object : ◌≡◌ {A = ℕ} 1 0 = ap (λ f. f.object) file in omega (arith, object)
 
 pub returns-clause-no_other_truncate : goal.returns-clause-no_other_truncate
-returns-clause-no_other_truncate c left = other (one_call (call.Uninitialise a None) (reply.Flag false) (answers 1 1 (call.Uninitialise a (Some 0)) (reply.Flag false) ∷ []) left)
+returns-clause-no_other_truncate c left = other (one_call (call.Uninitialise a None) (reply.Value (value.Flag false)) (answers 1 1 (call.Uninitialise a (Some 0)) (reply.Value (value.Flag false)) ∷ []) left)
   where
-    other : Ended (call.Uninitialise a (Some 0)) (outcome.Done (reply.Flag false)) ∷ [] ≡ Ended (call.Uninitialise a None) (outcome.Done (reply.Flag false)) ∷ [] → ⊥
+    other : Ended (call.Uninitialise a (Some 0)) (outcome.Done (reply.Value (value.Flag false))) ∷ [] ≡ Ended (call.Uninitialise a None) (outcome.Done (reply.Value (value.Flag false))) ∷ [] → ⊥
     other same = absurd (cc)
 
 pub returns-clause-purge_is_no_flush : goal.returns-clause-purge_is_no_flush

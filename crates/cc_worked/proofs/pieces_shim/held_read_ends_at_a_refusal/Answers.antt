@@ -4,6 +4,7 @@ use Rattle.std.specs.declared.option.Option.TheVariants.{Some, None}
 use Rattle.std.proofs.Common.{inl, inr, arith}
 use Rattle.cc_entry.specs.declared.place.FileState.{FileState}
 use Rattle.cc_entry.specs.declared.call.Call.TheVariants as call
+use Rattle.cc_entry.specs.declared.query.Query.TheVariants as query
 use Rattle.cc_entry.specs.declared.error.CcError.{CcError}
 use Rattle.cc_entry.specs.declared.error.CcError.TheVariants as error
 use Rattle.cc_entry.specs.declared.reply.Reply.TheVariants as reply
@@ -59,11 +60,11 @@ returns-clause-noncached c =
     (0, (omega arith, (refl, inl (ends_refused 1 1 (Some 0) (call.NcRead a 0) error.NotCached [] [] (begins 1 (call.NcRead a 0) []) refl refl))))
 
 -- what a read leaves after the question was answered so
-after_question : (e : CcError) (at size : ℕ) (rest : List Mark) → (told_state a (whole size) ∷ rest ≡ (if leaves_entry (outcome.Failed e) then Ended (call.State a) (outcome.Failed e) ∷ [] else [])) ⊎ ((state : FileState) × (its : List Mark) × (told_state a (whole size) ∷ rest ≡ told_state a state ∷ its) × CutPartsMarks (mapped_path a) (parts_of (cut_range state.sizes.size at 2)) e its) → CutPartsMarks (mapped_path a) (parts_of (cut_range size at 2)) e rest
+after_question : (e : CcError) (at size : ℕ) (rest : List Mark) → (told_state a (whole size) ∷ rest ≡ (if leaves_entry (outcome.Failed e) then Ended (call.Query (query.State a)) (outcome.Failed e) ∷ [] else [])) ⊎ ((state : FileState) × (its : List Mark) × (told_state a (whole size) ∷ rest ≡ told_state a state ∷ its) × CutPartsMarks (mapped_path a) (parts_of (cut_range state.sizes.size at 2)) e its) → CutPartsMarks (mapped_path a) (parts_of (cut_range size at 2)) e rest
 unfolding whole
 after_question e at size rest (inl same) = absurd (by (leaves_entry (outcome.Failed e)) same)
   where
-    by : (leaves : Bool) → told_state a (whole size) ∷ rest ≡ (if leaves then Ended (call.State a) (outcome.Failed e) ∷ [] else []) → ⊥
+    by : (leaves : Bool) → told_state a (whole size) ∷ rest ≡ (if leaves then Ended (call.Query (query.State a)) (outcome.Failed e) ∷ [] else []) → ⊥
     by true same = absurd (cc)
     by false same = absurd (cc)
 after_question e at size rest (inr told) =
@@ -110,6 +111,6 @@ pub returns-clause-any_place : goal.returns-clause-any_place
 returns-clause-any_place c left =
     none (refused-parts-shown setup 1 a (mapped_path a) parts_of 1 4096 error.Unaligned [] two_pages left)
   where
-    none : ([] ≡ Ended (call.State a) (outcome.Failed error.Unaligned) ∷ []) ⊎ ((state : FileState) × (rest : List Mark) × ([] ≡ told_state a state ∷ rest) × CutPartsMarks (mapped_path a) (parts_of (cut_range state.sizes.size 1 4096)) error.Unaligned rest) → ⊥
+    none : ([] ≡ Ended (call.Query (query.State a)) (outcome.Failed error.Unaligned) ∷ []) ⊎ ((state : FileState) × (rest : List Mark) × ([] ≡ told_state a state ∷ rest) × CutPartsMarks (mapped_path a) (parts_of (cut_range state.sizes.size 1 4096)) error.Unaligned rest) → ⊥
     none (inl same) = absurd (cc)
     none (inr told) = absurd (cc (told.2))

@@ -6,9 +6,11 @@ use Rattle.std.proofs.Common.{arith, inl, inr, ap}
 use Rattle.std.proofs.lemmas.List.{length-append}
 use Rattle.cc_entry.specs.declared.place.FileState.{FileState}
 use Rattle.cc_entry.specs.declared.call.Call.TheVariants as call
+use Rattle.cc_entry.specs.declared.query.Query.TheVariants as query
 use Rattle.cc_entry.specs.declared.error.CcError.{CcError}
 use Rattle.cc_entry.specs.declared.error.CcError.TheVariants as error
 use Rattle.cc_entry.specs.declared.reply.Reply.TheVariants as reply
+use Rattle.cc_entry.specs.declared.query.Value.TheVariants as value
 use Rattle.cc_entry.specs.declared.reply.Outcome.TheVariants as outcome
 use Rattle.cc_entry.specs.declared.entry.Entry.{Entry}
 use Rattle.cc_entry.specs.declared.entry.Entry.TheVariants as entry
@@ -45,7 +47,7 @@ its_pin old admitted reached =
 
 asked : (state : FileState) (old : List Entry) → List Entry
 unfolding pinned_on
-asked state old = answers 1 2 (call.State a) (reply.State state) ∷ pinned_on old
+asked state old = answers 1 2 (call.Query (query.State a)) (reply.Value (value.State state)) ∷ pinned_on old
 
 its_end : (old : List Entry) → serves 1 (λ its_kind. true) (hold_at (holds_of (stream_history old (Some 0))) 1) ≡ true → CallLeft setup 1 (call.EndHold 1) (outcome.Done reply.Unit) old (done 1 3 (call.EndHold 1) ∷ old)
 its_end old serving =
@@ -69,7 +71,7 @@ unfolding computed
 returns-clause-behind_valid c =
     let its = call.PinRead a 4097 1 true in
     let pinned = answers 1 1 its (reply.Hold 1) ∷ entry.PageIn 1 (page 1) false ∷ logged 4096 in
-    let told = answers 1 2 (call.State a) (reply.State (logged_state 4096)) ∷ pinned in
+    let told = answers 1 2 (call.Query (query.State a)) (reply.Value (value.State (logged_state 4096))) ∷ pinned in
     inr (
       1,
       pinned,

@@ -3,6 +3,7 @@ use Rattle.std.specs.Prelude.{◌≡◌, Bool, true, false, List, [], ◌∷◌,
 use Rattle.std.specs.declared.option.Option.TheVariants.{Some}
 use Rattle.std.proofs.Common.{arith, inl, inr}
 use Rattle.cc_entry.specs.declared.call.Call.TheVariants as call
+use Rattle.cc_entry.specs.declared.query.Query.TheVariants as query
 use Rattle.cc_entry.specs.declared.error.CcError.{CcError}
 use Rattle.cc_entry.specs.declared.error.CcError.TheVariants as error
 use Rattle.cc_entry.specs.declared.reply.Reply.TheVariants as reply
@@ -35,13 +36,13 @@ returns-clause-refused c =
 pub returns-clause-not_asked : goal.returns-clause-not_asked
 unfolding computed
 returns-clause-not_asked c =
-    inl (error.NotCached, refl, inl (ends_refused 1 1 (Some 0) (call.State a) error.NotCached [] [] (begins 1 (call.State a) []) refl refl))
+    inl (error.NotCached, refl, inl (ends_refused 1 1 (Some 0) (call.Query (query.State a)) error.NotCached [] [] (begins 1 (call.Query (query.State a)) []) refl refl))
 
 -- after the question stands the refusal alone, and it is the answer
 after : (e : CcError) (rest : List Mark) → RefusedMarks a 8192 (171 ∷ []) e (told_state a one_page_valid ∷ Ended extends (outcome.Failed (error.Held 1)) ∷ rest) → (rest ≡ []) × (e ≡ error.Held 1)
 after e rest (inl same) = by (leaves_entry (outcome.Failed e)) same
   where
-    by : (leaves : Bool) → told_state a one_page_valid ∷ Ended extends (outcome.Failed (error.Held 1)) ∷ rest ≡ (if leaves then Ended (call.State a) (outcome.Failed e) ∷ [] else []) → (rest ≡ []) × (e ≡ error.Held 1)
+    by : (leaves : Bool) → told_state a one_page_valid ∷ Ended extends (outcome.Failed (error.Held 1)) ∷ rest ≡ (if leaves then Ended (call.Query (query.State a)) (outcome.Failed e) ∷ [] else []) → (rest ≡ []) × (e ≡ error.Held 1)
     by true same = absurd (cc)
     by false same = absurd (cc)
 after e rest (inr told) =
