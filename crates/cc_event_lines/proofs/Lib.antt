@@ -2,6 +2,7 @@
 pub mod Happened
 pub mod Quiet
 pub mod NameSteps
+pub mod NewestSteps
 pub mod Doings
 pub mod Lists
 pub mod RoutineSteps

@@ -1,4 +1,4 @@
--- Lists as loops leave them: gone over from the front, and taken from the end.
+-- Lists as loops leave them: taken from the end.
 use Rattle.std.specs.Prelude.{◌≡◌, ℕ, zero, suc, ◌+◌, ◌<◌, ◌≤◌, Bool, true, false, List, [], ◌∷◌, ◌++◌, get_or, length, map, position, reverse, slice_set, refl, ◌⊎◌}
 use Rattle.std.specs.declared.option.Option.{Option}
 use Rattle.std.specs.declared.option.Option.TheVariants.{Some, None}
@@ -8,56 +8,6 @@ use Rattle.std.proofs.lemmas.Iterator.Adapters.{position_from-zero}
 use Rattle.std.proofs.lemmas.List.{reverse-append}
 use Rattle.cc_event_lines.specs.Routines.{RoutinesState, all_back, and_here, come_back, here, waits_for}
 use Rattle.cc_event_lines.specs.declared.routines.RoutineSlot.{RoutineSlot}
-
--- a list of which a function went over so many
-abbrev pub gone : {A : Type 0} → (A → A) → ℕ → List A → List A
-gone f zero xs = xs
-gone f (suc n) [] = []
-gone f (suc n) (x ∷ xs) = f x ∷ gone f n xs
-
-pub gone-none : {A : Type 0} (f : A → A) (xs : List A) → gone f 0 xs ≡ xs
-gone-none f xs = refl
-
-pub gone-read : {A : Type 0} (f : A → A) (n : ℕ) (xs : List A) (d : A) → get_or (gone f n xs) n d ≡ get_or xs n d
-gone-read f zero xs d = refl
-gone-read f (suc n) [] d = refl
-gone-read f (suc n) (x ∷ xs) d = gone-read f n xs d
-
-pub gone-more : {A : Type 0} (f : A → A) (n : ℕ) (xs : List A) (d : A) → n < length xs → slice_set (gone f n xs) n (f (get_or xs n d)) ≡ gone f (suc n) xs
-gone-more f zero [] d within = absurd (omega arith)
-gone-more f zero (x ∷ xs) d within = refl
-gone-more f (suc n) [] d within = absurd (omega arith)
-gone-more f (suc n) (x ∷ xs) d within = ap (λ ys. f x ∷ ys) (gone-more f n xs d (omega arith))
-
-pub gone-same : {A : Type 0} (f : A → A) (n : ℕ) (xs : List A) (d : A) → n < length xs → f (get_or xs n d) ≡ get_or xs n d → gone f n xs ≡ gone f (suc n) xs
-gone-same f zero [] d within same = absurd (omega arith)
-gone-same f zero (x ∷ xs) d within same = ap (λ y. y ∷ xs) (sym same)
-gone-same f (suc n) [] d within same = absurd (omega arith)
-gone-same f (suc n) (x ∷ xs) d within same = ap (λ ys. f x ∷ ys) (gone-same f n xs d (omega arith) same)
-
-pub gone-all : {A : Type 0} (f : A → A) (n : ℕ) (xs : List A) → length xs ≤ n → gone f n xs ≡ map f xs
-gone-all f zero [] within = refl
-gone-all f zero (x ∷ xs) within = absurd (omega arith)
-gone-all f (suc n) [] within = refl
-gone-all f (suc n) (x ∷ xs) within = ap (λ ys. f x ∷ ys) (gone-all f n xs (omega arith))
-
-pub gone-step : {A : Type 0} (f : A → A) (n : ℕ) (xs items : List A) (x d : A) → items ≡ gone f n xs → n < length xs → x ≡ f (get_or items n d) → slice_set items n x ≡ gone f (n + 1) xs
-gone-step f n xs items x d is within new =
-    ap (λ ys. slice_set ys n x) is
-    ∙ (ap (λ y. slice_set (gone f n xs) n y) (new ∙ ap f (ap (λ ys. get_or ys n d) is ∙ gone-read f n xs d))
-    ∙ (gone-more f n xs d within ∙ ap (λ (m : ℕ). gone f m xs) (one-on n)))
-  where
-    one-on : (n : ℕ) → suc n ≡ n + 1
-    one-on n = omega arith
-
-map-one : {A B : Type 0} (f : A → B) (xs : List A) (y : A) → map f (xs ++ y ∷ []) ≡ map f xs ++ f y ∷ []
-map-one f [] y = refl
-map-one f (x ∷ xs) y = ap (λ ys. f x ∷ ys) (map-one f xs y)
-
-pub reverse-map : {A B : Type 0} (f : A → B) (xs : List A) → reverse (map f xs) ≡ map f (reverse xs)
-reverse-map f [] = refl
-reverse-map f (x ∷ xs) =
-    reverse-append (f x ∷ []) (map f xs) ∙ (ap (λ ys. ys ++ f x ∷ []) (reverse-map f xs) ∙ (sym (map-one f (reverse xs) x) ∙ ap (map f) (sym (reverse-append (x ∷ []) xs))))
 
 pub reverse-one : {A : Type 0} (xs : List A) (x : A) → reverse (xs ++ x ∷ []) ≡ x ∷ reverse xs
 reverse-one xs x = reverse-append xs (x ∷ [])

@@ -125,11 +125,11 @@ named-follow line told named me = by (hold_told told) refl
         same-after line.action told (bindings_in named me) ∙ ap (λ (t : Answer). after_made (word_made line.action) (word_pinned line.action) t (bindings_in named me)) (held-told told id is) in
         rw after (made-behind line.caller me (word_made line.action) (word_pinned line.action) id named)
 
--- a look-up in the names as they are kept, the oldest first
-pub looked-up : (me word : ℕ) (of_kind : HoldKind → Bool) (named : List NamedHold) (o : Option NamedHold) (number : ℕ) (items kept : List NamedHold) → o ≡ find (is_named_by me number) (reverse items) → number ≡ word → items ≡ kept → reverse kept ≡ named → hold_named (bindings_in named me) word of_kind ≡ id_of_named of_kind o
-looked-up me word of_kind named o number items kept found same-word same-items view =
+-- a look-up of the newest hold that a word names
+pub looked-up : (me word : ℕ) (of_kind : HoldKind → Bool) (named : List NamedHold) (o : Option NamedHold) (number : ℕ) → o ≡ find (is_named_by me number) named → number ≡ word → hold_named (bindings_in named me) word of_kind ≡ id_of_named of_kind o
+looked-up me word of_kind named o number found same-word =
     hold-found me word of_kind named
-    ∙ ap (id_of_named of_kind) (ap (λ (ns : List NamedHold). find (is_named_by me word) ns) (sym view) ∙ (ap (λ (ns : List NamedHold). find (is_named_by me word) (reverse ns)) (sym same-items) ∙ (ap (λ (n : ℕ). find (is_named_by me n) (reverse items)) (sym same-word) ∙ sym found)))
+    ∙ ap (id_of_named of_kind) (ap (λ (n : ℕ). find (is_named_by me n) named) (sym same-word) ∙ sym found)
 
 pub id-kept : (of_kind : HoldKind → Bool) (n : NamedHold) → of_kind n.kind ≡ true → id_of_named of_kind (Some n) ≡ Some n.id
 id-kept of_kind n serves = rw serves refl

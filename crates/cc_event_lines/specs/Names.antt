@@ -1,7 +1,9 @@
 -- What the words of the callers name, as the run keeps it.
-use Rattle.std.specs.Prelude.{ℕ, suc, ◌==◌, ◌&&◌, Bool, List, [], ◌∷◌, map, if◌then◌else◌}
+use Rattle.std.specs.Prelude.{◌≡◌, ℕ, suc, ◌+◌, ◌≤◌, ◌==◌, nat_eq, ◌&&◌, cond, Bool, List, [], ◌∷◌, length, map, if◌then◌else◌}
 use Rattle.std.specs.declared.option.Option.{Option}
 use Rattle.std.specs.declared.option.Option.TheVariants.{Some, None}
+use Rattle.std.specs.List.{find}
+use Rattle.std.specs.Map.{lookup}
 use Rattle.cc_entry.specs.declared.answer.Answer.{Answer}
 use Rattle.cc_entry.specs.declared.answer.Answer.TheVariants as answer
 use Rattle.cc_entry.specs.declared.hold.HoldKind.{HoldKind}
@@ -13,6 +15,8 @@ use Rattle.cc_script.specs.declared.script.Action.TheVariants as action
 use Rattle.cc_script.specs.declared.script.ActionLine.{ActionLine}
 use Rattle.cc_pieces.specs.Bindings.{Binding}
 use Rattle.cc_event_lines.specs.declared.names.NamedHold.{NamedHold}
+use Rattle.cc_event_lines.specs.declared.names.NameChange.{NameChange}
+use Rattle.cc_event_lines.specs.declared.names.NameChange.TheVariants as change
 
 -- the holds that words name, the newest first, and for how many there is room
 pub record NamedHoldsState : Type 0 where
@@ -30,9 +34,37 @@ bindings_in (n ∷ named) me =
 abbrev pub is_named_by : ℕ → ℕ → NamedHold → Bool
 is_named_by me word n = n.caller == me && n.word == word
 
+-- the same hold as a pin
+abbrev pub pinned : NamedHold → NamedHold
+pinned n = record n { kind = kind.Pin }
+
 -- what the word names is a pin
 abbrev pub pinned_by : ℕ → ℕ → NamedHold → NamedHold
-pinned_by me word n = if is_named_by me word n then record n { kind = kind.Pin } else n
+pinned_by me word n = if is_named_by me word n then pinned n else n
+
+-- the holds that words name behind what was done to the names, the newest first
+abbrev pub named_of : List NameChange → List NamedHold
+named_of [] = []
+named_of (change.Names n ∷ past) = n ∷ named_of past
+named_of (change.Pins me word ∷ past) = map (pinned_by me word) (named_of past)
+
+-- holds by the caller and the word that name them
+abbrev pub HoldsByWord : Type 0
+HoldsByWord = List ((ℕ × ℕ) × NamedHold)
+
+-- the hold that a word of a caller names among these
+abbrev pub newest_in : HoldsByWord → ℕ → ℕ → Option NamedHold
+newest_in newest me word = lookup (λ key. nat_eq me key.0 && nat_eq word key.1) newest
+
+-- the same holds but for that which a word of a caller names
+abbrev pub Renames : HoldsByWord → HoldsByWord → ℕ → ℕ → Option NamedHold → Type 0
+Renames old new me word named =
+    (c w : ℕ) → newest_in new c w ≡ cond (nat_eq me c && nat_eq word w) named (newest_in old c w)
+
+-- These are the newest holds that words name, and there is room for those that are still to be named.
+pub record AreNewest (named : List NamedHold) (room : ℕ) (newest : HoldsByWord) (spare : ℕ) : Type 0 where
+  pub found : (me word : ℕ) → newest_in newest me word ≡ find (is_named_by me word) named
+  pub enough : room ≤ length named + spare
 
 -- the word that an action binds, and the kind of hold that it makes
 abbrev pub word_made : Action → Option (ℕ × HoldKind)

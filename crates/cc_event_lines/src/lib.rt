@@ -7,7 +7,7 @@
 //!
 //! `run` takes all the memory that a run needs for its replies, names and routines, and gives all back; `openings` sets the
 //! streams up, `lines` steps through the lines, `doing` says what a line is, `happening` lets one event happen, `names`
-//! keeps what the callers' words name, and `routines` the post routines. The program's call stands above (`cc_run`); below
+//! keeps what the callers' words name, `newest` the newest hold of each word, and `routines` the post routines. The program's call stands above (`cc_run`); below
 //! are the World (`cc_world`), the script (`cc_script`), and how lines and events belong together (`cc_pieces`).
 #![tactic(auto)]
 
@@ -15,6 +15,7 @@ mod doing;
 mod happening;
 mod lines;
 mod names;
+mod newest;
 mod openings;
 mod routines;
 mod run;

@@ -1,13 +1,15 @@
 //! What the words of the callers name.
 
-ghost use Rattle.std.specs.Prelude.{◌≡◌, ◌<◌, ◌≤◌, [], IfOk, length, map, reverse, true};
+ghost use Rattle.std.specs.Prelude.{◌≡◌, ◌∷◌, ◌<◌, ◌≤◌, [], IfOk, length, map, true};
 ghost use Rattle.std.specs.List.{find};
 ghost use Rattle.cc_pieces.specs.Bindings.{hold_named};
 ghost use Rattle.cc_script.specs.HoldWords.{binds, meets};
 ghost use Rattle.cc_event_lines.specs.Names.{bindings_in, hold_told, is_named_by, named_behind, pinned_by, word_made, word_pinned, words_in};
 
+use crate::newest::NewestHolds;
 use cc_entry::{Answer, HoldKind, NoMemory, Reply};
 use cc_script::{Action, ActionLine, HoldWord, Need};
+use cc_traits::PastItems;
 use std::alloc::Global;
 use std::marker::Model;
 
@@ -21,42 +23,33 @@ pub(crate) struct NamedHold {
     pub(crate) kind: HoldKind,
 }
 
-impl NamedHold {
-    // Whether a word of a caller is the one that names it.
-    fn is_named_by(&self, caller: u32, word: usize) -> bool
-        ensures { result ≡ is_named_by caller word self.now }
-    {
-        self.caller == caller && self.word == word
-    }
-
-    // The same as a pin, where the word is the one that names it.
-    fn pinned_by(self, caller: u32, word: usize) -> NamedHold
-        ensures { result ≡ pinned_by caller word self }
-    {
-        if self.is_named_by(caller, word) {
-            NamedHold {
-                kind: HoldKind::Pin,
-                ..self
-            }
-        } else {
-            self
-        }
-    }
+/// What a line does to the names.
+#[derive(Clone, Copy)]
+pub(crate) enum NameChange {
+    /// A word names this hold.
+    Names(NamedHold),
+    /// What a word of a caller names is a pin.
+    Pins { caller: u32, word: usize },
 }
 
-/// The holds that the callers' words name, in the order in which they were made.
+/// The holds that the callers' words name, in the order in which they were made; kept is the newest of each word.
 #[derive(Drop)]
 pub(crate) struct NamedHolds {
-    items: Vec<NamedHold>,
+    newest: NewestHolds,
+    /// For how many words there is room.
+    room: usize,
+    past: PastItems<NameChange>,
 }
 
 impl Model for NamedHolds {
-    ghost use Rattle.std.specs.Prelude.{reverse, vec_capacity};
-    ghost use Rattle.cc_event_lines.specs.Names.{NamedHoldsState};
+    ghost use Rattle.indexmap.specs.IndexMap.{spare};
+    ghost use Rattle.cc_event_lines.specs.Names.{AreNewest, NamedHoldsState, named_of};
 
     ghost Value = { NamedHoldsState };
 
-    ghost view = { λ n. record { named = reverse n.items.items; room = vec_capacity n.items } };
+    ghost view = { λ n. record { named = named_of n.past.noted; room = n.room } };
+
+    ghost invariant = { λ n. AreNewest (named_of n.past.noted) n.room n.newest.holds.entries (spare n.newest.holds) };
 }
 
 impl NamedHolds {
@@ -65,21 +58,30 @@ impl NamedHolds {
         ensures { IfOk result (λ names. (names.named ≡ []) × (words ≤ names.room)) }
     {
         Ok(NamedHolds {
-            items: Vec::with_capacity(alloc, words)?,
+            newest: NewestHolds::with_room(alloc, words)?,
+            room: words,
+            past: PastItems::new(),
         })
     }
 
-    /// The id of the hold that a word of a caller names, where it was made and is of a kind that serves. The newest are
-    /// looked at first.
+    /// The id of the hold that a word of a caller names, where it was made and is of a kind that serves. The newest
+    /// counts.
     pub(crate) fn hold(&self, caller: u32, word: HoldWord, need: Need) -> Option<u64>
         ensures { result ≡ hold_named (bindings_in self.now.named caller) word (meets need) }
     {
-        let named = newest(&self.items, caller, word.number())?;
+        let named = self.newest(caller, word.number())?;
         if serves(named.kind, need) {
             Some(named.id)
         } else {
             None
         }
+    }
+
+    // The newest hold that a word of a caller names.
+    fn newest(&self, caller: u32, word: usize) -> Option<NamedHold>
+        ensures { result ≡ find (is_named_by caller word) self.now.named }
+    {
+        self.newest.of(caller, word)
     }
 
     /// Follows a line that was answered so: a word that it binds names the hold that it was answered, and a map that it
@@ -94,36 +96,33 @@ impl NamedHolds {
             return;
         };
         if let Some((word, kind)) = word_made(&line.action) {
-            self.items.push_reserved(NamedHold {
+            self.name(NamedHold {
                 caller: line.caller,
                 word: word.number(),
                 id,
                 kind,
             });
         } else if let Some(word) = word_pinned(&line.action) {
-            pin(&mut self.items, line.caller, word.number());
+            self.pin(line.caller, word.number());
         }
     }
-}
 
-// The hold that a word of a caller names is a pin from now on.
-fn pin(items: &mut [NamedHold], caller: u32, word: usize)
-    ensures { items.new ≡ map (pinned_by caller word) items.old }
-{
-    for named in items.iter_mut() {
-        *named = named.pinned_by(caller, word);
+    // A word names a hold from now on.
+    fn name(&mut self, named: NamedHold)
+        requires { length self.old.named < self.old.room }
+        ensures { self.new ≡ record self.old { named = named ∷ self.old.named } }
+    {
+        self.past.grow(&NameChange::Names(named));
+        self.newest.name(named);
     }
-}
 
-// The newest hold that a word of a caller names.
-fn newest(items: &[NamedHold], caller: u32, word: usize) -> Option<NamedHold>
-    ensures { result ≡ find (is_named_by caller word) (reverse items.now) }
-{
-    items
-        .iter()
-        .rev()
-        .find(|named| named.is_named_by(caller, word))
-        .copied()
+    // The hold that a word of a caller names is a pin from now on.
+    fn pin(&mut self, caller: u32, word: usize)
+        ensures { self.new ≡ record self.old { named = map (pinned_by caller word) self.old.named } }
+    {
+        self.past.grow(&NameChange::Pins { caller, word });
+        self.newest.pin(caller, word);
+    }
 }
 
 /// How many words lines bind, so that there may be room for all of them at once.

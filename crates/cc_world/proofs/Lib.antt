@@ -22,6 +22,8 @@ pub mod CallSums
 pub mod CallLeft
 pub mod CallReplies
 pub mod StillIn
+pub mod Residing
+pub mod OwnStores
 pub mod Settling
 pub mod CallRows
 pub mod PageBytes

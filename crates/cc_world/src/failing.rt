@@ -11,6 +11,7 @@ ghost use Rattle.cc_effects.specs.Events.{filed_under};
 ghost use Rattle.cc_effects.specs.declared.events.Event.TheVariants as event;
 
 use crate::filed::is_filed;
+use crate::own_store::ends_own_store;
 use crate::rows::StreamRow;
 use crate::told::error_of;
 use cc_book::Book;
@@ -18,7 +19,6 @@ use cc_effects::StepReply;
 use cc_entry::{Call, CcError, NoMemory};
 use cc_journal::Journal;
 use cc_readers::faults::oldest_fault;
-use cc_readers::stores::ends_own_store;
 use cc_traits::PageDisk;
 use std::alloc::Global;
 
@@ -111,9 +111,7 @@ fn ends_store<Q>(book: &Book, journal: &Journal<Q>, pass: u32, call: &Call) -> b
     ensures { result ≡ ends_own_store journal.now.entries pass (Some book.now.stream) call.now }
 {
     match call {
-        Call::NcWrite { page, .. } => {
-            ends_own_store(journal.entries(), pass, book.stream(), *page)
-        }
+        Call::NcWrite { page, .. } => ends_own_store(journal, pass, book.stream(), *page),
         _ => false,
     }
 }

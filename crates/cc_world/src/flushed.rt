@@ -1,6 +1,6 @@
 //! Whether a flush of a span may be done.
 
-ghost use Rattle.std.specs.Prelude.{◌≡◌, ◌<◌, ◌^◌, ℕ, true, reverse, Option, IfOk};
+ghost use Rattle.std.specs.Prelude.{◌≡◌, ◌<◌, ◌^◌, ℕ, true, false, reverse, Option, IfOk};
 ghost use Rattle.std.specs.List.{list_all};
 ghost use Rattle.cc_entry.specs.Place.{Range};
 ghost use Rattle.cc_events.specs.Events.{event_on};
@@ -19,7 +19,7 @@ use std::alloc::Global;
 
 /// Whether a flush by the pass may be done: after its last call there is a good sync of the stream at which each
 /// unwritten touch of a page of the span is later than that call. No span is the whole stream. The dirty page table tells
-/// it, where no page was touched or written since a sync of the pass; else the journal is read.
+/// it, where no page was touched or written since a sync of the pass; else the journal is read, where there is a sync.
 pub(crate) fn is_flushed<Q>(
     alloc: Global,
     journal: &Journal<Q>,
@@ -33,7 +33,11 @@ pub(crate) fn is_flushed<Q>(
     if is_just_flushed(journal, pass, stream, span) {
         return Ok(true);
     }
-    flushed::is_flushed(alloc, journal.entries(), pass, stream, *span)
+    let entries = journal.entries();
+    if !has_synced(entries, pass, stream) {
+        return Ok(false);
+    }
+    flushed::is_flushed(alloc, entries, pass, stream, *span)
 }
 
 // Whether the pass has just synced the stream, with each page of the span settled.
@@ -71,6 +75,24 @@ fn has_just_synced(journal: &[Entry], pass: u32, stream: StreamId) -> bool
         }
         if !rests(last, stream) {
             return false;
+        }
+        left = rest;
+    }
+    false
+}
+
+// Whether the pass synced the stream well after its last call. A flush by it may not be done where it did not.
+fn has_synced(journal: &[Entry], pass: u32, stream: StreamId) -> bool
+    ensures { result ≡ false → (seen : ℕ) (span : Option Range) →
+        synced_after seen (reverse journal.now) pass stream span ≡ false }
+{
+    let mut left = journal;
+    while let Some((last, rest)) = left.split_last() {
+        if is_call_of(last, pass) {
+            return false;
+        }
+        if is_good_sync(last, pass, stream) {
+            return true;
         }
         left = rest;
     }

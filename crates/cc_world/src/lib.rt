@@ -10,8 +10,8 @@
 //! the journal alone, `pages` the tests on a page, `places` how rows are made and given back, and `world` the machine.
 //! `filing` says under which stream a call is filed, and `filed` whether it may be. `calls` has a call on a row, `ends`
 //! how it ends on the book, `replies` what it then answers, `flushed` whether a flush may be done, `copies` a copy of that, `residents` whether a page of a
-//! span is resident, `uncached` a noncached read or store of a page, `page_bytes` its bytes; `failing` has a call that
-//! tells a fault, and `told` the error by which it does. The lines of `steps` (`cc_event_lines`) stand above; below are
+//! span is resident, `uncached` a noncached read or store of a page, `page_bytes` its bytes, `own_store` whether the store
+//! was the pass's last call; `failing` has a call that tells a fault, and `told` the error by which it does. The lines of `steps` (`cc_event_lines`) stand above; below are
 //! the events with their replies and what each leaves (`cc_effects`), the book of a stream (`cc_book`), the journal, the
 //! plain readers of it (`cc_readers`), and the disks (`cc_turns`).
 #![tactic(auto)]
@@ -25,6 +25,7 @@ mod filing;
 mod flushed;
 mod journal;
 mod logs;
+mod own_store;
 mod page_bytes;
 mod pages;
 mod places;

@@ -10,11 +10,12 @@ ghost use Rattle.cc_world.specs.Calls.{IsCallAnswer, CallIsUnrefused, ends_on_bo
 ghost use Rattle.cc_world.specs.Pages.{Says};
 
 use crate::flushed::is_flushed;
+use crate::own_store::ends_own_store;
 use crate::residents::has_resident;
 use cc_book::Book;
 use cc_entry::{Call, NoMemory, Reply, StreamId};
 use cc_journal::Journal;
-use cc_readers::stores::{ends_own_store, is_written_since};
+use cc_readers::stores::is_written_since;
 use cc_step::{absent, reply};
 use std::alloc::Global;
 
@@ -70,8 +71,8 @@ fn may_finish<Q>(journal: &Journal<Q>, pass: u32, stream: StreamId, page: u64) -
     requires { journal.now.capacity < 2 ^ 32 }
     ensures { Says result (MayFinish journal.now.entries pass stream page) }
 {
-    let entries = journal.entries();
-    ends_own_store(entries, pass, stream, page) && is_written_since(entries, pass, stream, page)
+    ends_own_store(journal, pass, stream, page)
+        && is_written_since(journal.entries(), pass, stream, page)
 }
 
 // No answer but that the call is done, where it may end.

@@ -20,4 +20,4 @@ returns-in-Purge g c u un =
     subst (λ (it : Call). IsCallAnswer u past c.args.pass s it c.unit_if-in-Purge.result) (sym c.in-Purge.is)
     (subst (λ (o : Option Reply). IsCallAnswer u past c.args.pass s (call.Purge c.in-Purge.file c.in-Purge.span) o) (sym c.unit_if-in-Purge.ensures)
     (purge-answer u past c.args.pass s c.in-Purge.file c.in-Purge.span c.has_resident.result
-    (c.has_resident.ensures (u.opening s) un.made.stands.stand.stands)))
+    (c.has_resident.ensures u un.made.stands.stand)))

@@ -1,47 +1,25 @@
--- An entry that says so settles the answer; where none does, no page of the span is resident.
-use Rattle.std.specs.Prelude.{◌≡◌, Bool, true, false, ◌||◌, List}
-use Rattle.std.specs.List.{list_any}
-use Rattle.std.proofs.Common.{ap, sym, ◌∙◌, get_or}
-use Rattle.std.proofs.lemmas.List.{take_all}
-use Rattle.std.proofs.lemmas.List.Folds.{list_any_at, list_any_more}
-use Rattle.cc_entry.specs.declared.entry.Entry.{Entry}
-use Rattle.cc_model.specs.History.{history}
-use Rattle.cc_world.specs.Residents.{still_in}
-use Rattle.cc_world.proofs.StillIn.{any-entry}
+-- No page is resident where no block is mapped; else the blocks tell it, or the entries. A resident page is below the size.
+use Rattle.std.specs.Prelude.{◌≡◌, ℕ, ◌/◌, ◌<◌, true}
+use Rattle.std.proofs.Common.{sym, ◌∙◌}
+use Rattle.cc_model.specs.History.{Effect, history}
+use Rattle.cc_model.specs.Residency.{is_resident}
+use Rattle.cc_step.proofs.Below.{resident-below}
+use Rattle.cc_step.proofs.Placed.{so-far}
+use Rattle.cc_world.proofs.Residing.{by-blocks, none-mapped}
 use Rattle.cc_world.proofs.residents.has_resident.Goals as goal
 
-pub returns-then-is_still_in : goal.returns-then-is_still_in
-returns-then-is_still_in g c opening stands =
-    let past = c.args.journal.now.entries in
-    let s = c.args.book.now.stream in
-    let items : List Entry = c.entries-entry-items.result.now in
-    let says : Entry → Bool = still_in (history past s) s c.args.span.now in
-    let it : says (get_or items c.loop-entry.entry-index c.entry-item.result) ≡ true =
-    ap says (sym c.entry-item.is) ∙ (sym (c.is_still_in.ensures opening past stands) ∙ c.if-is_still_in.true) in
-    sym (sym (any-entry past items s c.args.span.now c.entries-entry-items.ensures)
-    ∙ list_any_at says items c.loop-entry.entry-index c.entry-item.result c.loop-entry-test.true it)
+pub returns-then-mapped-eq0 : goal.returns-then-mapped-eq0
+returns-then-mapped-eq0 g c u stand =
+    sym (none-mapped (history c.args.journal.now.entries c.args.book.now.stream) c.args.span.now
+    (sym (c.mapped.ensures (u.opening c.args.book.now.stream) c.args.journal.now.entries stand.stands) ∙ c.if-mapped-eq0.true))
 
-pub loop-entry-preserved : goal.loop-entry-preserved
-loop-entry-preserved g c opening stands =
-    let past = c.args.journal.now.entries in
-    let s = c.args.book.now.stream in
-    let items : List Entry = c.entries-entry-items.result.now in
-    let says : Entry → Bool = still_in (history past s) s c.args.span.now in
-    let it : says (get_or items c.loop-entry.entry-index c.entry-item.result) ≡ false =
-    ap says (sym c.entry-item.is) ∙ (sym (c.is_still_in.ensures opening past stands) ∙ c.if-is_still_in.false) in
-    list_any_more says items c.loop-entry.entry-index c.entry-item.result c.loop-entry-test.true
-    ∙ both-false _ _ (c.loop-entry.invariant opening stands) it
-  where
-    both-false : (a b : Bool) → a ≡ false → b ≡ false → (a || b) ≡ false
-    both-false true b first second = first
-    both-false false b first second = second
+pub returns-then-saturating_sub-len : goal.returns-then-saturating_sub-len
+returns-then-saturating_sub-len g c u stand =
+    by-blocks (history c.args.journal.now.entries c.args.book.now.stream) c.args.span.now c.first_block-first.result c.end_block-end.result c.blocks_have_resident.result
+    (c.blocks_have_resident.ensures (u.opening c.args.book.now.stream) c.args.journal.now.entries stand.stands)
+    c.first_block-first.ensures
+    (λ p has here. c.end_block-end.ensures.behind (u.opening c.args.book.now.stream) c.args.journal.now.entries stand.stands p has
+    (resident-below u c.args.journal.now.entries c.args.book.now.stream p (so-far u c.args.journal.now.entries stand.good) here))
 
-pub returns : goal.returns
-returns g c opening stands =
-    let past = c.args.journal.now.entries in
-    let s = c.args.book.now.stream in
-    let items : List Entry = c.entries-entry-items.result.now in
-    let says : Entry → Bool = still_in (history past s) s c.args.span.now in
-    sym (sym (any-entry past items s c.args.span.now c.entries-entry-items.ensures)
-    ∙ (ap (λ (es : List Entry). list_any says es) (sym (take_all c.loop-entry.entry-index items c.loop-entry-test.false))
-    ∙ c.loop-entry.invariant opening stands))
+pub returns-else-saturating_sub-len : goal.returns-else-saturating_sub-len
+returns-else-saturating_sub-len g c u stand = c.entries_have_resident.ensures (u.opening c.args.book.now.stream) stand.stands

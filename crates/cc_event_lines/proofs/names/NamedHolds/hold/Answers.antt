@@ -6,12 +6,12 @@ use Rattle.cc_event_lines.proofs.names.NamedHolds.hold.Goals as goal
 
 pub returns-in_err-named : goal.returns-in_err-named
 returns-in_err-named c =
-    c.from_residual.ensures ∙ sym (looked-up c.args.caller c.args.word (meets c.args.need) _ c.newest.result c.number.result _ _ (c.newest.ensures) (c.number.ensures) (c.deref.ensures.value) (ap (λ n. n.named) c.self.view_is) ∙ ap (id_of_named (meets c.args.need)) c.in_err-named.was)
+    c.from_residual.ensures ∙ sym (looked-up c.args.caller c.args.word (meets c.args.need) c.args.self.now.named c.newest.result c.number.result c.newest.ensures c.number.ensures ∙ ap (id_of_named (meets c.args.need)) c.in_err-named.was)
 
 pub returns-then-serves : goal.returns-then-serves
 returns-then-serves c =
-    sym (looked-up c.args.caller c.args.word (meets c.args.need) _ c.newest.result c.number.result _ _ (c.newest.ensures) (c.number.ensures) (c.deref.ensures.value) (ap (λ n. n.named) c.self.view_is) ∙ (ap (id_of_named (meets c.args.need)) c.in_ok-named.was ∙ id-kept (meets c.args.need) c.in_ok-named.named (sym c.if-serves.ensures)))
+    sym (looked-up c.args.caller c.args.word (meets c.args.need) c.args.self.now.named c.newest.result c.number.result c.newest.ensures c.number.ensures ∙ (ap (id_of_named (meets c.args.need)) c.in_ok-named.was ∙ id-kept (meets c.args.need) c.in_ok-named.named (sym c.if-serves.ensures)))
 
 pub returns-else-serves : goal.returns-else-serves
 returns-else-serves c =
-    sym (looked-up c.args.caller c.args.word (meets c.args.need) _ c.newest.result c.number.result _ _ (c.newest.ensures) (c.number.ensures) (c.deref.ensures.value) (ap (λ n. n.named) c.self.view_is) ∙ (ap (id_of_named (meets c.args.need)) c.in_ok-named.was ∙ id-lost (meets c.args.need) c.in_ok-named.named (sym c.if-serves.ensures)))
+    sym (looked-up c.args.caller c.args.word (meets c.args.need) c.args.self.now.named c.newest.result c.number.result c.newest.ensures c.number.ensures ∙ (ap (id_of_named (meets c.args.need)) c.in_ok-named.was ∙ id-lost (meets c.args.need) c.in_ok-named.named (sym c.if-serves.ensures)))
