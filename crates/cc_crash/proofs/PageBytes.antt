@@ -22,7 +22,7 @@ use Rattle.cc_model.specs.Touches.{size_of, valid_of, is_dirty}
 use Rattle.cc_laws.proofs.ActSteps.{content_by, content-done}
 use Rattle.cc_laws.proofs.DiskBytes.{on_disk-image, page_bytes-at}
 use Rattle.cc_laws.proofs.ImageSteps.{begun-began_page, begun-began_other, image-ended_good}
-use Rattle.cc_readers.specs.Changes.{change_by}
+use Rattle.cc_crash.specs.Changes.{change_by}
 use Rattle.cc_crash.specs.DiskPages.{LeavesPage, bytes_by, changed_bytes, shown_bytes}
 
 -- two functions that agree on a page tell the same bytes of it

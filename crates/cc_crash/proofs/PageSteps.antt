@@ -27,9 +27,9 @@ use Rattle.cc_model.specs.Ranges.{span_has}
 use Rattle.cc_model.specs.Sizes.{ended_ok}
 use Rattle.cc_model.specs.Touches.{size_of, valid_of, is_dirty}
 use Rattle.cc_laws.proofs.ImageSteps.{begun-began_page, begun-began_other, image-ended_page, image-ended_other, image-ended_good, image-ended_bad, crash_pages-began_page, crash_pages-began_other, crash_pages-synced}
-use Rattle.cc_readers.specs.Effects.{effects, AreSizesOverJournal}
-use Rattle.cc_readers.proofs.ReaderSteps.{effects_back}
-use Rattle.cc_readers.proofs.TouchReads.{entries_next}
+use Rattle.cc_crash.specs.Effects.{effects, AreSizesOverJournal}
+use Rattle.cc_crash.proofs.EffectSteps.{effects_back}
+use Rattle.cc_crash.proofs.TouchSteps.{entries_next}
 use Rattle.cc_crash.specs.declared.steps.Step.{Step}
 use Rattle.cc_crash.specs.declared.steps.Step.TheVariants as step
 use Rattle.cc_crash.specs.DiskPages.{PageState, bytes_by, page_state_of_history, at_first, changes, discards, called, begins, ended_with, ends, syncs, call_of, step_of}

@@ -17,7 +17,7 @@ use Rattle.cc_model.specs.History.{Effect, Did, Began, Ended, Synced}
 use Rattle.cc_model.specs.Images.{begun, image, settled, crash_pages}
 use Rattle.cc_model.specs.Ranges.{span_has}
 use Rattle.cc_model.specs.Sizes.{ended_ok}
-use Rattle.cc_readers.specs.Changes.{change_by}
+use Rattle.cc_crash.specs.Changes.{change_by}
 
 -- Of a page: what the last change or discard gave each byte, or the opening byte; each byte as its last transfer that ended ok
 -- began, or the opening byte; the contents that a crash may leave; what the disk holds for sure, where that is known; and the page

@@ -1,2 +1,4 @@
 -- What the contracts cite.
+pub mod Effects
+pub mod Changes
 pub mod DiskPages

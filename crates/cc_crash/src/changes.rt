@@ -5,7 +5,7 @@ ghost use Rattle.std.specs.Option.{unwrap_or};
 ghost use Rattle.cc_crash.specs.DiskPages.{IsApartFromPage, LeavesPage, changed_bytes, shown_bytes};
 ghost use Rattle.cc_entry.specs.Pages.{has_byte};
 ghost use Rattle.cc_model.specs.Acts.{act_of, Writes, Zeroes, Stores};
-ghost use Rattle.cc_readers.specs.Changes.{change_by};
+ghost use Rattle.cc_crash.specs.Changes.{change_by};
 
 use cc_entry::{Bytes, Call, PageId};
 use cc_events::stored_end;

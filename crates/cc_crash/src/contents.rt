@@ -8,14 +8,14 @@ ghost use Rattle.cc_model.specs.Acts.{act_of};
 ghost use Rattle.cc_model.specs.History.{effect_of};
 ghost use Rattle.cc_model.specs.Images.{crash_pages};
 ghost use Rattle.cc_model.specs.Touches.{is_dirty, size_of};
-ghost use Rattle.cc_readers.specs.Effects.{effects, AreSizesOverJournal};
+ghost use Rattle.cc_crash.specs.Effects.{effects, AreSizesOverJournal};
 
+use crate::dirty::is_unwritten;
 use crate::disk_page::DiskPage;
+use crate::sizes::{sizes, valid_with};
 use crate::steps::{Step, done_call, step_of};
 use cc_entry::{Call, Entry, NoMemory, PageId};
 use cc_events::{StreamEvent, act, span_has};
-use cc_readers::dirty::is_unwritten;
-use cc_readers::sizes::{sizes, valid_with};
 use std::alloc::Global;
 
 /// The contents that a crash may leave of a page, in the order of the definition, over any disk that opened with this page.

@@ -148,8 +148,9 @@ impl<D: PageDisk, L: LogFile, Q: PostRoutine> StepsRun<D, L, Q> {
         self.world.journal()
     }
 
-    /// Gives all back. It takes no memory.
+    /// Gives all back, where the journal is recorded. It takes no memory.
     pub fn end(self) -> StepsEnd<D, L, Q>
+        requires { self.world.begun.capacity < 2 ^ 32 }
         ensures replies { result.replies.items ≡ self.replies }
         ensures journal { reverse result.journal.items ≡ self.world.journal.entries }
         ensures good { IsGood (setup_in (tells_of D.told D.faults L.told L.faults Q.posted) self.world.begun)

@@ -13,7 +13,8 @@ use Rattle.cc_entry.specs.declared.entry.Entry.{Entry}
 use Rattle.cc_entry.specs.declared.reply.Reply.{Reply}
 use Rattle.cc_book.specs.Book.{BookState}
 use Rattle.cc_journal.specs.Journal.{JournalState}
-use Rattle.cc_model.specs.Conditions.{IsFilled, IsReady}
+use Rattle.cc_model.specs.Conditions.{IsFilled, IsReady, MayFinish}
+use Rattle.cc_model.specs.Flushed.{is_flushed}
 use Rattle.cc_model.specs.History.{Effect, history}
 use Rattle.cc_model.specs.Legal.{stream_history}
 use Rattle.cc_model.specs.Ranges.{needs_pages, span_has}
@@ -26,6 +27,7 @@ use Rattle.cc_step.proofs.Placed.{needed-filled}
 use Rattle.cc_step.proofs.Waiting.{needed-range}
 use Rattle.cc_step.specs.Step.{IsReadyFor, is_stepped, least_absent, needed_range}
 use Rattle.cc_world.specs.Calls.{IsCallAnswer, CallIsUnrefused, MayReply, ends_on_book, unit_if}
+use Rattle.cc_world.specs.Pages.{Says}
 use Rattle.cc_effects.specs.Events.{filed_under, reason_of}
 
 -- a range is not filled of which a page is absent
@@ -111,3 +113,16 @@ purge-answer u past pass s file span true is = λ r may. differ (is ∙ may.may_
     differ : true ≡ false → ⊥
     differ e = absurd (cc)
 purge-answer u past pass s file span false is = record { reply_is = refl; may_end = (tt, sym is) }
+
+-- a flush may end that may be done
+pub flush-answer : (u : Setup) (past : List Entry) (pass s : ℕ) (file : File) (span : Option Range) (flushed : Bool) → flushed ≡ is_flushed past pass s span → IsCallAnswer u past pass s (call.Flush file span) (unit_if flushed)
+flush-answer u past pass s file span false is = λ r may. differ (is ∙ may.may_end.1)
+  where
+    differ : false ≡ true → ⊥
+    differ e = absurd (cc)
+flush-answer u past pass s file span true is = record { reply_is = refl; may_end = (tt, sym is) }
+
+-- the end of a noncached write may end whose store is the pass's last call, and written
+pub finish-answer : (u : Setup) (past : List Entry) (pass s : ℕ) (file : File) (page : ℕ) (ends : Bool) → Says ends (MayFinish past pass s page) → IsCallAnswer u past pass s (call.NcWrite file page) (unit_if ends)
+finish-answer u past pass s file page true may = record { reply_is = refl; may_end = (tt, may) }
+finish-answer u past pass s file page false never = λ r may. never may.may_end.1

@@ -69,7 +69,7 @@ module _ {D L Q : Type 0} (tells : Tells D L Q) (w : WorldState D L Q) (stands :
       (row-known w.journal.entries it (length w.begun.disks) s names under.0 (λ none. subst (λ (n : ℕ). s < n) counted (under.1 none)))
 
 -- no hold is open where nothing happened
-none-open : (hold : ℕ) → hold_at (holds_of []) hold ≡ None
+pub none-open : (hold : ℕ) → hold_at (holds_of []) hold ≡ None
 unfolding holds_of
 none-open hold = refl
 

@@ -1,5 +1,5 @@
 -- A World as it begins, and as it ends.
-use Rattle.std.specs.Prelude.{◌≡◌, ℕ, ◌<◌, ◌≤◌, ◌^◌, List, [], length, map, slice_get, Contains}
+use Rattle.std.specs.Prelude.{◌≡◌, ℕ, ◌≤◌, List, [], length, map, slice_get, Contains}
 use Rattle.std.specs.declared.option.Option.{Option}
 use Rattle.std.specs.declared.option.Option.TheVariants.{Some, None}
 use Rattle.std.specs.Option.{option_map}
@@ -96,8 +96,8 @@ new-home tells disks s row new = record {
 }
 
 -- rows over the disks of a setup, logs that were opened, and an empty journal stand
-fresh-stands : {D L Q : Type 0} (tells : Tells D L Q) (setup : Begins D L) (rows : List (StreamRow D)) (logs : List (LogTurnState L)) (j : JournalState Q) → length setup.disks.items ≤ 16 → length setup.logs.items ≤ 4 → capacity_of setup.journal < 2 ^ 32 → IsNew (made_from setup) j → AreAt (length setup.disks.items) (IsNewRow setup.disks.items) rows → AreAt (length setup.logs.items) (LogIsHome tells.log tells.log_faults setup.logs.items []) logs → WorldStands tells (world_of setup rows logs j)
-fresh-stands {D} {L} {Q} tells setup rows logs j few_disks few_logs recorded new rows_are logs_are =
+fresh-stands : {D L Q : Type 0} (tells : Tells D L Q) (setup : Begins D L) (rows : List (StreamRow D)) (logs : List (LogTurnState L)) (j : JournalState Q) → length setup.disks.items ≤ 16 → length setup.logs.items ≤ 4 → IsNew (made_from setup) j → AreAt (length setup.disks.items) (IsNewRow setup.disks.items) rows → AreAt (length setup.logs.items) (LogIsHome tells.log tells.log_faults setup.logs.items []) logs → WorldStands tells (world_of setup rows logs j)
+fresh-stands {D} {L} {Q} tells setup rows logs j few_disks few_logs new rows_are logs_are =
     let empty : j.entries ≡ [] = new.empty.0 in
     record {
       rows = record {
@@ -117,13 +117,13 @@ fresh-stands {D} {L} {Q} tells setup rows logs j few_disks few_logs recorded new
         no_stream = λ s beyond. ap (λ (past : List Entry). history past s) empty ∙ history-none s;
         within = subst (λ (past : List Entry). IsWithinCapacity (capacity_of setup.journal) past) (sym empty) (within_none (capacity_of setup.journal));
       };
-      few = (few_disks, few_logs, recorded);
+      few = (few_disks, few_logs);
     }
 
-pub fresh-world : {D L Q : Type 0} (tells : Tells D L Q) (setup made : Begins D L) (rows : List (StreamRow D)) (logs : List (LogTurnState L)) (j : JournalState Q) (disk_room : List D) (log_room : List L) (disks_most logs_most : ℕ) → made ≡ setup → length setup.disks.items ≤ 16 → length setup.logs.items ≤ 4 → capacity_of setup.journal < 2 ^ 32 → IsNew (made_from setup) j → AreAt (length setup.disks.items) (IsNewRow setup.disks.items) rows → AreAt (length setup.logs.items) (LogIsHome tells.log tells.log_faults setup.logs.items []) logs → IsRoomFor (length setup.disks.items) disk_room disks_most → IsRoomFor (length setup.logs.items) log_room logs_most → WorldStands tells (world_of made rows logs j) × IsRoomFor (length made.disks.items) disk_room disks_most × IsRoomFor (length made.logs.items) log_room logs_most
-fresh-world {D} {L} {Q} tells setup made rows logs j disk_room log_room disks_most logs_most is few_disks few_logs recorded new rows_are logs_are room log_space =
+pub fresh-world : {D L Q : Type 0} (tells : Tells D L Q) (setup made : Begins D L) (rows : List (StreamRow D)) (logs : List (LogTurnState L)) (j : JournalState Q) (disk_room : List D) (log_room : List L) (disks_most logs_most : ℕ) → made ≡ setup → length setup.disks.items ≤ 16 → length setup.logs.items ≤ 4 → IsNew (made_from setup) j → AreAt (length setup.disks.items) (IsNewRow setup.disks.items) rows → AreAt (length setup.logs.items) (LogIsHome tells.log tells.log_faults setup.logs.items []) logs → IsRoomFor (length setup.disks.items) disk_room disks_most → IsRoomFor (length setup.logs.items) log_room logs_most → WorldStands tells (world_of made rows logs j) × IsRoomFor (length made.disks.items) disk_room disks_most × IsRoomFor (length made.logs.items) log_room logs_most
+fresh-world {D} {L} {Q} tells setup made rows logs j disk_room log_room disks_most logs_most is few_disks few_logs new rows_are logs_are room log_space =
     subst (λ (s : Begins D L). WorldStands tells (world_of s rows logs j) × IsRoomFor (length s.disks.items) disk_room disks_most × IsRoomFor (length s.logs.items) log_room logs_most) (sym is)
-    (fresh-stands tells setup rows logs j few_disks few_logs recorded new rows_are logs_are, room, log_space)
+    (fresh-stands tells setup rows logs j few_disks few_logs new rows_are logs_are, room, log_space)
 
 -- what the disks are that a World gives back, and the logs
 pub row-at : {D : Type 0} (o : Option (StreamRow D)) (disk : D) → Some disk ≡ option_map (λ (row : StreamRow D). row.disk) o → (row : StreamRow D) × (o ≡ Some row) × (row.disk ≡ disk)

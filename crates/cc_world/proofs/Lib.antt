@@ -4,7 +4,7 @@ pub mod Owing
 pub mod Open
 pub mod Quiet
 pub mod Belonging
-pub mod Blocks
+pub mod MappedWith
 pub mod Tests
 pub mod Standing
 pub mod Filling
@@ -21,10 +21,14 @@ pub mod CallGood
 pub mod CallSums
 pub mod CallLeft
 pub mod CallReplies
-pub mod StillIn
 pub mod Residing
-pub mod OwnStores
-pub mod Settling
+pub mod PassRows
+pub mod Synced
+pub mod SyncRows
+pub mod BlockRows
+pub mod Growth
+pub mod Wanting
+pub mod Following
 pub mod CallRows
 pub mod PageBytes
 pub mod Stores

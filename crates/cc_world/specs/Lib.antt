@@ -11,6 +11,10 @@ pub mod Crash
 pub mod Calls
 pub mod Residents
 pub mod HoldUses
+pub mod Faults
 pub mod Failing
-pub mod Settled
+pub mod Passes
+pub mod Syncs
+pub mod Blocks
+pub mod Notes
 pub mod Uncached

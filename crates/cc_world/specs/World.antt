@@ -1,5 +1,5 @@
 -- The World as contracts see it, what it keeps, and what an event leaves of it.
-use Rattle.std.specs.Prelude.{◌≡◌, ℕ, ◌+◌, ◌<◌, ◌≤◌, ◌^◌, List, [], ◌∷◌, length, slice_get, slice_set, vec_capacity}
+use Rattle.std.specs.Prelude.{◌≡◌, ℕ, ◌+◌, ◌<◌, ◌≤◌, List, [], ◌∷◌, length, slice_get, slice_set, vec_capacity}
 use Rattle.std.specs.declared.option.Option.{Option}
 use Rattle.std.specs.declared.option.Option.TheVariants.{Some, None}
 use Rattle.cc_entry.specs.declared.entry.Entry.{Entry}
@@ -25,7 +25,7 @@ use Rattle.cc_effects.specs.declared.events.StepReply.{StepReply}
 use Rattle.cc_effects.specs.declared.events.StepReply.TheVariants as step
 use Rattle.cc_world.specs.declared.rows.BegunTransfer.{BegunTransfer}
 use Rattle.cc_world.specs.declared.rows.StreamRow.{StreamRow}
-use Rattle.cc_world.specs.declared.world.Rows.{Rows}
+use Rattle.cc_world.specs.declared.machine.Rows.{Rows}
 use Rattle.cc_turns.specs.Slots.{setup_in}
 
 -- The World: what the run was made from, a row for each stream, the logs, and the journal.
@@ -68,7 +68,7 @@ pub record WorldStands {D L Q : Type 0} (tells : Tells D L Q) (w : WorldState D 
   pub rows : AreAt (length w.begun.disks) (RowIsHome tells w.begun.disks w.journal.entries) w.rows
   pub logs : AreAt (length w.begun.logs) (LogIsHome tells.log tells.log_faults w.begun.logs w.journal.entries) w.logs
   pub journal : JournalRests tells w.begun w.journal
-  pub few : (length w.begun.disks ≤ 16) × (length w.begun.logs ≤ 4) × (w.begun.capacity < 2 ^ 32)
+  pub few : (length w.begun.disks ≤ 16) × (length w.begun.logs ≤ 4)
 
 -- The book of a stream of which nothing happened yet.
 pub record IsNewBook (s : ℕ) (book : BookState) : Type 0 where

@@ -1,6 +1,6 @@
 //! A call that ends on the book of its stream and the journal: it is refused, or done, or may not end now.
 
-ghost use Rattle.std.specs.Prelude.{◌≡◌, ◌<◌, ◌^◌, ℕ, List, [], ◌∷◌, Option, None, Some, true, IfOk, OnErr, OnOk};
+ghost use Rattle.std.specs.Prelude.{◌≡◌, ℕ, List, [], ◌∷◌, Option, None, Some, true, IfOk, OnErr, OnOk};
 ghost use Rattle.cc_entry.specs.declared.entry.Entry.{Entry};
 ghost use Rattle.cc_entry.specs.declared.reply.Outcome.TheVariants as outcome;
 ghost use Rattle.cc_book.specs.Book.{BookStands, Stays};
@@ -9,11 +9,13 @@ ghost use Rattle.cc_model.specs.Holds.{holds_of};
 ghost use Rattle.cc_model.specs.Images.{open_of};
 ghost use Rattle.cc_model.specs.Setup.{Setup};
 ghost use Rattle.cc_world.specs.Calls.{CallEventLeft, CallWent, IsFiledOn, CallIsMade, CallIsRefusedSo, IsReplied, CallIsUnrefused, CallPlacingLeft, asked_on, asked_ready, ends_on_book, spared_on};
+ghost use Rattle.cc_world.specs.Notes.{NotesStand};
 ghost use Rattle.cc_world.specs.Pages.{Says};
 ghost use Rattle.cc_effects.specs.Events.{call_entry, reason_of};
 
 use crate::copies::copy_of;
 use crate::filed::is_filed;
+use crate::notes::Notes;
 use crate::replies::reply_now;
 use cc_book::Book;
 use cc_effects::StepReply;
@@ -28,13 +30,14 @@ pub(crate) fn end_call<Q>(
     alloc: Global,
     book: &mut Book,
     journal: &mut Journal<Q>,
+    notes: &Notes,
     pass: u32,
     call: Call,
     resting: bool,
 ) -> StepReply<Q>
     requires made { (u : Setup) × CallIsMade u 0 call book.old journal.old }
     requires on_book { ends_on_book call ≡ true }
-    requires recorded { journal.old.capacity < 2 ^ 32 }
+    requires notes { NotesStand journal.old.entries notes.now }
     requires resting { Says resting (open_of (history journal.old.entries book.old.stream) ≡ None) }
     ensures { (u : Setup) → CallIsMade u 0 call book.old journal.old →
         CallEventLeft u pass call result book.old book.new journal.old journal.new }
@@ -42,7 +45,7 @@ pub(crate) fn end_call<Q>(
     if !is_filed(book, pass, &call) {
         return StepReply::NotNow;
     }
-    end_filed(alloc, book, journal, pass, call, resting)
+    end_filed(alloc, book, journal, notes, pass, call, resting)
 }
 
 // Ends a call that may be filed under the book's stream.
@@ -50,20 +53,21 @@ fn end_filed<Q>(
     alloc: Global,
     book: &mut Book,
     journal: &mut Journal<Q>,
+    notes: &Notes,
     pass: u32,
     call: Call,
     resting: bool,
 ) -> StepReply<Q>
     requires made { (u : Setup) × CallIsMade u 0 call book.old journal.old }
     requires on_book { ends_on_book call ≡ true }
-    requires recorded { journal.old.capacity < 2 ^ 32 }
+    requires notes { NotesStand journal.old.entries notes.now }
     requires filed { IsFiledOn journal.old.entries pass book.old.stream call }
     requires resting { Says resting (open_of (history journal.old.entries book.old.stream) ≡ None) }
     ensures { (u : Setup) → CallIsMade u 0 call book.old journal.old →
         CallEventLeft u pass call result book.old book.new journal.old journal.new }
 {
     match reason(alloc, book, journal, &call) {
-        Ok(None) => admit(alloc, book, journal, pass, call, resting),
+        Ok(None) => admit(alloc, book, journal, notes, pass, call, resting),
         Ok(Some(error)) => refuse(book, journal, pass, call, error),
         Err(NoMemory) => StepReply::Refused(CcError::NoMemory),
     }
@@ -113,18 +117,19 @@ fn admit<Q>(
     alloc: Global,
     book: &mut Book,
     journal: &mut Journal<Q>,
+    notes: &Notes,
     pass: u32,
     call: Call,
     resting: bool,
 ) -> StepReply<Q>
     requires unrefused { (u : Setup) × CallIsUnrefused u 0 pass call book.old journal.old }
     requires on_book { ends_on_book call ≡ true }
-    requires recorded { journal.old.capacity < 2 ^ 32 }
+    requires notes { NotesStand journal.old.entries notes.now }
     requires resting { Says resting (open_of (history journal.old.entries book.old.stream) ≡ None) }
     ensures { (u : Setup) → CallIsUnrefused u 0 pass call book.old journal.old →
         CallEventLeft u pass call result book.old book.new journal.old journal.new }
 {
-    match reply_now(alloc, book, journal, pass, &call, resting) {
+    match reply_now(alloc, book, journal, notes, pass, &call, resting) {
         Ok(Some(reply)) => finish(alloc, book, journal, pass, call, reply),
         Ok(None) => StepReply::NotNow,
         Err(NoMemory) => StepReply::Refused(CcError::NoMemory),

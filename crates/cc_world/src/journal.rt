@@ -1,6 +1,6 @@
 //! The events of the journal alone: scans, deferrals and posts, and the calls that are filed under no stream.
 
-ghost use Rattle.std.specs.Prelude.{◌≡◌, ◌<◌, ◌^◌, ℕ, ◌+◌, true, false, is_some, List, Option, Some, [], ◌∷◌, IfOk, IfErr, OnOk, OnErr};
+ghost use Rattle.std.specs.Prelude.{◌≡◌, ℕ, ◌+◌, true, false, is_some, List, Option, Some, [], ◌∷◌, IfOk, IfErr, OnOk, OnErr};
 ghost use Rattle.cc_book.specs.Book.{BookStands};
 ghost use Rattle.cc_entry.specs.declared.call.Call.TheVariants as call;
 ghost use Rattle.cc_entry.specs.declared.query.Query.TheVariants as query;
@@ -9,19 +9,21 @@ ghost use Rattle.cc_model.specs.Good.{IsGood};
 ghost use Rattle.cc_model.specs.Refusals.{refusal};
 ghost use Rattle.cc_model.specs.Setup.{Setup};
 ghost use Rattle.cc_model.specs.Stamps.{dirty_table};
-ghost use Rattle.cc_readers.specs.FaultReads.{fault_in};
+ghost use Rattle.cc_world.specs.Faults.{fault_in};
 ghost use Rattle.cc_world.specs.Filing.{is_unfiled, log_named};
 ghost use Rattle.cc_world.specs.Journals.{IsJournalStanding, JournalLeft, JournalStandsUnder, JournalWent};
+ghost use Rattle.cc_world.specs.Notes.{NotesStand};
 ghost use Rattle.cc_world.specs.Reserving.{CanDefer, HasReserved, IsDeferralRefusal, unreserved};
 ghost use Rattle.cc_effects.specs.Events.{call_entry};
 ghost use Rattle.cc_effects.specs.declared.events.Event.TheVariants as event;
 
+use crate::faults::Fault;
+use crate::notes::Notes;
 use crate::told::error_of;
 use cc_book::Book;
 use cc_effects::StepReply;
 use cc_entry::{Call, CcError, Entry, FileId, NoMemory, Outcome, Query, Reply, Rows, Value};
 use cc_journal::{Journal, dirty_table, is_any_dirty};
-use cc_readers::faults::{Fault, oldest_fault};
 use cc_traits::PostRoutine;
 use std::alloc::Global;
 
@@ -199,19 +201,20 @@ fn tell_dirty<Q: PostRoutine>(journal: &mut Journal<Q>, pass: u32) -> StepReply<
 /// A call of a pass that is filed under no stream tells the oldest fault of the pass since its last call.
 pub(crate) fn fail_unfiled<Q: PostRoutine>(
     journal: &mut Journal<Q>,
+    notes: &Notes,
     pass: u32,
     call: Call,
 ) -> StepReply<Q>
     requires unfiled { is_unfiled call ≡ true }
     requires standing { IsJournalStanding Q.posted journal.old }
-    requires recorded { journal.old.capacity < 2 ^ 32 }
+    requires notes { NotesStand journal.old.entries notes.now }
     ensures { (u : Setup) → JournalStandsUnder Q.posted u journal.old →
         JournalLeft Q.posted u (event.Fail pass call) result journal.old journal.new }
 {
     if is_refused(journal, &call) {
         return StepReply::NotNow;
     }
-    match oldest_fault(journal.entries(), pass) {
+    match notes.passes.fault(pass) {
         Some(fault) => tell_fault(journal, pass, call, fault),
         None => StepReply::NotNow,
     }

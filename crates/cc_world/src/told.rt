@@ -3,11 +3,11 @@
 ghost use Rattle.std.specs.Prelude.{◌≡◌};
 ghost use Rattle.cc_entry.specs.Queries.{extent_of_query};
 ghost use Rattle.cc_model.specs.Ranges.{first_of_span, first_page, first_queried};
-ghost use Rattle.cc_readers.specs.FaultReads.{fault_in};
+ghost use Rattle.cc_world.specs.Faults.{fault_in};
 ghost use Rattle.cc_effects.specs.Events.{error_of};
 
+use crate::faults::Fault;
 use cc_entry::{Call, CcError, Query, Span};
-use cc_readers::faults::Fault;
 
 /// The error by which a call tells a fault; a failed sync names the first page of the call's range.
 pub(crate) fn error_of(call: &Call, fault: Fault) -> CcError

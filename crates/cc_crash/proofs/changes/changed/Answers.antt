@@ -4,7 +4,7 @@ use Rattle.std.specs.Option.{unwrap_or}
 use Rattle.std.proofs.lemmas.List.{length-set}
 use Rattle.std.proofs.lemmas.List.FromFn.{fill_by_all}
 use Rattle.cc_model.specs.Acts.{act_of}
-use Rattle.cc_readers.specs.Changes.{change_by}
+use Rattle.cc_crash.specs.Changes.{change_by}
 use Rattle.cc_crash.proofs.PageSteps.{bytes-more}
 use Rattle.cc_crash.proofs.changes.changed.Goals as goal
 

@@ -1,7 +1,7 @@
 use Rattle.std.specs.Prelude.{◌≡◌, ℕ, ◌+◌, ◌*◌, ◌<◌, length, slice_index}
 use Rattle.std.specs.Option.{unwrap_or}
 use Rattle.cc_model.specs.Acts.{act_of}
-use Rattle.cc_readers.specs.Changes.{change_by}
+use Rattle.cc_crash.specs.Changes.{change_by}
 use Rattle.cc_crash.proofs.changes.changed.Given as goal
 
 abbrev pub invariant-loop-i : goal.invariant-loop-i

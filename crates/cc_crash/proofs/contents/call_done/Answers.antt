@@ -1,8 +1,8 @@
 use Rattle.std.proofs.Common.{ℕ, ap, ◌∙◌}
 use Rattle.cc_model.specs.Acts.{act_of}
 use Rattle.cc_model.specs.Touches.{is_dirty, size_of}
-use Rattle.cc_readers.specs.Effects.{effects}
-use Rattle.cc_readers.proofs.TouchReads.{size_at}
+use Rattle.cc_crash.specs.Effects.{effects}
+use Rattle.cc_crash.proofs.TouchSteps.{size_at}
 use Rattle.cc_crash.specs.DiskPages.{changes}
 use Rattle.cc_crash.proofs.PageSteps.{called-rest}
 use Rattle.cc_crash.proofs.contents.call_done.Goals as goal

@@ -1,5 +1,5 @@
 use Rattle.std.proofs.Common.{ℕ, subst, ◌∙◌}
-use Rattle.cc_readers.specs.Effects.{AreSizesOverJournal}
+use Rattle.cc_crash.specs.Effects.{AreSizesOverJournal}
 use Rattle.cc_crash.proofs.PageSteps.{page_state-first, page_state-next}
 use Rattle.cc_crash.proofs.contents.crash_pages.Goals as goal
 

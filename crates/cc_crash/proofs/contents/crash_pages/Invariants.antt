@@ -1,5 +1,5 @@
 use Rattle.std.specs.Prelude.{◌≡◌, ℕ, List, take}
-use Rattle.cc_readers.specs.Effects.{effects, AreSizesOverJournal}
+use Rattle.cc_crash.specs.Effects.{effects, AreSizesOverJournal}
 use Rattle.cc_crash.specs.DiskPages.{page_state_of_history}
 use Rattle.cc_crash.proofs.contents.crash_pages.Given as goal
 

@@ -2,7 +2,7 @@
 use Rattle.std.proofs.Common.{ℕ, ap, sym, refl, ◌∙◌}
 use Rattle.cc_model.specs.History.{effect_of}
 use Rattle.cc_model.specs.Touches.{valid_of}
-use Rattle.cc_readers.specs.Effects.{effects}
+use Rattle.cc_crash.specs.Effects.{effects}
 use Rattle.cc_crash.specs.DiskPages.{call_of}
 use Rattle.cc_crash.specs.declared.steps.Step.TheVariants as step
 use Rattle.cc_crash.proofs.PageSteps.{page_state-call, page_state-by, left_as}

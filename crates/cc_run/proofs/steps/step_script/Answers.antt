@@ -1,5 +1,5 @@
 -- The first disks and logs are the World's; behind it they go back in front of the others, where there is room.
-use Rattle.std.proofs.Common.{◌≡◌, ◌++◌, ◌∙◌, length, take, drop, reverse, sym, ap, subst, arith}
+use Rattle.std.proofs.Common.{ℕ, ◌<◌, ◌^◌, ◌≡◌, ◌++◌, ◌∙◌, length, take, drop, reverse, sym, ap, subst, arith}
 use Rattle.std.proofs.lemmas.List.{length-take, length-append, length-reverse, take-append-drop}
 use Rattle.std.specs.Prelude.{map, slice_get}
 use Rattle.cc_journal.specs.Capacity.{IsWithinCapacity}
@@ -34,6 +34,10 @@ run_steps-requires-clause-disks g c =
     let few = c.requires.within.few_streams in
     let enough = enough-disks (length c.args.disks.items) (length c.args.logs.items) (length c.args.posts.items) c.args.script.now c.requires.enough in
     omega (arith, ap length c.in-Ok.ensures.first, length-take 16 c.args.disks.items, few, enough)
+
+pub end-replies-requires : goal.end-replies-requires
+end-replies-requires g c =
+    subst (λ (n : ℕ). n < 2 ^ 32) (sym (ap (λ b. b.capacity) c.in-Ok-run_steps.ensures.begun)) (omega (arith, c.requires.within.header.most_journal))
 
 pub run_steps-requires-clause-recorded : goal.run_steps-requires-clause-recorded
 run_steps-requires-clause-recorded g c = omega (arith, c.requires.within.header.most_journal)

@@ -6,7 +6,7 @@ use Rattle.cc_entry.specs.declared.error.CcError.{CcError}
 use Rattle.cc_entry.specs.declared.reply.Outcome.TheVariants as outcome
 use Rattle.cc_journal.specs.Journal.{JournalState, room_of}
 use Rattle.cc_model.specs.Good.{IsGood}
-use Rattle.cc_readers.specs.FaultReads.{fault_in}
+use Rattle.cc_world.specs.Faults.{fault_in}
 use Rattle.cc_world.specs.Journals.{JournalEnded, JournalWent}
 use Rattle.cc_effects.specs.Events.{call_entry}
 use Rattle.cc_effects.specs.declared.events.Event.TheVariants as event

@@ -3,7 +3,7 @@ use Rattle.std.proofs.Common.{sym, ◌∙◌}
 use Rattle.cc_entry.specs.Pages.{block_of}
 use Rattle.cc_model.specs.History.{history}
 use Rattle.cc_model.specs.Residency.{block_is_mapped}
-use Rattle.cc_world.proofs.Blocks.{fits-mapped, fits-unmapped}
+use Rattle.cc_world.proofs.MappedWith.{fits-mapped, fits-unmapped}
 use Rattle.cc_world.proofs.pages.has_room.Goals as goal
 
 pub returns-then-is_block_mapped : goal.returns-then-is_block_mapped

@@ -21,14 +21,14 @@ returns-then-not-is_block_mapped c opening past stands p here has =
 
 pub returns-then-is_some : goal.returns-then-is_some
 returns-then-is_some c opening past stands =
-    among-any (span_has c.args.span.now) c.loop-page.page (residents (history past c.args.book.now.stream))
+    among-any (span_has c.args.span.now) (64 * c.args.block + c.loop-offset.offset) (residents (history past c.args.book.now.stream))
     (sym (c.page.ensures.resident opening past stands) ∙ (sym c.is_some.ensures ∙ c.if-is_some.true))
     (ap (span_has c.args.span.now) (sym c.from.ensures) ∙ (sym c.span_has.ensures ∙ c.if-span_has.true))
 
-pub loop-page-preserved : goal.loop-page-preserved
-loop-page-preserved c opening past stands p low less has = go (nat_lt p c.loop-page.page) refl
+pub loop-offset-preserved : goal.loop-offset-preserved
+loop-offset-preserved c opening past stands p low less has = go (nat_lt p (64 * c.args.block + c.loop-offset.offset)) refl
   where
-    at_page : span_has c.args.span.now c.loop-page.page ≡ true → is_resident (history past c.args.book.now.stream) c.loop-page.page ≡ false
+    at_page : span_has c.args.span.now (64 * c.args.block + c.loop-offset.offset) ≡ true → is_resident (history past c.args.book.now.stream) (64 * c.args.block + c.loop-offset.offset) ≡ false
     at_page within = elim c.else-span_has.branch [
       | else-span_has-via-then-span_has+else-is_some w ↦ sym (w.page.ensures.resident opening past stands) ∙ (sym w.is_some.ensures ∙ w.if-is_some.false)
       | else-span_has-via-else-span_has w ↦ absurd (true≢false (sym within ∙ (ap (span_has c.args.span.now) (sym c.from.ensures) ∙ (sym c.span_has.ensures ∙ w.if-span_has.false))))
@@ -37,16 +37,19 @@ loop-page-preserved c opening past stands p low less has = go (nat_lt p c.loop-p
     last : (q : ℕ) → q ≤ p → p < q + 1 → p ≡ q
     last q a b = omega arith
 
-    go : (b : Bool) → nat_lt p c.loop-page.page ≡ b → is_resident (history past c.args.book.now.stream) p ≡ false
-    go true before = c.loop-page.invariant opening past stands p low (ltb-true p c.loop-page.page before) has
+    closer : (a b : ℕ) → p < a + (b + 1) → p < a + b + 1
+    closer a b less = omega arith
+
+    go : (b : Bool) → nat_lt p (64 * c.args.block + c.loop-offset.offset) ≡ b → is_resident (history past c.args.book.now.stream) p ≡ false
+    go true before = c.loop-offset.invariant opening past stands p low (ltb-true p (64 * c.args.block + c.loop-offset.offset) before) has
     go false after =
-        let same = last c.loop-page.page (ltb-false p c.loop-page.page after) less in
+        let same = last (64 * c.args.block + c.loop-offset.offset) (ltb-false p (64 * c.args.block + c.loop-offset.offset) after) (closer (64 * c.args.block) c.loop-offset.offset less) in
         ap (is_resident (history past c.args.book.now.stream)) same ∙ at_page (sym (ap (span_has c.args.span.now) same) ∙ has)
 
 pub returns : goal.returns
 returns c opening past stands p here has =
     let within = block-from p c.args.block here in
-    c.loop-page.invariant opening past stands p within.0 (before c.loop-page.page within.1 c.loop-page-test.false) has
+    c.loop-offset.invariant opening past stands p within.0 (before c.loop-offset.offset within.1 c.loop-offset-test.false) has
   where
-    before : (end : ℕ) → p < 64 * c.args.block + 64 → 64 * c.args.block + 64 ≤ end → p < end
+    before : (end : ℕ) → p < 64 * c.args.block + 64 → 64 ≤ end → p < 64 * c.args.block + end
     before end a b = omega arith

@@ -12,7 +12,7 @@ end_call-requires g c =
     record {
       made = (u, record { stands = book-stands g.D.Told.told g.D.Told.faults u first 0 row j stand; here = c.requires.filed });
       on_book = on-book j.entries row.book.stream c.args.call c.requires.filed c.in_default.not-NcRead c.in_default.not-NcStore;
-      recorded = c.requires.recorded;
+      notes = c.requires.notes;
       resting = says-resting g.D.Told.told g.D.Told.faults u first 0 row j stand c.is_none-resting.result c.is_none-resting.ensures;
     }
 
