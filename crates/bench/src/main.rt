@@ -1,14 +1,16 @@
-//! The program `bench`, which makes one kind of call on the cache again and again, so that a call can be timed or counted.
+//! The program `bench`, which is run outside the gate: it makes one kind of call on the cache again and again, so that a call can
+//! be timed or counted, and makes trials that take longer than the gate gives.
 //!
 //!     bench                              each kind, a few hundred times, over memory, with its speed
 //!     bench untimed                      the same without a time, which prints the same each time
 //!     bench KIND COUNT                   one kind, so many times, by one caller on a desk
 //!     bench KIND COUNT CALLERS           the same by one to four callers on threads of a board, each so many times
 //!     bench KIND COUNT CALLERS FOLDER    the same over files of a folder; with 0 callers on a desk
+//!     bench trial WORD..                 a trial, whose words `trials` has
 //!
 //! `kinds` says what there is to measure, `calls` makes such calls over any turns, `mix` draws from all of them, `ahead` has the
 //! reads with read-ahead, `devices` what is below the cache, and `runs` a cache from its setup to its end. `./bench` runs it, and
-//! puts other programs beside it.
+//! puts other programs beside it. `trials` has the trials, which `./try-restart`, `./try-crash` and `./try-kill` make.
 #![tactic(auto)]
 
 ghost use Rattle.std.specs.Prelude.{◌≡◌, length};
@@ -19,6 +21,7 @@ mod devices;
 mod kinds;
 mod mix;
 mod runs;
+mod trials;
 
 use anyhow::{Result, bail};
 use cc_traits::PageDisk;
@@ -27,32 +30,63 @@ use kinds::{KINDS, Kind};
 use runs::{Tally, run};
 use std::alloc::Global;
 use std::env;
+use std::process::ExitCode;
 use std::sync::Wait;
 use std::thread::Threads;
 use std::time::{Clock, Instant};
 
-fn main(rt: HostRuntime) -> Result<()> {
-    let alloc = rt.alloc();
+fn main(rt: HostRuntime) -> ExitCode {
+    match run_words(rt, &rt) {
+        Ok(true) => ExitCode::SUCCESS,
+        Ok(false) => ExitCode::FAILURE,
+        Err(error) => {
+            let _ = eprintln!(rt; "{error:#}");
+            ExitCode::from(2)
+        }
+    }
+}
+
+/// Does what the words ask for, and answers whether no trial found anything.
+fn run_words<R: Print + Clock + Threads + Wait + Sync>(
+    rt: HostRuntime,
+    threads: &R,
+) -> Result<bool> {
     let words = words_of(rt)?;
-    let Some(name) = words.get(1) else {
-        return measure_all(&rt, alloc, true);
+    match words.as_slice().split_first() {
+        Some((word, rest)) if word.as_str() == "trial" => trials::run(rt, threads, rest),
+        _ => {
+            time(rt, threads, &words)?;
+            Ok(true)
+        }
+    }
+}
+
+/// Makes the calls that the words ask for, and prints their speed.
+fn time<R: Print + Clock + Threads + Wait + Sync>(
+    rt: HostRuntime,
+    threads: &R,
+    words: &[String],
+) -> Result<()> {
+    let alloc = rt.alloc();
+    let Some(name) = words.first() else {
+        return measure_all(threads, alloc, true);
     };
     if name.as_str() == "untimed" {
-        return measure_all(&rt, alloc, false);
+        return measure_all(threads, alloc, false);
     }
     let Some(kind) = KINDS.iter().find(|kind| kind.name == name.as_str()) else {
         bail!("`{name}` is no kind of call")
     };
-    let count = number_at(&words, 2)?;
-    let callers = number_at(&words, 3)?;
-    match words.get(4) {
+    let count = number_at(words, 1)?;
+    let callers = number_at(words, 2)?;
+    match words.get(3) {
         None => {
             let disks = memory_disks(alloc, kind.size(), kind.fails())?;
-            measure(&rt, alloc, disks, kind, count, callers, true)
+            measure(threads, alloc, disks, kind, count, callers, true)
         }
         Some(folder) => {
             let disks = file_disks(alloc, rt, folder.as_str())?;
-            measure(&rt, alloc, disks, kind, count, callers, true)
+            measure(threads, alloc, disks, kind, count, callers, true)
         }
     }
 }
@@ -120,10 +154,10 @@ fn tell<R: Print>(rt: &R, kind: &Kind, callers: u64, tally: Tally) -> Result<()>
     Ok(())
 }
 
-/// The words of the command line, the program's name first.
+/// The words of the command line, without the program's name.
 fn words_of(rt: HostRuntime) -> Result<Vec<String>> {
     let mut words = Vec::new(rt.alloc());
-    for word in env::args(&rt)? {
+    for word in env::args(&rt)?.skip(1) {
         words.push(word)?;
     }
     Ok(words)

@@ -1,9 +1,9 @@
 //! What a crash leaves of the devices of a run: of each page one of the contents that it may leave, and a front of the log that has
 //! every entry that is on the medium.
 
-use crate::devices::{RECORD_PAGE, TrialDisk, TrialLog};
-use crate::draws::Draws;
-use crate::stream::Stream;
+use crate::trials::devices::{RECORD_PAGE, TrialDisk, TrialLog};
+use crate::trials::draws::Draws;
+use crate::trials::stream::Stream;
 use anyhow::{Context, Result};
 use std::alloc::{AllocError, Global};
 

@@ -1,7 +1,7 @@
 //! Draws a script over the streams of a trial.
 
-use crate::draws::Draws;
-use crate::stream::{PAGE, Stream};
+use crate::trials::draws::Draws;
+use crate::trials::stream::{PAGE, Stream};
 use anyhow::Result;
 use std::alloc::Global;
 

@@ -1,6 +1,6 @@
 //! The changes of bytes that a journal tells, their stamps, and which of them a page shows.
 
-use crate::stream::PAGE;
+use crate::trials::stream::PAGE;
 use anyhow::Result;
 use cc_entry::{Bytes, Call, Entry, Lsn, Outcome};
 use std::alloc::Global;

@@ -1,10 +1,10 @@
 //! The trial of a restart's cost: how many calls on devices it makes over a log of so many updates.
 
-use crate::devices::{Calls, Wrong};
-use crate::draws::Draws;
-use crate::image::{Image, LogEntry};
-use crate::runs::restart_image;
-use crate::stream::{PAGE, Stream, opening_image};
+use crate::trials::devices::{Calls, Wrong};
+use crate::trials::draws::Draws;
+use crate::trials::image::{Image, LogEntry};
+use crate::trials::runs::restart_image;
+use crate::trials::stream::{PAGE, Stream, opening_image};
 use anyhow::{Result, bail};
 use byteorder::{ByteOrder, LittleEndian};
 use std::alloc::Global;

@@ -1,8 +1,8 @@
 //! The streams of a trial, and what their disks hold at first.
 
-use crate::devices::RECORD_PAGE;
-use crate::draws::Draws;
-use crate::image::{Image, Page};
+use crate::trials::devices::RECORD_PAGE;
+use crate::trials::draws::Draws;
+use crate::trials::image::{Image, Page};
 use anyhow::Result;
 use byteorder::{ByteOrder, LittleEndian};
 use std::alloc::Global;

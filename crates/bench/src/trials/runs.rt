@@ -2,9 +2,9 @@
 
 ghost use Rattle.std.specs.Prelude.{◌≡◌, length, IfOk};
 
-use crate::devices::{Calls, Open, TrialDisk, TrialLog, Wrong};
-use crate::image::Image;
-use crate::stream::Stream;
+use crate::trials::devices::{Calls, Open, TrialDisk, TrialLog, Wrong};
+use crate::trials::image::Image;
+use crate::trials::stream::Stream;
 use anyhow::{Context, Result, bail};
 use cc_entry::{CcError, Entry};
 use cc_memdev::{MemSink, MemSource};

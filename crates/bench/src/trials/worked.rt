@@ -1,12 +1,12 @@
 //! The trial of one worked script, whose restart is written out: the script, and the one that restarts what it left, are stopped
 //! at each of their calls on devices.
 
-use crate::devices::{Calls, Wrong};
-use crate::draws::Draws;
-use crate::image::{Choice, Image};
-use crate::restarts::{CHOICES, Found, MOST, Place, Trial, try_left};
-use crate::runs::{Left, Ran};
-use crate::stream::{Stream, opening_image};
+use crate::trials::devices::{Calls, Wrong};
+use crate::trials::draws::Draws;
+use crate::trials::image::{Choice, Image};
+use crate::trials::restarts::{CHOICES, Found, MOST, Place, Trial, try_left};
+use crate::trials::runs::{Left, Ran};
+use crate::trials::stream::{Stream, opening_image};
 use anyhow::{Result, bail};
 use std::alloc::Global;
 use std::sync::Wait;

@@ -1,10 +1,10 @@
 //! The trial of crashes: a script is stopped after each number of calls on its disks and on its log, and what a crash may leave then
 //! is told, with the stamped changes that it shows, and whether each of them has its entry in the log.
 
-use crate::changes::Changes;
-use crate::devices::{Calls, TrialDisk, TrialLog, Wrong};
-use crate::image::LogEntry;
-use crate::runs::{Left, Ran, run_over};
+use crate::trials::changes::Changes;
+use crate::trials::devices::{Calls, TrialDisk, TrialLog, Wrong};
+use crate::trials::image::LogEntry;
+use crate::trials::runs::{Left, Ran, run_over};
 use anyhow::{Context, Result, bail, ensure};
 use cc_entry::Bytes;
 use std::alloc::Global;

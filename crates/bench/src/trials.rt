@@ -1,4 +1,4 @@
-//! The program of trials that take longer than the gate gives: its first word chooses one, and without a word it ends at once.
+//! The trials, which take longer than the gate gives: the first of their words chooses one.
 //!
 //! `restarts N SEED` stops N drawn scripts at each of their calls on devices, and restarts what a crash may leave of them, and
 //! `worked SEED` does so with a script that is written out, and with the one that restarts it. `crashes SCRIPT` stops a script
@@ -11,7 +11,6 @@
 //! `devices` has disks and logs that stop, `runs` what is run over them, `image` what a crash leaves of them. `model` has the
 //! plain files by which an image is judged, and knows nothing of the cache or of a restart; `changes` has the changes that a
 //! journal tells, and which of them a page shows. `restarts`, `worked`, `crashes`, `costs` and `files` are the trials.
-#![tactic(auto)]
 
 mod changes;
 mod costs;
@@ -27,44 +26,35 @@ mod script;
 mod stream;
 mod worked;
 
+use crate::trials::costs::count_costs;
+use crate::trials::crashes::{Crashes, HEADING, look_at_crashes};
+use crate::trials::devices::Wrong;
+use crate::trials::files::run_noting;
+use crate::trials::restarts::try_restarts;
+use crate::trials::worked::try_worked;
 use anyhow::{Context, Result, bail};
-use costs::count_costs;
-use crashes::{Crashes, HEADING, look_at_crashes};
-use devices::Wrong;
-use files::run_noting;
-use restarts::try_restarts;
-use std::process::ExitCode;
+use std::fs;
 use std::sync::Wait;
 use std::thread::Threads;
-use std::{env, fs};
-use worked::try_worked;
-
-fn main(rt: HostRuntime) -> ExitCode {
-    match run(rt, &rt) {
-        Ok(true) => ExitCode::SUCCESS,
-        Ok(false) => ExitCode::FAILURE,
-        Err(error) => {
-            let _ = eprintln!(rt; "{error:#}");
-            ExitCode::from(2)
-        }
-    }
-}
 
 /// Makes the trial that the words ask for, and answers whether nothing was found.
-fn run<R: Threads + Wait + Sync>(rt: HostRuntime, threads: &R) -> Result<bool> {
-    let words = words_of(rt)?;
+pub fn run<R: Threads + Wait + Sync>(
+    rt: HostRuntime,
+    threads: &R,
+    words: &[String],
+) -> Result<bool> {
     match words.first() {
-        None => Ok(true),
+        None => bail!("a trial is missing"),
         Some(word) if word.as_str() == "restarts" => {
-            let scripts = number_at(&words, 1)?;
-            let seed = number_at(&words, 2)?;
-            let found = try_restarts(threads, rt.alloc(), scripts, seed, wrong_at(&words, 3)?)?;
+            let scripts = number_at(words, 1)?;
+            let seed = number_at(words, 2)?;
+            let found = try_restarts(threads, rt.alloc(), scripts, seed, wrong_at(words, 3)?)?;
             println!(rt; "{found}")?;
             Ok(found.failures == 0)
         }
         Some(word) if word.as_str() == "worked" => {
-            let seed = number_at(&words, 1)?;
-            let found = try_worked(threads, rt.alloc(), seed, wrong_at(&words, 2)?)?;
+            let seed = number_at(words, 1)?;
+            let found = try_worked(threads, rt.alloc(), seed, wrong_at(words, 2)?)?;
             println!(rt; "{found}")?;
             Ok(found.failures == 0)
         }
@@ -73,12 +63,12 @@ fn run<R: Threads + Wait + Sync>(rt: HostRuntime, threads: &R) -> Result<bool> {
                 bail!("a script is missing")
             };
             let script = fs::read_to_string(&rt, path.as_str()).context(format_args!("{path}"))?;
-            let crashes = look_at_crashes(threads, rt.alloc(), &script, wrong_at(&words, 2)?)?;
+            let crashes = look_at_crashes(threads, rt.alloc(), &script, wrong_at(words, 2)?)?;
             print_crashes(rt, &crashes)?;
             Ok(crashes.unlogged == 0)
         }
         Some(word) if word.as_str() == "costs" => {
-            let costs = count_costs(rt.alloc(), number_at(&words, 1)?)?;
+            let costs = count_costs(rt.alloc(), number_at(words, 1)?)?;
             println!(rt; "{costs}")?;
             Ok(costs.are_kept())
         }
@@ -102,15 +92,6 @@ fn print_crashes(rt: HostRuntime, crashes: &Crashes) -> Result<()> {
     }
     println!(rt; "{crashes}")?;
     Ok(())
-}
-
-/// The words of the command line, without the program's name.
-fn words_of(rt: HostRuntime) -> Result<Vec<String>> {
-    let mut words = Vec::new(rt.alloc());
-    for word in env::args(&rt)?.skip(1) {
-        words.push(word)?;
-    }
-    Ok(words)
 }
 
 /// The word of this place, which is a number.

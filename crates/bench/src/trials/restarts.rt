@@ -1,13 +1,13 @@
 //! The trial of restarts: drawn scripts are stopped at each of their calls on devices, and what a crash may leave is restarted,
 //! also by restarts that are stopped at each of their own calls and begun again.
 
-use crate::devices::{Calls, Wrong};
-use crate::draws::Draws;
-use crate::image::{Choice, Image, LogEntry, draw_disks, draw_entries};
-use crate::model::{File, count_updates, is_once_given, is_settled};
-use crate::runs::{Left, Ran, restart_image, run_script};
-use crate::script::draw_script;
-use crate::stream::{Stream, draw_streams, opening_image};
+use crate::trials::devices::{Calls, Wrong};
+use crate::trials::draws::Draws;
+use crate::trials::image::{Choice, Image, LogEntry, draw_disks, draw_entries};
+use crate::trials::model::{File, count_updates, is_once_given, is_settled};
+use crate::trials::runs::{Left, Ran, restart_image, run_script};
+use crate::trials::script::draw_script;
+use crate::trials::stream::{Stream, draw_streams, opening_image};
 use anyhow::{Result, bail};
 use cc_entry::CcError;
 use cc_redo::Restarted;

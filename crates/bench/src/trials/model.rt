@@ -4,9 +4,9 @@
 
 ghost use Rattle.std.specs.Prelude.{◌≤◌};
 
-use crate::devices::RECORD_PAGE;
-use crate::image::{LogEntry, Page};
-use crate::stream::{PAGE, Stream, record_page};
+use crate::trials::devices::RECORD_PAGE;
+use crate::trials::image::{LogEntry, Page};
+use crate::trials::stream::{PAGE, Stream, record_page};
 use anyhow::Result;
 use byteorder::{ByteOrder, LittleEndian};
 use cc_memdev::MemDisk;
