@@ -5,7 +5,7 @@
 //! sizes, pages and holds steps by events; the lemmas of `proofs` say how, once for each definition.
 //!
 //! Below are the values of `cc_entry`, the definitions of `cc_model` and the lemmas of `cc_laws`; above stand
-//! whatever keeps a part of a stream up to date, and `cc_crash`, which reads a journal.
+//! whatever keeps a part of a stream up to date, and the readers of `cc_readers`.
 #![tactic(auto)]
 
 mod event;

@@ -7,6 +7,6 @@
 //! `specs/Lib.antt` lists them in the order in which they build on each other.
 //!
 //! This crate has definitions alone and no code. It stands on `cc_entry`, for the values. `cc_laws` proves
-//! what follows from the definitions, `cc_worked` tries them on runs written
+//! what follows from the definitions, `cc_readers` computes many of them, `cc_worked` tries them on runs written
 //! out, and every crate that keeps or explains a part of a journal stands on it.
 #![tactic(auto)]

@@ -3,7 +3,7 @@
 //! What the layer keeps true: each function is one definition of `cc_model`, for every call. The sizes, the logs and
 //! the valid data length come as numbers, so the crate knows neither a journal nor what is kept of one.
 //!
-//! Above stands `cc_refusal`, which decides a refusal from what is kept.
+//! Above stand `cc_refusal`, which decides a refusal from what is kept, and `cc_readers`, which reads it off a journal.
 //! Below are the values of `cc_entry` and the definitions of `cc_model`.
 #![tactic(auto)]
 
